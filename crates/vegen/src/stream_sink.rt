@@ -1,0 +1,98 @@
+//! A stream as a sink. What it shows is trusted, and not told.
+
+ghost use Rattle.std.specs.Prelude.{None};
+
+use std::io::{ErrorKind, Write};
+use vg_outside::{Sink, SinkFault};
+
+/// A stream of the system.
+#[derive(Drop)]
+pub struct StreamSink<W> {
+    to: W,
+    faults: u64,
+}
+
+impl<W: Write> StreamSink<W> {
+    pub fn new(to: W) -> StreamSink<W> {
+        StreamSink { to, faults: 0 }
+    }
+}
+
+/// Writes all bytes and flushes. A write that takes nothing is a failure.
+fn write_whole<W: Write>(to: &mut W, bytes: &[u8]) -> Result<(), SinkFault> {
+    let mut rest = bytes;
+    'pieces: for _ in 0..u64::MAX {
+        if rest.is_empty() {
+            return match to.flush() {
+                Ok(()) => Ok(()),
+                Err(_) => Err(SinkFault),
+            };
+        }
+        match to.write(rest) {
+            Ok(0) => return Err(SinkFault),
+            Ok(count) => rest = &rest[count..],
+            Err(error) => {
+                if error.kind() != ErrorKind::Interrupted {
+                    return Err(SinkFault);
+                }
+            }
+        }
+    }
+    Err(SinkFault)
+}
+
+impl<W: Write> Sink for StreamSink<W> {
+    ghost written = { λ _. None };
+
+    ghost faults = { λ s. s.faults };
+
+    fn write(&mut self, bytes: &[u8]) -> Result<(), SinkFault> {
+        let written = write_whole(&mut self.to, bytes);
+        if written.is_err() {
+            self.faults = self.faults.saturating_add(1);
+        }
+        written
+    }
+}
+
+#[cfg(test)]
+mod tests {
+    use super::*;
+    use std::io;
+    use std::test::Fail;
+
+    /// Takes three bytes a call, up to its room.
+    #[derive(Drop)]
+    struct Narrow {
+        bytes: Vec<u8>,
+        room: usize,
+    }
+
+    impl Write for Narrow {
+        fn write(&mut self, buf: &[u8]) -> io::Result<usize> {
+            let left = self.room.saturating_sub(self.bytes.len());
+            let count = buf.len().min(3).min(left);
+            self.bytes.extend_from_slice(&buf[..count])?;
+            Ok(count)
+        }
+
+        fn flush(&mut self) -> io::Result<()> {
+            Ok(())
+        }
+    }
+
+    #[test]
+    fn a_stream_takes_all_pieces_or_is_a_fault(rt: HostRuntime) -> Result<(), Fail> {
+        let narrow = Narrow {
+            bytes: Vec::new(rt.alloc()),
+            room: 10,
+        };
+        let mut sink = StreamSink::new(narrow);
+        assert!(rt; sink.write(b"1234567").is_ok());
+        assert!(rt; sink.write(b"").is_ok());
+        assert!(rt; sink.write(b"89ab").is_err());
+        assert_eq!(rt; sink.faults, 1);
+        assert_eq!(rt; sink.to.bytes.as_slice(), b"123456789a".as_slice());
+        Ok(())
+    }
+}

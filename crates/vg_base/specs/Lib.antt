@@ -1,0 +1,6 @@
+pub mod Address
+pub mod Bind
+pub mod Bits
+pub mod Memory
+pub mod Trap
+pub mod Width

@@ -1,0 +1,6 @@
+pub mod BitLists
+pub mod ByteLists
+pub mod Pieces
+pub mod Ranges
+pub mod Registers
+pub mod SignedLaws

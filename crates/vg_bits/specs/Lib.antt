@@ -1,0 +1,4 @@
+pub mod BitIndex
+pub mod BitList
+pub mod Range
+pub mod Signed

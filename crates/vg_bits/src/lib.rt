@@ -1,0 +1,16 @@
+//! Registers of bytes, the bits in them, and whole numbers in two's complement. A register stands for
+//! the list of its bits, the lowest first: `bits_of_bytes` of its bytes.
+#![tactic(auto)]
+
+mod bit_index;
+mod bit_range;
+mod outcome;
+mod register;
+mod whole_number;
+
+pub use outcome::Outcome;
+pub use register::Reg;
+pub use whole_number::{signed, unsigned};
+
+#[cfg(test)]
+mod tests;

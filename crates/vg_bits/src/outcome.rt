@@ -1,0 +1,8 @@
+//! How a run ends.
+
+/// How a run ends: at its end, or at an access outside the memory.
+#[derive(Clone, Copy, Debug, PartialEq, Eq)]
+pub enum Outcome {
+    Done,
+    Trap,
+}

@@ -1,0 +1,9 @@
+pub mod Again
+pub mod AgainWhole
+pub mod Found
+pub mod Laws
+pub mod Lists
+pub mod Sizes
+pub mod Spells
+pub mod Whole
+pub mod WellFormed

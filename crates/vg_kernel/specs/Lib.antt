@@ -1,0 +1,10 @@
+pub mod Cost
+pub mod Gives
+pub mod Grammar
+pub mod Layout
+pub mod Meaning
+pub mod Names
+pub mod Reader
+pub mod Tree
+pub mod Words
+pub mod WellFormed

@@ -1,0 +1,10 @@
+pub mod Numbers
+pub mod ParamLoop
+pub mod LineLoop
+pub mod Steps
+pub mod TokenLaws
+pub mod ParamLaws
+pub mod NameLaws
+pub mod OperandLaws
+pub mod LineLaws
+pub mod ProgramLaws

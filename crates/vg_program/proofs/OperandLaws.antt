@@ -1,0 +1,237 @@
+-- Places in memory and operands: what is read is spelled so, and what is spelled so is read again.
+use Rattle.std.proofs.Common.{◌≡◌, ℕ, zero, suc, ◌+◌, ◌-◌, ◌^◌, ◌<◌, ◌≤◌, ℤ, pos, negsuc, List, [], ◌∷◌, ◌++◌, length, Bool, true, false, ◌==◌, ◌&&◌, ◌||◌, Option, Some, None, Result, Ok, Err, refl, sym, ap, subst, ◌∙◌, inl, inr, append_assoc, slice_get, arith}
+use Rattle.std.specs.Prelude.{IsTrue, codes, nat_lt}
+use Rattle.std.specs.Prelude.{if◌then◌else◌, nat_le}
+use Rattle.std.specs.List.{list_all}
+use Rattle.std.specs.Fmt.{decimal}
+use Rattle.std.proofs.lemmas.Fmt.{decimal_nonempty}
+use Rattle.std.proofs.lemmas.Bool.{and_parts, cases_Bool, ltb-true, lt-ltb, ne_eqb}
+use Rattle.std.proofs.lemmas.Bool.Decides.{nat_tests}
+use Rattle.std.proofs.lemmas.Option.{slice_get_within}
+use Rattle.vg_base.specs.declared.address.Address.{Address}
+use Rattle.vg_base.specs.declared.width.Width.{Width}
+use Rattle.vg_base.specs.declared.width.Width.TheVariants.{W8, W16, W32, W64}
+use Rattle.vg_base.specs.Width.{bits_of}
+use Rattle.vg_program.specs.declared.param.Param.{Param}
+use Rattle.vg_program.specs.declared.operand.Operand.{Operand}
+use Rattle.vg_program.specs.declared.operand.Operand.TheVariants.{Register, Argument, Literal}
+use Rattle.vg_program.specs.declared.fault.Fault.{Fault}
+use Rattle.vg_program.specs.declared.fault.Fault.TheVariants.{Range}
+use Rattle.vg_program.specs.declared.named.Named.{Named}
+use Rattle.vg_program.specs.declared.named.Named.TheVariants as named
+use Rattle.vg_text.specs.Byte.{is_digit, is_letter, is_name, is_name_text}
+use Rattle.vg_program.specs.Params.{pointers, integers, name_of, AreParams}
+use Rattle.vg_program.specs.Text.{type_text, offset_text, address_text, operand_text}
+use Rattle.vg_program.specs.Valid.{IsOffset, IsAddress, width_of}
+use Rattle.vg_program.specs.Tokens.{begins, signs_at}
+use Rattle.vg_program.specs.Grammar.{pointer_of, integer_of, fits, positive_offset, negative_offset, negative_at, positive_at, offset_at, address_at, given_operand_at, literal_at, argument_at, begins_digit, operand_at}
+use Rattle.vg_program.proofs.Steps.{Holds, now, never, and_then, if_both, if_ok, or_stop_ok, judged_ok, Stops}
+use Rattle.vg_program.proofs.TokenLaws.{signs_takes, name_takes, name_again, name_begins, type_takes, type_again, number_takes, number_again, register_takes, register_again}
+use Rattle.vg_program.proofs.NameLaws.{PointerAt, pointer_at, pointer_named, IntegerAt, integer_at, integer_named, pointer_found, integer_found}
+use Rattle.vg_program.proofs.Numbers.{digits-decimal}
+
+-- ---- offsets
+
+abbrev good : {A : Type 0} → A → Result A Fault
+good x = Ok x
+
+good_is : {A : Type 0} (x y : A) → good x ≡ good y → x ≡ y
+good_is x y e = cc
+
+positive_takes : (n : ℕ) (z : ℤ) → positive_offset n ≡ Ok z → (pos n ≡ z) × (n < 2 ^ 31)
+positive_takes n z e = elim (cases_Bool (nat_lt n (2 ^ 31))) [
+  | inl small ↦ (good_is (pos n) z (rw small at e), ltb-true n (2 ^ 31) small)
+  | inr large ↦ let is : bad ≡ Ok z = rw large at e in absurd cc
+]
+  where
+    bad : Result ℤ Fault
+    bad = Err Range
+
+-- the number behind the sign
+record Negative (n : ℕ) (z : ℤ) : Type 0 where
+  below : ℕ
+  number : n ≡ suc below
+  is : negsuc below ≡ z
+  small : below < 2 ^ 31
+
+suc_not_zero : (n : ℕ) → (suc n == 0) ≡ false
+suc_not_zero n = ne_eqb (suc n) 0 (λ e. absurd (omega arith))
+
+negative_takes : (n : ℕ) (z : ℤ) → negative_offset n ≡ Ok z → Negative n z
+negative_takes zero z e = absurd cc
+negative_takes (suc n) z e =
+    let less : suc n - 1 ≡ n = omega arith in
+    elim (cases_Bool (nat_lt n (2 ^ 31))) [
+      | inl small ↦ record { below = n; number = refl; is = good_is (negsuc n) z (rw (suc_not_zero n, less, small) at e); small = ltb-true n (2 ^ 31) small }
+      | inr large ↦ let is : bad ≡ Ok z = rw (suc_not_zero n, less, large) at e in absurd cc
+    ]
+  where
+    bad : Result ℤ Fault
+    bad = Err Range
+
+negative_at_takes : (text : List ℕ) → Holds (negative_at text) (λ x. (text ≡ offset_text x.0 ++ x.1) × IsOffset x.0)
+unfolding negative_at
+negative_at_takes text =
+    and_then _ _ _ _ (signs_takes (codes "-") text) (λ minus m.
+    and_then _ _ _ _ (number_takes minus) (λ n t.
+    and_then _ _ (Negative n.0) _ (judged_ok _ _ _ (negative_takes n.0)) (λ z neg.
+    let spelled : text ≡ offset_text (negsuc neg.below) ++ n.1 = m ∙ ap (λ (b : List ℕ). codes "-" ++ b) (t (omega (arith, neg.number, neg.small)) ∙ ap (λ (k : ℕ). decimal k ++ n.1) neg.number) in
+    now _ _ (subst (λ (y : ℤ). (text ≡ offset_text y ++ n.1) × IsOffset y) neg.is (spelled, neg.small)))))
+
+positive_at_takes : (text : List ℕ) → Holds (positive_at text) (λ x. (text ≡ offset_text x.0 ++ x.1) × IsOffset x.0)
+unfolding positive_at
+positive_at_takes text =
+    and_then _ _ _ _ (signs_takes (codes "+") text) (λ plus p.
+    and_then _ _ _ _ (number_takes plus) (λ n t.
+    and_then _ _ (λ z. (pos n.0 ≡ z) × (n.0 < 2 ^ 31)) _ (judged_ok _ _ _ (positive_takes n.0)) (λ z is.
+    let spelled : text ≡ offset_text (pos n.0) ++ n.1 = p ∙ ap (λ (b : List ℕ). codes "+" ++ b) (t (omega (arith, is.1))) in
+    now _ _ (subst (λ (y : ℤ). (text ≡ offset_text y ++ n.1) × IsOffset y) is.0 (spelled, is.1)))))
+
+offset_takes : (text : List ℕ) → Holds (offset_at text) (λ x. (text ≡ offset_text x.0 ++ x.1) × IsOffset x.0)
+unfolding offset_at
+offset_takes text = if_both (begins 45 text) _ _ _ (λ _. negative_at_takes text) (λ _. positive_at_takes text)
+
+offset_again : (z : ℤ) (rest : List ℕ) → IsOffset z → Stops is_digit rest → offset_at (offset_text z ++ rest) ≡ Ok (z, rest)
+unfolding offset_at negative_at positive_at signs_at
+offset_again (pos n) rest small stops = rw (number_again n rest (omega arith) stops, lt-ltb n (2 ^ 31) small) refl
+offset_again (negsuc n) rest small stops =
+    let less : suc n - 1 ≡ n = omega arith in
+    rw (number_again (suc n) rest (omega arith) stops, suc_not_zero n, less, lt-ltb n (2 ^ 31) small) refl
+
+-- ---- places
+
+pointer_of_is : (name : Named) (k : ℕ) → pointer_of name ≡ Ok k → name ≡ named.Pointer k
+pointer_of_is (named.Pointer p) k e = cc
+pointer_of_is (named.Integer i w) k e = absurd cc
+pointer_of_is named.Nothing k e = absurd cc
+
+pub address_takes : (params : List Param) (text : List ℕ) → Holds (address_at params text) (λ x. (text ≡ address_text params x.0 ++ x.1) × IsAddress params x.0)
+unfolding address_at
+address_takes params text =
+    and_then _ _ _ _ (name_takes text) (λ name n.
+    and_then _ _ (PointerAt 0 params name.0) _ (judged_ok _ _ _ (λ k e. pointer_at 0 0 params name.0 k (pointer_of_is _ k e))) (λ k p.
+    and_then _ _ _ _ (offset_takes name.1) (λ offset o.
+    let place : k ≡ p.place = omega (arith, p.is) in
+    let a : Address = record { pointer = k; offset = offset.0 } in
+    let called : name_of (slice_get (pointers params) k) ≡ name.0 = rw place p.called in
+    let spelled : text ≡ address_text params a ++ offset.1 = n.0 ∙ ap (λ (b : List ℕ). name.0 ++ b) o.0 ∙ sym (append_assoc name.0 (offset_text offset.0) offset.1) ∙ ap (λ (m : List ℕ). (m ++ offset_text offset.0) ++ offset.1) (sym called) in
+    let valid : IsAddress params a = record { pointer = omega (arith, place, p.within); offset = o.1 } in
+    now _ _ (spelled, valid))))
+
+pub address_again : (params : List Param) (a : Address) (rest : List ℕ) → AreParams params → IsAddress params a → Stops is_digit rest → address_at params (address_text params a ++ rest) ≡ Ok (a, rest)
+unfolding address_at
+address_again params a rest p valid stops =
+    let name = name_of (slice_get (pointers params) a.pointer) in
+    let regrouped : address_text params a ++ rest ≡ name ++ (offset_text a.offset ++ rest) = append_assoc name (offset_text a.offset) rest in
+    ap (address_at params) regrouped ∙ rw (name_again name (offset_text a.offset ++ rest) (pointer_named params a.pointer p.names valid.pointer) (ends a.offset), pointer_found 0 0 params a.pointer valid.pointer p.distinct, offset_again a.offset rest valid.offset stops) (let same : 0 + a.pointer ≡ a.pointer = omega arith in rw same refl)
+  where
+    ends : (z : ℤ) → Stops is_name (offset_text z ++ rest)
+    ends (pos n) = refl
+    ends (negsuc n) = refl
+
+-- ---- operands
+
+-- an operand that is read, which is of a width that is wanted
+pub record TakesOperand (params : List Param) (widths : List ℕ) (wanted : Option Width) (text : List ℕ) (x : Operand × List ℕ) : Type 0 where
+  pub width : ℕ
+  pub spelled : text ≡ operand_text params x.0 ++ x.1
+  pub valid : width_of params widths x.0 ≡ Some width
+  pub fit : fits wanted width ≡ true
+
+given_takes : (params : List Param) (widths : List ℕ) (wanted : Option Width) (text : List ℕ) → length widths ≤ 4194304 → Holds (given_operand_at widths wanted text) (TakesOperand params widths wanted text)
+unfolding given_operand_at
+given_takes params widths wanted text few =
+    and_then _ _ _ _ (register_takes text) (λ k r.
+    and_then _ _ (λ width. slice_get widths k.0 ≡ Some width) _ (or_stop_ok _ _ _ (λ width e. e)) (λ width e.
+    if_ok _ _ _ _ (λ fit. record { width = width; spelled = r (omega (arith, slice_get_within widths k.0 width e)); valid = e; fit = fit })))
+
+below_all : (w : Width) (n : ℕ) → n < 2 ^ bits_of w → n < 2 ^ 64
+below_all W8 n h = omega arith
+below_all W16 n h = omega arith
+below_all W32 n h = omega arith
+below_all W64 n h = h
+
+literal_takes : (params : List Param) (widths : List ℕ) (wanted : Option Width) (text : List ℕ) → Holds (literal_at wanted text) (TakesOperand params widths wanted text)
+unfolding literal_at
+literal_takes params widths wanted text =
+    and_then _ _ _ _ (number_takes text) (λ n t.
+    and_then _ _ _ _ (type_takes n.1) (λ w u.
+    if_both _ _ _ _ (λ fit. if_ok _ _ _ _ (λ small. record {
+      width = bits_of w.0;
+      spelled = t (below_all w.0 n.0 (ltb-true n.0 (2 ^ bits_of w.0) small)) ∙ ap (λ (b : List ℕ). decimal n.0 ++ b) u ∙ sym (append_assoc (decimal n.0) (type_text w.0) w.1);
+      valid = rw small refl;
+      fit = fit;
+    })) (λ _. never _ _)))
+
+integer_of_is : (name : Named) (k : ℕ × Width) → integer_of name ≡ Ok k → name ≡ named.Integer k.0 k.1
+integer_of_is (named.Pointer p) k e = absurd cc
+integer_of_is (named.Integer i w) k e = cc
+integer_of_is named.Nothing k e = absurd cc
+
+argument_takes : (params : List Param) (widths : List ℕ) (wanted : Option Width) (text : List ℕ) → Holds (argument_at params wanted text) (TakesOperand params widths wanted text)
+unfolding argument_at
+argument_takes params widths wanted text =
+    and_then _ _ _ _ (name_takes text) (λ name n.
+    and_then _ _ (λ k. IntegerAt 0 params name.0 k.0 k.1) _ (judged_ok _ _ _ (λ k e. integer_at 0 0 params name.0 k.0 k.1 (integer_of_is _ k e))) (λ k i.
+    if_ok _ _ _ _ (λ fit.
+    let place : k.0 ≡ i.place = omega (arith, i.is) in
+    let called : name_of (slice_get (integers params) k.0) ≡ name.0 = rw place i.called in
+    record { width = bits_of k.1; spelled = n.0 ∙ ap (λ (m : List ℕ). m ++ name.1) (sym called); valid = rw place i.wide; fit = fit })))
+
+pub operand_takes : (params : List Param) (widths : List ℕ) (wanted : Option Width) (text : List ℕ) → length widths ≤ 4194304 → Holds (operand_at params widths wanted text) (TakesOperand params widths wanted text)
+unfolding operand_at
+operand_takes params widths wanted text few =
+    if_both (begins 37 text) _ _ _ (λ _. given_takes params widths wanted text few) (λ _.
+    if_both (begins_digit text) _ _ _ (λ _. literal_takes params widths wanted text) (λ _. argument_takes params widths wanted text))
+
+stops_digit : (rest : List ℕ) → Stops is_name rest → Stops is_digit rest
+stops_digit [] stops = tt
+stops_digit (b ∷ bs) stops = other (is_letter b) (is_digit b) stops
+  where
+    other : (x y : Bool) → (x || y) ≡ false → y ≡ false
+    other true y e = absurd cc
+    other false y e = e
+
+-- digits are no register and no name
+digits_begin : (ds behind : List ℕ) → list_all is_digit ds ≡ true → 0 < length ds → (begins 37 (ds ++ behind) ≡ false) × (begins_digit (ds ++ behind) ≡ true)
+digits_begin [] behind all some = absurd (omega arith)
+digits_begin (d ∷ ds) behind all some =
+    let digit = (and_parts (is_digit d) (list_all is_digit ds) all).0 in
+    (ne_eqb d 37 (λ e. let same : is_digit 37 ≡ true = subst (λ (x : ℕ). is_digit x ≡ true) e digit in absurd cc), digit)
+
+-- a name begins with no digit
+name_no_digit : (name behind : List ℕ) → IsTrue (is_name_text name) → begins_digit (name ++ behind) ≡ false
+name_no_digit [] behind named = absurd cc
+name_no_digit (b ∷ bs) behind named = letter b (and_parts (is_letter b) (list_all is_name bs && nat_le (length bs) 63) named).0
+  where
+    letter : (b : ℕ) → is_letter b ≡ true → is_digit b ≡ false
+    letter b e = grind (arith, nat_tests)
+
+literal_wide : (w : Width) (n width : ℕ) → (if nat_lt n (2 ^ bits_of w) then Some (bits_of w) else None) ≡ Some width → (nat_lt n (2 ^ bits_of w) ≡ true) × (bits_of w ≡ width)
+literal_wide w n width e = elim (cases_Bool (nat_lt n (2 ^ bits_of w))) [
+  | inl small ↦ (small, some_is (bits_of w) width (rw small at e))
+  | inr large ↦ let is : nothing ≡ Some width = rw large at e in absurd cc
+]
+  where
+    nothing : Option ℕ
+    nothing = None
+
+    some_is : (x y : ℕ) → Some x ≡ Some y → x ≡ y
+    some_is x y e = cc
+
+pub operand_again : (params : List Param) (widths : List ℕ) (wanted : Option Width) (v : Operand) (width : ℕ) (rest : List ℕ) → AreParams params → length widths ≤ 4194304 → width_of params widths v ≡ Some width → fits wanted width ≡ true → Stops is_name rest → operand_at params widths wanted (operand_text params v ++ rest) ≡ Ok (v, rest)
+unfolding operand_at given_operand_at literal_at argument_at
+operand_again params widths wanted (Register k) width rest p few e fit stops =
+    rw (register_again k rest (omega (arith, slice_get_within widths k width e)) (stops_digit rest stops), e, fit) refl
+operand_again params widths wanted (Literal w n) width rest p few e fit stops =
+    let wide = literal_wide w n width e in
+    let small : n < 2 ^ 64 = below_all w n (ltb-true n (2 ^ bits_of w) wide.0) in
+    let begin = digits_begin (decimal n) (type_text w ++ rest) (digits-decimal n small) (decimal_nonempty n small) in
+    let here : fits wanted (bits_of w) ≡ true = rw wide.1 fit in
+    ap (operand_at params widths wanted) (append_assoc (decimal n) (type_text w) rest) ∙ rw (begin.0, begin.1, number_again n (type_text w ++ rest) small refl, type_again w rest stops, here, wide.0) refl
+operand_again params widths wanted (Argument k) width rest p few e fit stops =
+    let i = integer_found 0 0 params k width e p.distinct in
+    let named = integer_named params k width p.names e in
+    let name = name_of (slice_get (integers params) k) in
+    let here : fits wanted (bits_of i.width) ≡ true = rw (← i.wide) fit in
+    rw (name_begins 37 name rest named refl, name_no_digit name rest named, name_again name rest named stops, i.found, here) (let same : 0 + k ≡ k = omega arith in rw same refl)

@@ -1,0 +1,254 @@
+//! Places in memory and operands.
+
+ghost use Rattle.std.specs.Prelude.{◌≡◌, ◌≤◌, ◌+◌, length, slice_get, nat_lt, ◌^◌, ◌==◌};
+ghost use Rattle.vg_program.specs.Tokens.{Gives};
+ghost use Rattle.vg_base.specs.Width.{bits_of};
+ghost use Rattle.vg_text.specs.Byte.{is_digit};
+ghost use Rattle.vg_program.specs.Grammar.{named_in, judged, pointer_of, integer_of, fits, positive_offset, negative_offset, negative_at, positive_at, offset_at, address_at, given_operand_at, literal_at, argument_at, begins_digit, operand_at};
+
+use crate::fault::Fault;
+use crate::named::Named;
+use crate::operand::Operand;
+use crate::param::Param;
+use crate::param_kind::ParamKind;
+use crate::stop::ReadError;
+use crate::tokens::{begins, is_text, met, name_at, number_at, register_at, signs_at, type_at};
+use vg_base::address::Address;
+use vg_base::width::Width;
+use vg_text::byte::is_digit;
+
+/// What a name stands for among these parameters.
+#[tactic(auto, unfolding(crate::specs::Grammar::named_in))]
+fn named_in(params: &[Param], name: &[u8]) -> Named
+    requires { length params.now ≤ 16 }
+    ensures { result ≡ named_in 0 0 params.now name.now }
+{
+    let mut pointers: u32 = 0;
+    let mut integers: u32 = 0;
+    let mut rest = params;
+    'params: while let [param, behind @ ..] = rest {
+        let found = is_text(param.name.bytes(), name);
+        match param.kind {
+            ParamKind::Pointer if found => return Named::Pointer(pointers),
+            ParamKind::Pointer => pointers += 1,
+            ParamKind::Integer(width) if found => return Named::Integer(integers, width),
+            ParamKind::Integer(_) => integers += 1,
+        }
+        rest = behind;
+    }
+    Named::Nothing
+}
+
+fn pointer_of(named: Named) -> Result<u32, Fault>
+    ensures { result ≡ pointer_of named }
+{
+    match named {
+        Named::Pointer(pointer) => Ok(pointer),
+        Named::Integer(_, _) => Err(Fault::WidthMismatch),
+        Named::Nothing => Err(Fault::UnknownRegister),
+    }
+}
+
+fn integer_of(named: Named) -> Result<(u32, Width), Fault>
+    ensures { result ≡ integer_of named }
+{
+    match named {
+        Named::Pointer(_) => Err(Fault::WidthMismatch),
+        Named::Integer(integer, width) => Ok((integer, width)),
+        Named::Nothing => Err(Fault::UnknownRegister),
+    }
+}
+
+/// A fault is met in front of these bytes.
+pub(crate) fn judged<T>(text: &[u8], judgement: Result<T, Fault>) -> Result<T, ReadError>
+    ensures { Gives (λ x. x) result (judged text.now judgement) }
+{
+    match judgement {
+        Ok(x) => Ok(x),
+        Err(fault) => Err(ReadError::At(met(fault, text))),
+    }
+}
+
+/// Whether an operand of a width in bits may stand where one of a width, or of any width in memory, is wanted.
+fn fits(wanted: Option<Width>, bits: u32) -> bool
+    ensures { result ≡ fits wanted bits }
+{
+    match wanted {
+        None => bits != 1,
+        Some(width) => bits == width.bits(),
+    }
+}
+
+fn positive_offset(number: u128) -> Result<i32, Fault>
+    ensures { result ≡ positive_offset number }
+{
+    if number < 1 << 31 {
+        Ok(number as i32)
+    } else {
+        Err(Fault::Range)
+    }
+}
+
+fn negative_offset(number: u128) -> Result<i32, Fault>
+    ensures { result ≡ negative_offset number }
+{
+    if number == 0 {
+        Err(Fault::Range)
+    } else if number - 1 < 1 << 31 {
+        Ok(-1 - ((number - 1) as i32))
+    } else {
+        Err(Fault::Range)
+    }
+}
+
+#[tactic(auto, unfolding(crate::specs::Grammar::negative_at))]
+fn negative_at(text: &[u8]) -> Result<(i32, &[u8]), ReadError>
+    ensures { Gives (λ x. (x.0, x.1.now)) result (negative_at text.now) }
+{
+    let number = signs_at(b"-", text)?;
+    let (n, rest) = number_at(number)?;
+    let offset = judged(number, negative_offset(n))?;
+    Ok((offset, rest))
+}
+
+#[tactic(auto, unfolding(crate::specs::Grammar::positive_at))]
+fn positive_at(text: &[u8]) -> Result<(i32, &[u8]), ReadError>
+    ensures { Gives (λ x. (x.0, x.1.now)) result (positive_at text.now) }
+{
+    let number = signs_at(b"+", text)?;
+    let (n, rest) = number_at(number)?;
+    let offset = judged(number, positive_offset(n))?;
+    Ok((offset, rest))
+}
+
+#[tactic(auto, unfolding(crate::specs::Grammar::offset_at))]
+fn offset_at(text: &[u8]) -> Result<(i32, &[u8]), ReadError>
+    ensures { Gives (λ x. (x.0, x.1.now)) result (offset_at text.now) }
+{
+    if begins(b'-', text) {
+        negative_at(text)
+    } else {
+        positive_at(text)
+    }
+}
+
+#[tactic(auto, unfolding(crate::specs::Grammar::address_at))]
+pub(crate) fn address_at<'a>(
+    params: &[Param],
+    text: &'a [u8],
+) -> Result<(Address, &'a [u8]), ReadError>
+    requires { length params.now ≤ 16 }
+    ensures { Gives (λ x. (x.0, x.1.now)) result (address_at params.now text.now) }
+{
+    let (name, rest) = name_at(text)?;
+    let pointer = judged(text, pointer_of(named_in(params, name)))?;
+    let (offset, rest) = offset_at(rest)?;
+    Ok((Address { pointer, offset }, rest))
+}
+
+/// The width of a register, where it is given before.
+fn width_of(widths: &[u32], register: u128) -> Option<u32>
+    ensures { result ≡ slice_get widths.now register }
+{
+    if register < widths.len() as u128 {
+        Some(widths[register as usize])
+    } else {
+        None
+    }
+}
+
+#[tactic(auto, unfolding(crate::specs::Grammar::given_operand_at))]
+fn given_operand_at<'a>(
+    widths: &[u32],
+    wanted: Option<Width>,
+    text: &'a [u8],
+) -> Result<(Operand, &'a [u8]), ReadError>
+    requires { length widths.now ≤ 4194304 }
+    ensures { Gives (λ x. (x.0, x.1.now)) result (given_operand_at widths.now wanted text.now) }
+{
+    let (register, rest) = register_at(text)?;
+    match width_of(widths, register) {
+        None => Err(ReadError::At(met(Fault::UnknownRegister, text))),
+        Some(bits) if fits(wanted, bits) => Ok((Operand::Register(register as u32), rest)),
+        Some(_) => Err(ReadError::At(met(Fault::WidthMismatch, text))),
+    }
+}
+
+/// Whether a number is below 2 to a width.
+fn is_below(number: u128, width: Width) -> bool
+    ensures { result ≡ nat_lt number (2 ^ bits_of width) }
+{
+    match width {
+        Width::W8 => number < 1 << 8,
+        Width::W16 => number < 1 << 16,
+        Width::W32 => number < 1 << 32,
+        Width::W64 => number < 1 << 64,
+    }
+}
+
+#[tactic(auto, unfolding(crate::specs::Grammar::literal_at))]
+fn literal_at(wanted: Option<Width>, text: &[u8]) -> Result<(Operand, &[u8]), ReadError>
+    ensures { Gives (λ x. (x.0, x.1.now)) result (literal_at wanted text.now) }
+{
+    let (number, rest) = number_at(text)?;
+    let (width, rest) = type_at(rest)?;
+    if !fits(wanted, width.bits()) {
+        return Err(ReadError::At(met(Fault::WidthMismatch, text)));
+    }
+    if !is_below(number, width) {
+        return Err(ReadError::At(met(Fault::Range, text)));
+    }
+    Ok((
+        Operand::Literal {
+            width,
+            number: number as u64,
+        },
+        rest,
+    ))
+}
+
+#[tactic(auto, unfolding(crate::specs::Grammar::argument_at))]
+fn argument_at<'a>(
+    params: &[Param],
+    wanted: Option<Width>,
+    text: &'a [u8],
+) -> Result<(Operand, &'a [u8]), ReadError>
+    requires { length params.now ≤ 16 }
+    ensures { Gives (λ x. (x.0, x.1.now)) result (argument_at params.now wanted text.now) }
+{
+    let (name, rest) = name_at(text)?;
+    let (number, width) = judged(text, integer_of(named_in(params, name)))?;
+    if !fits(wanted, width.bits()) {
+        return Err(ReadError::At(met(Fault::WidthMismatch, text)));
+    }
+    Ok((Operand::Argument(number), rest))
+}
+
+fn begins_digit(text: &[u8]) -> bool
+    ensures { result ≡ begins_digit text.now }
+{
+    match text {
+        [] => false,
+        [first, ..] => is_digit(*first),
+    }
+}
+
+#[tactic(auto, unfolding(crate::specs::Grammar::operand_at))]
+pub(crate) fn operand_at<'a>(
+    params: &[Param],
+    widths: &[u32],
+    wanted: Option<Width>,
+    text: &'a [u8],
+) -> Result<(Operand, &'a [u8]), ReadError>
+    requires params { length params.now ≤ 16 }
+    requires widths { length widths.now ≤ 4194304 }
+    ensures { Gives (λ x. (x.0, x.1.now)) result (operand_at params.now widths.now wanted text.now) }
+{
+    if begins(b'%', text) {
+        given_operand_at(widths, wanted, text)
+    } else if begins_digit(text) {
+        literal_at(wanted, text)
+    } else {
+        argument_at(params, wanted, text)
+    }
+}

@@ -1,0 +1,189 @@
+//! The reading of a program.
+
+ghost use Rattle.std.specs.Prelude.{◌≡◌, ◌≤◌, ◌+◌, ◌^◌, length, sum_by, IfOk, Ok};
+ghost use Rattle.vg_text.specs.Place.{first_place, place_after};
+ghost use Rattle.vg_program.specs.Cost.{line_cost};
+ghost use Rattle.vg_program.specs.declared.program.Program.{Program};
+ghost use Rattle.vg_program.specs.Text.{text_of};
+ghost use Rattle.vg_program.specs.Valid.{IsValid};
+ghost use Rattle.vg_program.specs.Tokens.{Gives};
+ghost use Rattle.vg_program.specs.Grammar.{cost_from, scalar_from, scalar_at, cost_at, last_line_at, program_at};
+ghost use Rattle.vg_program.specs.Faults.{next_column, place_in, read, Returns};
+
+use crate::costs::lines_cost;
+use crate::fault::Fault;
+use crate::line_reading::lines_at;
+use crate::operand_reading::judged;
+use crate::param_reading::first_line_at;
+use crate::program::Program;
+use crate::program_fault::ProgramFault;
+use crate::stop::{ReadError, Stop};
+use crate::tokens::{met, number_at, signs_at, unfit, word_at};
+use std::alloc::Global;
+use vg_base::items::Items;
+use vg_text::place::Place;
+
+/// The most bytes of the text of a program: 4 MiB.
+pub const MOST_BYTES: usize = 4194304;
+
+fn cost_from(counted: u64, number: u128) -> Result<u32, Fault>
+    ensures { result ≡ cost_from counted number }
+{
+    if number >= 1 << 32 {
+        Err(Fault::Range)
+    } else if number == counted as u128 {
+        Ok(number as u32)
+    } else {
+        Err(Fault::CostWrong {
+            stated: number as u64,
+            counted,
+        })
+    }
+}
+
+fn scalar_from(number: u128) -> Result<u32, Fault>
+    ensures { result ≡ scalar_from number }
+{
+    if number <= 16384 {
+        Ok(number as u32)
+    } else {
+        Err(Fault::Range)
+    }
+}
+
+#[tactic(auto, unfolding(crate::specs::Grammar::cost_at))]
+fn cost_at(counted: u64, text: &[u8]) -> Result<(u32, &[u8]), ReadError>
+    ensures { Gives (λ x. (x.0, x.1.now)) result (cost_at counted text.now) }
+{
+    let number = signs_at(b" ", text)?;
+    let (n, rest) = number_at(number)?;
+    let cost = judged(number, cost_from(counted, n))?;
+    Ok((cost, rest))
+}
+
+#[tactic(auto, unfolding(crate::specs::Grammar::scalar_at))]
+fn scalar_at(text: &[u8]) -> Result<(u32, &[u8]), ReadError>
+    ensures { Gives (λ x. (x.0, x.1.now)) result (scalar_at text.now) }
+{
+    let rest = signs_at(b" ", text)?;
+    let rest = word_at(b"scalar", rest)?;
+    let number = signs_at(b" ", rest)?;
+    let (n, rest) = number_at(number)?;
+    let scalar = judged(number, scalar_from(n))?;
+    Ok((scalar, rest))
+}
+
+#[tactic(auto, unfolding(crate::specs::Grammar::last_line_at))]
+fn last_line_at(counted: u64, text: &[u8]) -> Result<(u32, u32, &[u8]), ReadError>
+    ensures { Gives (λ x. (x.0, x.1, x.2.now)) result (last_line_at counted text.now) }
+{
+    let rest = word_at(b"end", text)?;
+    let rest = signs_at(b" ", rest)?;
+    let rest = word_at(b"cost", rest)?;
+    let (cost, rest) = cost_at(counted, rest)?;
+    let (scalar, rest) = scalar_at(rest)?;
+    let rest = signs_at(b"\n", rest)?;
+    Ok((cost, scalar, rest))
+}
+
+#[tactic(auto, unfolding(crate::specs::Grammar::program_at))]
+fn program_at(alloc: Global, text: &[u8]) -> Result<Program, ReadError>
+    ensures { Gives (λ p. p) result (program_at text.now) }
+{
+    let (name, params, rest) = first_line_at(alloc, text)?;
+    let (lines, rest) = lines_at(alloc, MOST_BYTES, &params, rest)?;
+    let (cost, scalar, rest) = last_line_at(lines_cost(&lines), rest)?;
+    if !rest.is_empty() {
+        return Err(ReadError::At(unfit(rest)));
+    }
+    Ok(Program {
+        name,
+        params: Items::from_vec(params),
+        lines: Items::from_vec(lines),
+        cost,
+        scalar,
+    })
+}
+
+/// Where the byte behind these stands.
+#[tactic(auto, unfolding(vg_text::specs::Place::place_after))]
+fn place_after(text: &[u8]) -> Place
+    requires { length text.now ≤ 4194304 }
+    ensures place { result ≡ place_after first_place text.now }
+    ensures near { result.column ≤ 1 + length text.now }
+{
+    let mut place = Place { line: 1, column: 1 };
+    let mut rest = text;
+    'bytes: while let [first, behind @ ..] = rest {
+        place = if *first == b'\n' {
+            Place {
+                line: place.line + 1,
+                column: 1,
+            }
+        } else {
+            Place {
+                line: place.line,
+                column: place.column + 1,
+            }
+        };
+        rest = behind;
+    }
+    place
+}
+
+#[tactic(auto, unfolding(crate::specs::Faults::place_in))]
+fn place_in(text: &[u8], n: usize) -> Place
+    requires { length text.now ≤ 4194304 }
+    ensures { result ≡ place_in text.now n }
+{
+    if n < text.len() {
+        place_after(&text[..n])
+    } else if text.is_empty() {
+        Place { line: 1, column: 1 }
+    } else {
+        let last = place_after(&text[..text.len() - 1]);
+        Place {
+            line: last.line,
+            column: last.column + 1,
+        }
+    }
+}
+
+/// The reading alone, without its laws.
+#[tactic(auto, unfolding(crate::specs::Faults::read))]
+fn read(alloc: Global, text: &[u8]) -> Result<Program, ProgramFault>
+    ensures { Returns result (read text.now) }
+{
+    if text.len() > MOST_BYTES {
+        return Err(ProgramFault::TooLarge {
+            place: Place { line: 1, column: 1 },
+        });
+    }
+    match program_at(alloc, text) {
+        Ok(program) => Ok(program),
+        Err(ReadError::Memory(error)) => Err(ProgramFault::Memory(error)),
+        Err(ReadError::At(stop)) => {
+            let place = place_in(text, text.len().saturating_sub(stop.left));
+            Err(ProgramFault::placed(stop.fault, place))
+        }
+    }
+}
+
+/// Reads the text of a program of the lines `load`, `store` and `add`.
+///
+/// An error is the first fault of the text, as `ProgramFault` tells, or want of memory.
+pub fn parse_program(alloc: Global, text: &[u8]) -> Result<Program, ProgramFault>
+    // The result is the one that the definition names, unless memory ran out.
+    ensures exact { Returns result (read text.now) }
+    // What is read is valid, and the text is its text.
+    ensures sound { IfOk result (λ p. IsValid p × (text_of p ≡ text.now)) }
+    // The text of a valid program is read as this program, unless memory ran out.
+    ensures complete { (p : Program) → IsValid p → text.now ≡ text_of p → Returns result (Ok p) }
+{
+    read(alloc, text)
+}
+
+/// A law: no two valid programs have one text.
+pub fn one_program()
+    ensures { (p q : Program) → IsValid p → IsValid q → text_of p ≡ text_of q → p ≡ q }
+{}

@@ -1,0 +1,7 @@
+pub mod Byte
+pub mod Cut
+pub mod Lexing
+pub mod Number
+pub mod Place
+pub mod Token
+pub mod Words

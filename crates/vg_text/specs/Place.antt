@@ -1,0 +1,16 @@
+-- Places in a text: a line feed ends a line, and each other byte is one column.
+use Rattle.std.specs.Prelude.{ℕ, ◌+◌, List, [], ◌∷◌, ◌==◌, if◌then◌else◌}
+use Rattle.vg_text.specs.declared.place.Place.{Place}
+
+-- where a text begins
+abbrev pub first_place : Place
+first_place = record { line = 1; column = 1 }
+
+-- one byte further
+abbrev pub place_behind : Place → ℕ → Place
+place_behind p b = if b == 10 then record { line = p.line + 1; column = 1 } else record { line = p.line; column = p.column + 1 }
+
+-- behind these bytes
+unfoldable pub place_after : Place → List ℕ → Place
+place_after p [] = p
+place_after p (b ∷ bs) = place_after (place_behind p b) bs

@@ -1,0 +1,31 @@
+-- The text of the scalar program answers its kernel.
+use Rattle.std.proofs.Common.{◌≡◌, ℕ, ◌≤◌, List, Result, Ok, Err, refl, sym, ◌∙◌, ap, subst, arith}
+use Rattle.std.specs.Result.{IfOk}
+use Rattle.std.specs.declared.alloc.AllocError.{AllocError}
+use Rattle.vg_kernel.specs.Tree.{Tree}
+use Rattle.vg_kernel.specs.WellFormed.{IsWellFormed}
+use Rattle.vg_program.specs.declared.program.Program.{Program}
+use Rattle.vg_program.specs.Text.{text_of}
+use Rattle.vg_program.specs.Valid.{IsValid}
+use Rattle.vg_top.specs.Emission.{program_of}
+use Rattle.vg_top.specs.Answer.{Means, Answer}
+use Rattle.vg_top.proofs.Valid.{program_of-valid}
+use Rattle.vg_top.proofs.Runs.{program_of-meaning}
+
+pub valid_of : (k : Tree) (r : Result Program AllocError) → IsWellFormed k → IfOk r (λ p. p ≡ program_of k) → IfOk r IsValid
+valid_of k (Ok p) h e = subst IsValid (sym e) (program_of-valid k h)
+valid_of k (Err a) h e = tt
+
+-- the program means the kernel
+means_of : (k : Tree) → IsWellFormed k → Means (program_of k) k
+means_of k h = record { name = refl; params = refl; same = λ memory places args is. program_of-meaning k memory places args h }
+
+pub answer_of : (k : Tree) (p : Program) (bytes : List ℕ) → IsWellFormed k → p ≡ program_of k → bytes ≡ text_of p → Answer k bytes
+answer_of k p bytes h e text = record {
+  program = program_of k;
+  text = text ∙ ap text_of e;
+  valid = program_of-valid k h;
+  means = means_of k h;
+  scalar = refl;
+  cost = let same = (program_of-valid k h).cost in omega (arith, same);
+}

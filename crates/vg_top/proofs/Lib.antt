@@ -1,0 +1,6 @@
+pub mod Answers
+pub mod Fronts
+pub mod Lines
+pub mod Runs
+pub mod TextSizes
+pub mod Valid

@@ -1,0 +1,9 @@
+pub mod Answer
+pub mod Compile
+pub mod Emission
+pub mod Ending
+pub mod Files
+pub mod Line
+pub mod Request
+pub mod Status
+pub mod Verdict

@@ -1,0 +1,73 @@
+-- What a run has to answer, where it is known what the shelf holds.
+use Rattle.std.specs.Prelude.{◌≡◌, ℕ, List, [], Option, Some, None, Result, Ok, Err, Vec, IsOk}
+use Rattle.std.specs.declared.alloc.Global.{Global}
+use Rattle.vg_base.specs.Bind.{◌>>=◌}
+use Rattle.vg_outside.specs.Shelf.{Held}
+use Rattle.vg_kernel.specs.Tree.{Tree}
+use Rattle.vg_top.specs.declared.ending.Ending.{Ending}
+use Rattle.vg_top.specs.declared.ending.Ending.TheVariants.{Usage}
+use Rattle.vg_top.specs.declared.status.Status.{Status}
+use Rattle.vg_top.specs.declared.status.Status.TheVariants as status
+use Rattle.vg_top.specs.Ending.{status_of}
+use Rattle.vg_top.specs.Request.{Asked, compile, request_of}
+use Rattle.vg_top.specs.Compile.{compiled}
+use Rattle.vg_top.specs.Answer.{Answer}
+use Rattle.vg_top.specs.Files.{Tells}
+use Rattle.vg_top.specs.Line.{line_of}
+
+-- what is to be written
+pub data Outcome : Type 0 where
+  program_for : Tree → Outcome
+
+-- the text of a program that means the kernel
+abbrev pub IsAnswer : Outcome → List ℕ → Type 0
+IsAnswer (program_for k) bytes = Answer k bytes
+
+abbrev pub outcome_of : Held → Asked → Result Outcome Ending
+outcome_of held (compile instructions kernel) = compiled held instructions kernel >>= λ k. Ok (program_for k)
+
+-- what is to be written, or the first refusal: of the words, and then of the files in their order
+abbrev pub asked_outcome : Held → Option Asked → Result Outcome Ending
+asked_outcome held None = Err Usage
+asked_outcome held (Some asked) = outcome_of held asked
+
+abbrev pub verdict : Held → List (List ℕ) → Result Outcome Ending
+verdict held words = asked_outcome held (request_of words)
+
+abbrev pub VecAnswers : Vec ℕ Global → Outcome → Type 0
+VecAnswers bytes outcome = IsAnswer outcome bytes.items
+
+-- these bytes are what was to be written
+abbrev pub IsAnswered : Result Outcome Ending → List ℕ → Type 0
+IsAnswered (Ok outcome) bytes = IsAnswer outcome bytes
+IsAnswered (Err e) bytes = ⊥
+
+-- A status against the verdict. A fault of the outside and want of memory may come in its place; a write is tried only
+-- where there is something to be written.
+abbrev pub Ends : Status → Result Outcome Ending → Type 0
+Ends status.NoMemory v = Unit {0}
+Ends status.ReadFault v = Unit {0}
+Ends status.WriteFault v = IsOk v
+Ends status.Ok v = IsOk v
+Ends s v = (e : Ending) × (v ≡ Err e) × (status_of e ≡ s)
+
+-- where nothing is wrong outside, the status is the verdict's, or there was no memory
+abbrev pub EndsWell : Status → Result Outcome Ending → Type 0
+EndsWell status.NoMemory v = Unit {0}
+EndsWell s (Ok outcome) = s ≡ status.Ok
+EndsWell s (Err e) = s ≡ status_of e
+
+-- how a run ended: by an answer, or by an ending
+abbrev pub status_from : Option Ending → Status
+status_from None = status.Ok
+status_from (Some e) = status_of e
+
+-- the line that tells of it; none behind an answer
+abbrev pub line_from : List (List ℕ) → Option Ending → List ℕ
+line_from words None = []
+line_from words (Some e) = line_of words e
+
+-- the ending is the one that the verdict names, a fault of the outside and want of memory aside
+abbrev pub EndedBy : Option Ending → Result Outcome Ending → Type 0
+EndedBy None v = IsOk v
+EndedBy (Some e) v = Tells VecAnswers (Err e) v

@@ -1,0 +1,16 @@
+//! The commands: from the words of a command line and the bytes that are read to the bytes that are
+//! written and the status.
+#![tactic(auto)]
+
+pub mod compile;
+pub mod emission;
+pub mod ending;
+pub mod files;
+pub mod message;
+pub mod request;
+pub mod status;
+pub mod top;
+
+pub use status::Status;
+pub use top::vegen;
+pub use vg_outside as outside;

@@ -1,0 +1,46 @@
+//! How a run ends.
+
+ghost use Rattle.std.specs.Prelude.{◌≡◌};
+ghost use Rattle.vg_top.specs.Status.{code_of};
+
+/// How a run ended. Each has its number, which is the exit status of the program.
+#[derive(Clone, Copy, Debug, PartialEq, Eq)]
+pub enum Status {
+    /// The answer was written.
+    Ok,
+    /// The words are no request.
+    Usage,
+    /// The instruction file has a fault.
+    InstructionsRefused,
+    /// The kernel has a fault.
+    KernelRefused,
+    /// A file is not there.
+    InputAbsent,
+    /// A file could not be read.
+    ReadFault,
+    /// The answer could not be written, or only a part of it.
+    WriteFault,
+    /// A file is larger than its limit.
+    TooLarge,
+    /// There was no memory.
+    NoMemory,
+}
+
+impl Status {
+    /// The exit status: 0 to 12.
+    pub fn code(&self) -> u8
+        ensures { result ≡ code_of self.now }
+    {
+        match self {
+            Status::Ok => 0,
+            Status::Usage => 2,
+            Status::InstructionsRefused => 3,
+            Status::KernelRefused => 4,
+            Status::InputAbsent => 6,
+            Status::ReadFault => 7,
+            Status::WriteFault => 8,
+            Status::TooLarge => 11,
+            Status::NoMemory => 12,
+        }
+    }
+}
