@@ -1,0 +1,16 @@
+pub mod Widths
+pub mod Values
+pub mod Bounds
+pub mod Chains
+pub mod Constants
+pub mod Forms
+pub mod Measures
+pub mod Narrow
+pub mod Orders
+pub mod Shifts
+pub mod Signed
+pub mod Signs
+pub mod Totals
+pub mod SortChain
+pub mod Sorting
+pub mod Soundness
