@@ -1,28 +1,22 @@
 -- What is in the language is read: words that spell a part are read as it, whatever stands behind them.
-use Rattle.std.proofs.Common.{◌≡◌, ℕ, zero, suc, ◌+◌, ◌≤◌, ℤ, ◌==◌, Bool, true, false, cond, ◌||◌, List, [], ◌∷◌, ◌++◌, length, map, Option, Some, None, Result, Ok, Err, refl, sym, ◌∙◌, ap, subst, ◌⊎◌, inl, inr, arith, append_assoc, append-nil, rules}
-use Rattle.std.specs.Prelude.{codes, IsTrue, pos, nat_le, slice_range}
-use Rattle.std.specs.Option.{option_map_or, option_map}
+use Rattle.std.proofs.Common.{◌≡◌, ℕ, ℤ, ◌==◌, Bool, true, false, List, [], ◌∷◌, ◌++◌, Option, Some, None, Result, Ok, refl, ap, subst, inl, inr, append_assoc}
+use Rattle.std.specs.Prelude.{codes, IsTrue, pos, slice_range}
+use Rattle.std.specs.Option.{option_map}
 use Rattle.std.specs.Str.{bytes_eq}
-use Rattle.std.specs.List.{AllByRecursion, IsDistinct, flat_map}
 use Rattle.std.proofs.lemmas.Bool.{eq-eqb}
-use Rattle.vg_base.specs.Bind.{◌>>=◌}
 use Rattle.vg_base.proofs.Bind.{bind_to}
 use Rattle.vg_base.specs.declared.address.Address.{Address}
 use Rattle.vg_base.specs.declared.width.Width.{Width}
 use Rattle.vg_base.specs.Width.{bits_of}
 use Rattle.vg_text.specs.Token.{Lexemes, token, finish, fault}
-use Rattle.vg_text.specs.Number.{decimal_value}
-use Rattle.vg_text.specs.Words.{Reading, Spelled, words_from, words_left, reading_of}
+use Rattle.vg_text.specs.Words.{Reading, Spelled, words_from, words_left}
 use Rattle.vg_kernel.specs.declared.fault.KernelFault.{KernelFault}
-use Rattle.vg_kernel.specs.declared.fault.KernelFault.TheVariants.{NotYet}
 use Rattle.vg_kernel.specs.declared.parameter.KParam.{KParam}
-use Rattle.vg_kernel.specs.declared.parameter.KParamKind.TheVariants.{Pointer}
-use Rattle.vg_kernel.specs.Tree.{Expression, load, Statement, store, Tree, width_in}
-use Rattle.vg_kernel.specs.Names.{pointer_number, is_taken}
-use Rattle.vg_kernel.specs.Grammar.{Words, IsPointer, IsDistance, IsOffset, IsAddress, IsExpression, IsStatement, AreStatements, IsParameter, parameter_words, parameters_words, AreParameters, IsKernel, IsKernelText}
-use Rattle.vg_kernel.specs.Words.{sized, is_free, offset_of, width_behind}
-use Rattle.vg_kernel.specs.Reader.{found, next_at, expect_at, end_at, name_at, sized_at, offset_at, address_at, expression_at, statement_at, statement_or_end_at, statements_at, parameter_at, parameter_or_end_at, parameters_behind, parameters_at, kernel_at, kernel_of}
-use Rattle.vg_kernel.proofs.Spells.{same_text, text_is_itself}
+use Rattle.vg_kernel.specs.Tree.{Expression, load, Statement, store, width_in}
+use Rattle.vg_kernel.specs.Grammar.{Words, IsPointer, IsDistance, IsOffset, IsAddress, IsExpression, IsStatement}
+use Rattle.vg_kernel.specs.Words.{sized, is_free}
+use Rattle.vg_kernel.specs.Reader.{next_at, expect_at, end_at, name_at, sized_at, offset_at, address_at, expression_at, statement_at}
+use Rattle.vg_kernel.proofs.Spells.{text_is_itself}
 use Rattle.vg_kernel.proofs.Sizes.{width_behind-again}
 
 -- a part is read as x, and these words are left

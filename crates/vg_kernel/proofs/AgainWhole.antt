@@ -1,20 +1,15 @@
 -- What is in the language is read: lists of statements and of parameters, and whole kernels.
-use Rattle.std.proofs.Common.{◌≡◌, ℕ, zero, suc, ◌+◌, ◌≤◌, Bool, true, false, cond, ◌||◌, List, [], ◌∷◌, ◌++◌, length, map, Option, Some, None, Result, Ok, Err, refl, sym, ◌∙◌, ap, subst, arith, append_assoc, append-nil}
-use Rattle.std.specs.Prelude.{codes, IsTrue, nat_le}
-use Rattle.std.specs.Option.{option_map_or, option_map}
+use Rattle.std.proofs.Common.{◌≡◌, ℕ, zero, suc, ◌≤◌, Bool, true, false, List, [], ◌∷◌, ◌++◌, length, map, Some, None, Ok, refl, sym, ◌∙◌, ap, subst, arith, append_assoc, append-nil}
+use Rattle.std.specs.Prelude.{codes, IsTrue}
 use Rattle.std.specs.Str.{bytes_eq}
-use Rattle.std.specs.List.{AllByRecursion, IsDistinct, flat_map}
+use Rattle.std.specs.List.{AllByRecursion, IsDistinct}
 use Rattle.std.proofs.lemmas.Bool.{le-leb}
-use Rattle.vg_base.specs.Bind.{◌>>=◌}
 use Rattle.vg_base.proofs.Bind.{bind_to}
 use Rattle.vg_base.specs.declared.width.Width.{Width}
 use Rattle.vg_base.specs.declared.width.Width.TheVariants.{W8, W16, W32, W64}
-use Rattle.vg_text.specs.Words.{Reading, Spelled, words_left, reading_of}
-use Rattle.vg_kernel.specs.declared.fault.KernelFault.{KernelFault}
-use Rattle.vg_kernel.specs.declared.fault.KernelFault.TheVariants.{NotYet}
+use Rattle.vg_text.specs.Words.{Reading, words_left, reading_of}
 use Rattle.vg_kernel.specs.declared.parameter.KParam.{KParam}
-use Rattle.vg_kernel.specs.declared.parameter.KParamKind.TheVariants.{Pointer}
-use Rattle.vg_kernel.specs.Tree.{Expression, load, Statement, store, Tree}
+use Rattle.vg_kernel.specs.Tree.{Statement, store, Tree}
 use Rattle.vg_kernel.specs.Names.{is_taken}
 use Rattle.vg_kernel.specs.Grammar.{Words, IsStatement, AreStatements, IsParameter, parameter_words, parameters_words, AreParameters, IsKernel, IsKernelText}
 use Rattle.vg_kernel.specs.Words.{sized, is_free}

@@ -1,10 +1,10 @@
 -- What the reader answers, by the language of kernels.
-use Rattle.std.proofs.Common.{◌≡◌, ℕ, List, Result, Ok, Err, sym, ◌∙◌}
+use Rattle.std.proofs.Common.{ℕ, List, Result, Ok, Err, sym, ◌∙◌}
 use Rattle.std.specs.Result.{IfOk}
 use Rattle.vg_kernel.specs.declared.fault.KernelFault.{KernelFault}
 use Rattle.vg_kernel.specs.declared.fault.KernelFault.TheVariants.{NotYet, Memory}
 use Rattle.vg_kernel.specs.declared.kernel.Kernel.{Kernel}
-use Rattle.vg_kernel.specs.Gives.{Gives, Fails}
+use Rattle.vg_kernel.specs.Gives.{Gives}
 use Rattle.vg_kernel.specs.Tree.{Tree, tree_of}
 use Rattle.vg_kernel.specs.Grammar.{IsKernelText}
 use Rattle.vg_kernel.specs.WellFormed.{IsWellFormed}

@@ -1,5 +1,5 @@
 -- Lists of statements and of parameters, one more at a time.
-use Rattle.std.proofs.Common.{◌≡◌, ℕ, zero, suc, ◌+◌, ◌<◌, ◌∷◌, ◌++◌, [], List, Option, Some, None, Result, Ok, Err, arith, refl}
+use Rattle.std.proofs.Common.{◌≡◌, ℕ, zero, suc, ◌+◌, ◌<◌, ◌∷◌, ◌++◌, [], List, Option, Some, None, Result, Ok, arith, refl}
 use Rattle.std.specs.Prelude.{codes}
 use Rattle.vg_base.specs.Bind.{◌>>=◌}
 use Rattle.vg_text.specs.Words.{Reading}

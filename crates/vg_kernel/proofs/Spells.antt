@@ -1,20 +1,17 @@
 -- The words between two moments of reading, and single words read from left to right.
-use Rattle.std.proofs.Common.{◌≡◌, ℕ, Bool, true, false, List, [], ◌∷◌, ◌++◌, length, Option, Some, None, Result, Ok, Err, refl, sym, ◌∙◌, ap, subst, ◌⊎◌, inl, inr, append_assoc}
+use Rattle.std.proofs.Common.{◌≡◌, ℕ, Bool, true, false, List, [], ◌∷◌, ◌++◌, Option, Some, None, Result, Ok, Err, refl, sym, ◌∙◌, ap, subst, append_assoc}
 use Rattle.std.specs.Option.{option_map}
 use Rattle.std.specs.Str.{bytes_eq}
-use Rattle.std.specs.Prelude.{slice_range, IsTrue, not, ◌&&◌, codes}
+use Rattle.std.specs.Prelude.{IsTrue}
 use Rattle.std.proofs.lemmas.Slice.Eq.{bytes_eq-Decides}
-use Rattle.vg_base.specs.Bind.{◌>>=◌}
 use Rattle.vg_base.proofs.Bind.{bind_ok, tested_ok}
-use Rattle.vg_base.specs.declared.width.Width.{Width}
 use Rattle.vg_text.specs.declared.place.Place.{Place}
 use Rattle.vg_text.specs.Token.{Lexemes, token, finish, fault}
 use Rattle.vg_text.specs.Words.{Reading, Spelled, word_at, word_from, words_from, words_left}
-use Rattle.vg_kernel.specs.declared.fault.KernelFault.{KernelFault}
 use Rattle.vg_kernel.specs.declared.fault.KernelFault.TheVariants.{NotYet}
 use Rattle.vg_kernel.specs.Grammar.{Words}
-use Rattle.vg_kernel.specs.Words.{is_free, sized, width_behind}
-use Rattle.vg_kernel.specs.Reader.{or_not_yet, found, next_at, expect_at, end_at, name_at, sized_at}
+use Rattle.vg_kernel.specs.Words.{is_free}
+use Rattle.vg_kernel.specs.Reader.{or_not_yet, found, next_at, expect_at, end_at, name_at}
 
 -- these words stand between the two
 abbrev pub Spells : Reading → Words → Reading → Type 0

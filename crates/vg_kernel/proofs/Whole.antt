@@ -1,30 +1,24 @@
 -- What is read is in the language: parameters, and whole kernels.
-use Rattle.std.proofs.Common.{◌≡◌, ℕ, zero, suc, ◌+◌, ◌≤◌, ℤ, ◌==◌, Bool, true, false, cond, ◌||◌, List, [], ◌∷◌, ◌++◌, length, map, Option, Some, None, Result, Ok, Err, refl, sym, ◌∙◌, ap, subst, ◌⊎◌, inl, inr, arith, append_assoc, append-nil}
+use Rattle.std.proofs.Common.{◌≡◌, ℕ, zero, suc, ◌≤◌, Bool, true, false, ◌||◌, List, [], ◌∷◌, ◌++◌, length, map, Option, Some, None, Result, Ok, refl, sym, ◌∙◌, ap, subst, inl, inr, arith, append_assoc, append-nil}
 use Rattle.std.specs.Prelude.{codes, IsTrue, nat_le}
 use Rattle.std.proofs.lemmas.Bool.{leb-true}
 use Rattle.std.specs.List.{AllByRecursion, IsDistinct, flat_map}
 use Rattle.std.proofs.lemmas.List.{map-append}
 use Rattle.std.specs.Option.{MatchOption, option_map_or, option_map}
 use Rattle.std.specs.Str.{bytes_eq}
-use Rattle.vg_base.specs.Bind.{◌>>=◌}
 use Rattle.vg_base.proofs.Bind.{bind_ok, tested_ok, refused_ok, either_way}
-use Rattle.vg_base.specs.declared.address.Address.{Address}
-use Rattle.vg_base.specs.declared.width.Width.{Width}
-use Rattle.vg_base.specs.Width.{bits_of}
-use Rattle.vg_text.specs.Number.{decimal_value}
-use Rattle.vg_text.specs.Words.{Reading, Spelled, words_left, reading_of}
+use Rattle.vg_text.specs.Words.{Reading, words_left, reading_of}
 use Rattle.vg_kernel.specs.declared.fault.KernelFault.{KernelFault}
 use Rattle.vg_kernel.specs.declared.fault.KernelFault.TheVariants.{NotYet}
 use Rattle.vg_kernel.specs.declared.parameter.KParam.{KParam}
 use Rattle.vg_kernel.specs.declared.parameter.KParamKind.TheVariants.{Pointer}
-use Rattle.vg_kernel.specs.Tree.{Expression, load, Statement, store, Tree, width_in}
-use Rattle.vg_kernel.specs.Names.{pointer_number, is_taken}
-use Rattle.vg_kernel.specs.Grammar.{Words, IsPointer, IsDistance, IsOffset, IsAddress, IsExpression, IsStatement, AreStatements, IsParameter, parameter_words, parameters_words, AreParameters, IsKernel, IsKernelText}
-use Rattle.vg_kernel.specs.Words.{sized, is_free, offset_of, width_behind}
-use Rattle.vg_kernel.specs.Reader.{found, next_at, expect_at, end_at, name_at, sized_at, offset_at, address_at, expression_at, statement_at, statement_or_end_at, statements_at, parameter_at, parameter_or_end_at, parameters_behind, parameters_at, kernel_at, kernel_of}
-use Rattle.vg_kernel.proofs.Spells.{Spells, Spells-append, same_text, ok_once, next-found, expect-found, name-found, found-some, end_at-found}
+use Rattle.vg_kernel.specs.Tree.{Statement, Tree}
+use Rattle.vg_kernel.specs.Names.{is_taken}
+use Rattle.vg_kernel.specs.Grammar.{Words, AreStatements, IsParameter, parameter_words, parameters_words, AreParameters, IsKernel, IsKernelText}
+use Rattle.vg_kernel.specs.Words.{is_free}
+use Rattle.vg_kernel.specs.Reader.{next_at, expect_at, end_at, name_at, statements_at, parameter_at, parameter_or_end_at, parameters_behind, parameters_at, kernel_at, kernel_of}
+use Rattle.vg_kernel.proofs.Spells.{Spells, Spells-append, same_text, ok_once, next-found, expect-found, name-found, end_at-found}
 use Rattle.vg_kernel.proofs.Found.{FoundStatements, statements-found}
-use Rattle.vg_kernel.proofs.Sizes.{width_behind-found}
 
 -- one more at the end
 all-push : {X : Type 0} (P : X → Type 0) (xs : List X) (y : X) → AllByRecursion P xs → P y → AllByRecursion P (xs ++ y ∷ [])

@@ -1,6 +1,6 @@
 -- The language of kernels: which words spell which kernel, one production after the other. How the words are read is
 -- in `Reader`; here is only what they may be.
-use Rattle.std.specs.Prelude.{◌≡◌, ℕ, ◌≤◌, Bool, true, false, List, [], ◌∷◌, ◌++◌, length, map, Option, Some, ℤ, pos, ◌⊎◌, IsTrue, codes}
+use Rattle.std.specs.Prelude.{◌≡◌, ℕ, ◌≤◌, Bool, true, false, List, [], ◌∷◌, ◌++◌, length, map, Some, ℤ, pos, ◌⊎◌, IsTrue, codes}
 use Rattle.std.specs.List.{flat_map, AllByRecursion, IsDistinct}
 use Rattle.std.specs.Str.{bytes_eq}
 use Rattle.vg_base.specs.declared.address.Address.{Address}
@@ -13,6 +13,7 @@ use Rattle.vg_kernel.specs.Tree.{Expression, load, Statement, store, Tree, width
 use Rattle.vg_kernel.specs.Words.{sized, is_free, offset_of}
 use Rattle.vg_kernel.specs.Names.{pointer_number}
 
+-- the tokens of a text by their bytes
 abbrev pub Words : Type 0
 Words = List (List ℕ)
 
@@ -57,6 +58,7 @@ abbrev pub parameters_words : List KParam → Words
 parameters_words [] = []
 parameters_words (p ∷ ps) = parameter_words p ++ flat_map (λ q. codes "," ∷ parameter_words q) ps
 
+-- a pointer with a name that may be given
 abbrev pub IsParameter : KParam → Type 0
 IsParameter p = IsTrue (is_free p.name) × (p.kind ≡ Pointer false)
 

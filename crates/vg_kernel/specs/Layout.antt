@@ -1,11 +1,10 @@
 -- The accesses of a kernel, and the layouts that keep what `noalias` says.
-use Rattle.std.specs.Prelude.{ℕ, ◌+◌, ◌<◌, ◌≤◌, ◌^◌, ◌≡◌, ◌≢◌, ◌||◌, ◌⊎◌, Bool, true, false, List, [], ◌∷◌, ◌++◌, length, slice_index, Option, Some, None, unwrap_or, slice_get, All, Contains, ℤ, pos, ◌+ℤ◌, ◌≤ℤ◌}
+use Rattle.std.specs.Prelude.{ℕ, ◌≡◌, ◌≢◌, ◌||◌, ◌⊎◌, Bool, true, false, List, [], ◌∷◌, ◌++◌, Option, Some, None, unwrap_or, slice_get, Contains, pos, ◌+ℤ◌, ◌≤ℤ◌}
 use Rattle.std.specs.List.{flat_map, filter_map}
 use Rattle.vg_base.specs.declared.address.Address.{Address}
 use Rattle.vg_base.specs.Address.{place_of}
 use Rattle.vg_base.specs.Width.{size_of}
 use Rattle.vg_kernel.specs.declared.parameter.KParam.{KParam}
-use Rattle.vg_kernel.specs.declared.parameter.KParamKind.{KParamKind}
 use Rattle.vg_kernel.specs.declared.parameter.KParamKind.TheVariants.{Pointer, Integer}
 use Rattle.vg_kernel.specs.Tree.{Expression, load, Statement, store, Tree}
 
@@ -15,9 +14,11 @@ pub record Access : Type 0 where
   pub size : ℕ
   pub writes : Bool
 
+-- the loads of an expression
 abbrev pub reads_of : Expression → List Access
 reads_of (load w a) = record { address = a; size = size_of w; writes = false } ∷ []
 
+-- the loads of a statement, and then its store
 abbrev pub statement_accesses : Statement → List Access
 statement_accesses (store w a e) = reads_of e ++ record { address = a; size = size_of w; writes = true } ∷ []
 
@@ -33,6 +34,7 @@ noalias_of p = elim p.kind [ Pointer noalias ↦ Some noalias | Integer w ↦ No
 abbrev pub noalias_flags : Tree → List Bool
 noalias_flags k = filter_map noalias_of k.params
 
+-- the pointer of an access is `noalias`
 abbrev pub is_noalias : Tree → Access → Bool
 is_noalias k x = unwrap_or (slice_get (noalias_flags k) x.address.pointer) false
 

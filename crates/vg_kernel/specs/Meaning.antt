@@ -1,5 +1,5 @@
 -- What a kernel does: its statements, one after the other, over memory. None is a trap: an access outside the memory.
-use Rattle.std.specs.Prelude.{ℕ, List, [], ◌∷◌, Option, Some, None}
+use Rattle.std.specs.Prelude.{ℕ, List, [], ◌∷◌, Option, Some}
 use Rattle.vg_base.specs.Trap.{◌>>=◌}
 use Rattle.vg_base.specs.Bits.{number, bytes}
 use Rattle.vg_base.specs.Memory.{loaded, stored}

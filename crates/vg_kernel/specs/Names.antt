@@ -7,6 +7,7 @@ use Rattle.vg_kernel.specs.declared.parameter.KParam.{KParam}
 use Rattle.vg_kernel.specs.declared.parameter.KParamKind.{KParamKind}
 use Rattle.vg_kernel.specs.declared.parameter.KParamKind.TheVariants.{Pointer, Integer}
 
+-- a pointer, and no integer
 abbrev pub is_pointer : KParamKind → Bool
 is_pointer (Pointer noalias) = true
 is_pointer (Integer w) = false

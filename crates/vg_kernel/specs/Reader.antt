@@ -7,7 +7,6 @@ use Rattle.vg_base.specs.Bind.{◌>>=◌}
 use Rattle.vg_base.specs.declared.address.Address.{Address}
 use Rattle.vg_base.specs.declared.width.Width.{Width}
 use Rattle.vg_base.specs.Width.{bits_of}
-use Rattle.vg_text.specs.declared.place.Place.{Place}
 use Rattle.vg_text.specs.Number.{decimal_value}
 use Rattle.vg_text.specs.Words.{Reading, Spelled, word_at, reading_of}
 use Rattle.vg_kernel.specs.declared.fault.KernelFault.{KernelFault}
@@ -23,10 +22,12 @@ abbrev pub or_not_yet : {X Y : Type 0} → Result X Y → Result X KernelFault
 or_not_yet (Ok x) = Ok x
 or_not_yet (Err y) = Err NotYet
 
+-- what is there
 abbrev pub found : {X : Type 0} → Option X → Result X KernelFault
 found (Some x) = Ok x
 found None = Err NotYet
 
+-- the next word
 abbrev pub next_at : Reading → Result (Spelled × Reading) KernelFault
 next_at r = or_not_yet (word_at r)
 

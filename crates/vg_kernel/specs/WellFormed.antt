@@ -1,5 +1,5 @@
 -- The rules on a kernel that is there as data.
-use Rattle.std.specs.Prelude.{◌≡◌, ℕ, ◌<◌, ◌≤◌, ◌^◌, List, length, map, filter, ℤ, pos, negsuc, IsTrue}
+use Rattle.std.specs.Prelude.{◌≡◌, ◌<◌, ◌≤◌, ◌^◌, List, length, map, filter, ℤ, pos, negsuc, IsTrue}
 use Rattle.std.specs.List.{AllByRecursion, IsDistinct}
 use Rattle.std.specs.Str.{bytes_eq}
 use Rattle.vg_base.specs.declared.address.Address.{Address}
@@ -23,6 +23,7 @@ pub record IsAddress (params : List KParam) (a : Address) : Type 0 where
   pub pointer : a.pointer < length (pointers params)
   pub offset : IsOffset a.offset
 
+-- a load from such an address
 abbrev pub IsExpression : List KParam → Expression → Type 0
 IsExpression params (load w a) = IsAddress params a
 
@@ -30,6 +31,7 @@ IsExpression params (load w a) = IsAddress params a
 abbrev pub IsStatement : List KParam → Statement → Type 0
 IsStatement params (store w a e) = IsAddress params a × IsExpression params e × (bits_of w ≡ width_in e)
 
+-- the names may be given and the parameters have different ones, each statement is well formed, and the limits are kept
 pub record IsWellFormed (k : Tree) : Type 0 where
   pub name : IsTrue (is_free k.name)
   pub names : AllByRecursion (λ p. IsTrue (is_free p.name)) k.params

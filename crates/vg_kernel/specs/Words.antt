@@ -16,6 +16,7 @@ width_text W64 = codes "64"
 abbrev pub sized : List ℕ → Width → List ℕ
 sized stem w = stem ++ width_text w
 
+-- the width that a word spells
 abbrev pub width_of : List ℕ → Option Width
 width_of bytes = if bytes_eq bytes (codes "8") then Some W8 else if bytes_eq bytes (codes "16") then Some W16 else if bytes_eq bytes (codes "32") then Some W32 else if bytes_eq bytes (codes "64") then Some W64 else None
 

@@ -8,11 +8,11 @@ pub mod costs;
 pub mod expression;
 pub mod fault;
 pub mod kernel;
-pub mod names;
+mod names;
 pub mod parameter;
-pub mod parser;
+mod parser;
 pub mod statement;
-pub mod words;
+mod words;
 
 pub use costs::scalar_cost;
 pub use expression::KExpr;
@@ -21,3 +21,6 @@ pub use kernel::Kernel;
 pub use parameter::{KParam, KParamKind};
 pub use parser::parse_kernel;
 pub use statement::KStmt;
+
+#[cfg(test)]
+mod tests;

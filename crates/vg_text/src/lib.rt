@@ -5,7 +5,7 @@
 #![tactic(auto)]
 
 pub mod byte;
-pub mod front;
+mod front;
 pub mod lexer;
 pub mod number;
 pub mod place;

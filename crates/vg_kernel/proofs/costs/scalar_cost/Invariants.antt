@@ -1,5 +1,5 @@
 -- the cost of the statements so far
-use Rattle.std.proofs.Common.{◌≡◌, ◌≤◌, ◌*◌, take, map}
+use Rattle.std.proofs.Common.{◌≡◌, ◌≤◌, ◌*◌, take}
 use Rattle.std.specs.Prelude.{sum_by}
 use Rattle.vg_kernel.specs.Tree.{statement_of}
 use Rattle.vg_kernel.specs.Cost.{statement_cost}

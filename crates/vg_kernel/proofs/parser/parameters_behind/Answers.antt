@@ -1,9 +1,5 @@
-use Rattle.std.proofs.Common.{◌≡◌, ◌<◌, ◌≤◌, ◌+◌, ◌-◌, ◌∙◌, ap, sym, map, vec_len, arith}
-use Rattle.std.proofs.lemmas.List.{map-append}
-use Rattle.std.specs.Option.{option_map}
+use Rattle.std.proofs.Common.{◌≡◌, ◌+◌, ◌-◌, ◌∙◌, sym, vec_len, arith}
 use Rattle.vg_text.specs.Lexing.{reading}
-use Rattle.vg_kernel.specs.Tree.{statement_of}
-use Rattle.vg_kernel.specs.Gives.{Fails}
 use Rattle.vg_kernel.proofs.Lists.{parameters-stop, parameters-more, parameters-fail, parameters-full, parameters-overfull}
 use Rattle.vg_kernel.proofs.parser.parameters_behind.Goals as goal
 

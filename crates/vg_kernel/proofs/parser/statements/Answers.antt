@@ -1,9 +1,8 @@
-use Rattle.std.proofs.Common.{◌≡◌, ◌<◌, ◌≤◌, ◌+◌, ◌-◌, ◌∙◌, ap, sym, map, vec_len, arith}
+use Rattle.std.proofs.Common.{◌≡◌, ◌+◌, ◌-◌, ◌∙◌, ap, sym, map, vec_len, arith}
 use Rattle.std.proofs.lemmas.List.{map-append}
 use Rattle.std.specs.Option.{option_map}
 use Rattle.vg_text.specs.Lexing.{reading}
 use Rattle.vg_kernel.specs.Tree.{statement_of}
-use Rattle.vg_kernel.specs.Gives.{Fails}
 use Rattle.vg_kernel.proofs.Lists.{statements-stop, statements-more, statements-fail, statements-full, statements-overfull}
 use Rattle.vg_kernel.proofs.parser.statements.Goals as goal
 

@@ -1,5 +1,5 @@
 -- what is left, read behind those that are done, is what the whole was
-use Rattle.std.proofs.Common.{◌≡◌, ◌≤◌, ◌-◌, [], map, vec_len, length}
+use Rattle.std.proofs.Common.{◌≡◌, ◌≤◌, ◌-◌, [], map, vec_len}
 use Rattle.vg_text.specs.Lexing.{reading}
 use Rattle.vg_kernel.specs.Tree.{statement_of}
 use Rattle.vg_kernel.specs.Reader.{statements_at}
