@@ -5,3 +5,5 @@
 mod compile_cases;
 #[cfg(test)]
 mod desk;
+#[cfg(test)]
+mod run_cases;

@@ -1,4 +1,5 @@
 pub mod Answers
+pub mod Bindings
 pub mod Fronts
 pub mod Lines
 pub mod Runs

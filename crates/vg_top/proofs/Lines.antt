@@ -1,5 +1,5 @@
 -- The lines of statements, one statement at a time.
-use Rattle.std.proofs.Common.{◌≡◌, ℕ, suc, ◌+◌, ◌<◌, ◌≤◌, List, [], ◌∷◌, ◌++◌, length, get_or, take, drop, map, refl, sym, ◌∙◌, ap, drop-cons, add-one, append_assoc, append-nil}
+use Rattle.std.proofs.Common.{◌≡◌, ℕ, suc, ◌+◌, ◌<◌, ◌≤◌, List, ◌++◌, length, get_or, drop, map, drop-cons, add-one, append_assoc, append-nil}
 use Rattle.std.proofs.Math.ListN.{drop_of_length-le}
 use Rattle.vg_kernel.specs.declared.statement.KStmt.{KStmt}
 use Rattle.vg_kernel.specs.Tree.{statement_of}

@@ -1,6 +1,6 @@
 -- The scalar program of a kernel means the kernel. Behind the lines of the statements so far both have one memory, and
 -- the program has given as many registers as the lines say.
-use Rattle.std.proofs.Common.{◌≡◌, ℕ, suc, ◌+◌, ◌/◌, ◌<◌, ◌≤◌, Bool, true, false, List, [], ◌∷◌, ◌++◌, length, map, Option, Some, None, refl, sym, ◌∙◌, ap, subst, arith, get_or, length-append}
+use Rattle.std.proofs.Common.{◌≡◌, ℕ, ◌+◌, ◌/◌, List, [], ◌∷◌, ◌++◌, length, Option, Some, None, refl, ◌∙◌, subst, arith, get_or, length-append}
 use Rattle.std.specs.Prelude.{slice_get, unwrap_or}
 use Rattle.std.specs.List.{AllByRecursion}
 use Rattle.std.proofs.lemmas.Option.{unwrap_or-slice_get}
@@ -8,17 +8,13 @@ use Rattle.vg_base.specs.Trap.{◌>>=◌}
 use Rattle.vg_base.specs.Bits.{number, bytes}
 use Rattle.vg_base.specs.Memory.{loaded, stored}
 use Rattle.vg_base.specs.Address.{place_of}
-use Rattle.vg_base.specs.declared.address.Address.{Address}
 use Rattle.vg_base.specs.declared.width.Width.{Width}
 use Rattle.vg_base.specs.Width.{bits_of, size_of}
 use Rattle.vg_kernel.specs.declared.parameter.KParam.{KParam}
-use Rattle.vg_kernel.specs.Tree.{Expression, load, Statement, store, Tree}
+use Rattle.vg_kernel.specs.Tree.{load, Statement, store, Tree}
 use Rattle.vg_kernel.specs.WellFormed.{IsStatement, IsWellFormed}
 use Rattle.vg_kernel.specs.Meaning as kernel
-use Rattle.vg_program.specs.declared.line.Line.{Line}
-use Rattle.vg_program.specs.declared.line.Line.TheVariants.{Load, Store}
-use Rattle.vg_program.specs.declared.operand.Operand.TheVariants.{Register}
-use Rattle.vg_program.specs.Meaning.{Scalar, State, Inputs, no_scalar, step, run, meaning}
+use Rattle.vg_program.specs.Meaning.{Scalar, Inputs, no_scalar, run, meaning}
 use Rattle.vg_top.specs.Emission.{lines_of, program_of}
 
 -- the register that was given last

@@ -1,5 +1,5 @@
 -- How long the text of a scalar program can be.
-use Rattle.std.proofs.Common.{◌≡◌, ℕ, zero, suc, cond, ◌+◌, ◌*◌, ◌<◌, ◌≤◌, ◌^◌, ℤ, pos, negsuc, Bool, true, false, List, [], ◌∷◌, ◌++◌, length, map, filter, Option, Some, None, refl, sym, ◌∙◌, ap, subst, arith, lit<, length-append}
+use Rattle.std.proofs.Common.{◌≡◌, ℕ, zero, suc, cond, ◌+◌, ◌*◌, ◌<◌, ◌≤◌, ◌^◌, ℤ, pos, negsuc, Bool, true, false, List, [], ◌∷◌, ◌++◌, length, refl, sym, ◌∙◌, subst, arith, lit<, length-append}
 use Rattle.std.specs.Prelude.{slice_get, codes}
 use Rattle.std.specs.List.{AllByRecursion, flat_map}
 use Rattle.std.specs.Fmt.{decimal}
@@ -18,7 +18,7 @@ use Rattle.vg_program.specs.declared.operand.Operand.TheVariants.{Register}
 use Rattle.vg_program.specs.Params.{pointers, name_of, is_pointer_kind}
 use Rattle.vg_program.specs.Valid.{IsOffset}
 use Rattle.vg_program.specs.Text.{type_text, kind_text, param_text, params_text, offset_text, address_text, register_text, left_text, line_text, lines_text, line_end, given, text_of}
-use Rattle.vg_kernel.specs.Tree.{Statement, store, Expression, load}
+use Rattle.vg_kernel.specs.Tree.{Statement, store, load}
 use Rattle.vg_top.specs.Emission.{lines_of}
 
 -- names of at most 64 bytes

@@ -1,8 +1,7 @@
 -- The scalar program of a well-formed kernel is valid.
-use Rattle.std.proofs.Common.{◌≡◌, ◌≢◌, ℕ, zero, suc, cond, ◌+◌, ◌*◌, ◌<◌, ◌≤◌, ◌^◌, ℤ, pos, negsuc, Bool, true, false, List, [], ◌∷◌, ◌++◌, length, map, filter, Option, Some, None, refl, sym, ◌∙◌, ap, subst, arith, length-append, append-nil}
+use Rattle.std.proofs.Common.{◌≡◌, ◌≢◌, ℕ, suc, cond, ◌+◌, ◌*◌, ◌≤◌, ℤ, pos, negsuc, Bool, true, false, List, [], ◌∷◌, ◌++◌, length, map, refl, sym, ap, subst, arith, length-append, append-nil}
 use Rattle.std.specs.Prelude.{slice_get, IsTrue, nat_le, not, ◌&&◌, sum_by, IsSomeAnd}
-use Rattle.std.specs.List.{AllByRecursion, IsDistinct, list_all}
-use Rattle.std.specs.Str.{bytes_eq}
+use Rattle.std.specs.List.{AllByRecursion, list_all}
 use Rattle.std.proofs.lemmas.Bool.{leb-true}
 use Rattle.std.proofs.lemmas.List.Sums.{sum_by-cons}
 use Rattle.vg_base.specs.declared.address.Address.{Address}
@@ -13,19 +12,16 @@ use Rattle.vg_text.specs.Byte.{is_name_text, is_letter, is_name}
 use Rattle.vg_kernel.specs.declared.parameter.KParam.{KParam}
 use Rattle.vg_kernel.specs.declared.parameter.KParamKind.{KParamKind}
 use Rattle.vg_kernel.specs.declared.parameter.KParamKind.TheVariants as kernel
-use Rattle.vg_kernel.specs.Tree.{Statement, store, Expression, load, Tree}
+use Rattle.vg_kernel.specs.Tree.{Statement, store, load, Tree}
 use Rattle.vg_kernel.specs.Words.{is_free, is_reserved}
 use Rattle.vg_kernel.specs.Names as kernel_names
 use Rattle.vg_kernel.specs.WellFormed as well
-use Rattle.vg_kernel.specs.Cost.{scalar_cost, statement_cost}
-use Rattle.vg_program.specs.declared.program.Program.{Program}
-use Rattle.vg_program.specs.declared.param.Param.{Param}
-use Rattle.vg_program.specs.declared.line.Line.{Line}
+use Rattle.vg_kernel.specs.Cost.{statement_cost}
 use Rattle.vg_program.specs.declared.line.Line.TheVariants.{Load, Store}
 use Rattle.vg_program.specs.declared.operand.Operand.TheVariants.{Register}
 use Rattle.vg_program.specs.Params as program
-use Rattle.vg_program.specs.Cost.{line_cost, cost_of}
-use Rattle.vg_program.specs.Valid.{IsOffset, IsAddress, IsLine, AreLines, IsValid}
+use Rattle.vg_program.specs.Cost.{line_cost}
+use Rattle.vg_program.specs.Valid.{IsOffset, IsAddress, AreLines, IsValid}
 use Rattle.vg_top.specs.Emission.{kind_of, param_of, lines_of, program_of}
 use Rattle.vg_top.proofs.TextSizes.{AreShort, HasOffsets, text-short}
 

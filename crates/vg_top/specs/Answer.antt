@@ -1,8 +1,7 @@
 -- What may be written for a kernel.
-use Rattle.std.specs.Prelude.{◌≡◌, ℕ, ◌<◌, ◌≤◌, ◌^◌, List, [], ◌∷◌, length, map, filter, Bool, true, false, Option, Some, None, All}
+use Rattle.std.specs.Prelude.{◌≡◌, ℕ, ◌<◌, ◌≤◌, ◌^◌, List, length, map, Option, Some, None, All}
 use Rattle.std.specs.List.{AllZip, filter_map}
 use Rattle.vg_base.specs.Width.{bits_of}
-use Rattle.vg_kernel.specs.declared.parameter.KParam.{KParam}
 use Rattle.vg_kernel.specs.declared.parameter.KParamKind.{KParamKind}
 use Rattle.vg_kernel.specs.declared.parameter.KParamKind.TheVariants.{Pointer, Integer}
 use Rattle.vg_kernel.specs.Tree.{Tree}

@@ -36,7 +36,7 @@ abbrev pub Answers : Vec ℕ Global → Tree → Type 0
 Answers bytes k = Answer k bytes.items
 
 -- no instruction is read today: the file is empty
-abbrev pub without_instructions : List ℕ → Result Tree Ending → Result Tree Ending
+abbrev pub without_instructions : {A : Type 0} → List ℕ → Result A Ending → Result A Ending
 without_instructions file next = if length file == 0 then next else Err Instructions
 
 abbrev pub compiled : Held → List ℕ → List ℕ → Result Tree Ending

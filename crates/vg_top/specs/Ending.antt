@@ -1,6 +1,6 @@
 -- The status of each ending.
 use Rattle.vg_top.specs.declared.ending.Ending.{Ending}
-use Rattle.vg_top.specs.declared.ending.Ending.TheVariants.{Usage, Instructions, Kernel, Absent, ReadFault, TooLarge, WriteFault, Memory}
+use Rattle.vg_top.specs.declared.ending.Ending.TheVariants.{Usage, Instructions, Kernel, Program, Absent, ReadFault, TooLarge, Bindings, Trap, WriteFault, Memory}
 use Rattle.vg_top.specs.declared.status.Status.{Status}
 use Rattle.vg_top.specs.declared.status.Status.TheVariants as status
 
@@ -8,8 +8,11 @@ abbrev pub status_of : Ending → Status
 status_of Usage = status.Usage
 status_of Instructions = status.InstructionsRefused
 status_of Kernel = status.KernelRefused
+status_of (Program f) = status.ProgramRefused
 status_of (Absent n) = status.InputAbsent
 status_of (ReadFault n) = status.ReadFault
 status_of (TooLarge n) = status.TooLarge
+status_of Bindings = status.BindingsRefused
+status_of Trap = status.Trap
 status_of WriteFault = status.WriteFault
 status_of Memory = status.NoMemory

@@ -1,12 +1,12 @@
 -- The files of a request, where it is known what the shelf holds.
-use Rattle.std.specs.Prelude.{◌≡◌, ℕ, ◌+◌, ◌≤◌, List, length, Option, Some, None, Result, Ok, Err, nat_le, if◌then◌else◌, Vec, IfSome, IsOk}
+use Rattle.std.specs.Prelude.{◌≡◌, ℕ, List, length, Option, Some, None, Result, Ok, Err, nat_le, if◌then◌else◌, Vec}
 use Rattle.std.specs.FinMap.{get}
 use Rattle.std.specs.declared.alloc.Global.{Global}
 use Rattle.vg_outside.specs.Shelf.{Held}
 use Rattle.vg_outside.specs.Count.{Rose}
 use Rattle.vg_top.specs.declared.ending.FileNumber.{FileNumber}
 use Rattle.vg_top.specs.declared.ending.Ending.{Ending}
-use Rattle.vg_top.specs.declared.ending.Ending.TheVariants.{Usage, Instructions, Kernel, Absent, ReadFault, TooLarge, WriteFault, Memory}
+use Rattle.vg_top.specs.declared.ending.Ending.TheVariants.{Usage, Absent, ReadFault, TooLarge, WriteFault, Memory}
 
 -- the bytes of the n-th file, or why it is refused: it is not there, or has more bytes than its limit
 abbrev pub judged : FileNumber → ℕ → Option (List ℕ) → Result (List ℕ) Ending

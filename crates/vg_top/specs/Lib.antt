@@ -1,9 +1,11 @@
 pub mod Answer
+pub mod Binding
 pub mod Compile
 pub mod Emission
 pub mod Ending
 pub mod Files
 pub mod Line
 pub mod Request
+pub mod Run
 pub mod Status
 pub mod Verdict

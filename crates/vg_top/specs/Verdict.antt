@@ -9,8 +9,9 @@ use Rattle.vg_top.specs.declared.ending.Ending.TheVariants.{Usage}
 use Rattle.vg_top.specs.declared.status.Status.{Status}
 use Rattle.vg_top.specs.declared.status.Status.TheVariants as status
 use Rattle.vg_top.specs.Ending.{status_of}
-use Rattle.vg_top.specs.Request.{Asked, compile, request_of}
+use Rattle.vg_top.specs.Request.{Asked, compile, run, request_of}
 use Rattle.vg_top.specs.Compile.{compiled}
+use Rattle.vg_top.specs.Run.{ran}
 use Rattle.vg_top.specs.Answer.{Answer}
 use Rattle.vg_top.specs.Files.{Tells}
 use Rattle.vg_top.specs.Line.{line_of}
@@ -18,13 +19,16 @@ use Rattle.vg_top.specs.Line.{line_of}
 -- what is to be written
 pub data Outcome : Type 0 where
   program_for : Tree → Outcome
+  memory_left : List ℕ → Outcome
 
--- the text of a program that means the kernel
+-- the text of a program that means the kernel, or the memory
 abbrev pub IsAnswer : Outcome → List ℕ → Type 0
 IsAnswer (program_for k) bytes = Answer k bytes
+IsAnswer (memory_left memory) bytes = bytes ≡ memory
 
 abbrev pub outcome_of : Held → Asked → Result Outcome Ending
 outcome_of held (compile instructions kernel) = compiled held instructions kernel >>= λ k. Ok (program_for k)
+outcome_of held (run instructions program memory bindings) = ran held instructions program memory bindings >>= λ left. Ok (memory_left left)
 
 -- what is to be written, or the first refusal: of the words, and then of the files in their order
 abbrev pub asked_outcome : Held → Option Asked → Result Outcome Ending

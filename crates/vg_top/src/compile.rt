@@ -7,14 +7,11 @@ ghost use Rattle.vg_top.specs.Compile.{compiled, kernel_or_refusal, Answers};
 
 use crate::emission::program_of;
 use crate::ending::{Ending, FileNumber};
-use crate::files::fetch;
+use crate::files::{INSTRUCTIONS_LIMIT, fetch};
 use std::alloc::Global;
 use vg_kernel::{KernelFault, parse_kernel};
 use vg_outside::Shelf;
 use vg_program::print_program;
-
-/// The most bytes of an instruction file.
-const INSTRUCTIONS_LIMIT: u64 = 1_048_576;
 
 /// The most bytes of a kernel file.
 const KERNEL_LIMIT: u64 = 262_144;

@@ -4,13 +4,14 @@ ghost use Rattle.std.specs.Prelude.{◌≡◌};
 ghost use Rattle.vg_top.specs.Ending.{status_of};
 
 use crate::status::Status;
+use vg_program::ProgramFault;
 
 /// Which file of a request, by its number among them, from 1.
 #[derive(Clone, Copy, Debug, PartialEq, Eq)]
 pub struct FileNumber(pub u8);
 
 /// Why a request has no answer.
-#[derive(Clone, Copy, Debug, PartialEq, Eq)]
+#[derive(Debug, Drop)]
 pub enum Ending {
     /// The words are no request.
     Usage,
@@ -18,12 +19,18 @@ pub enum Ending {
     Instructions,
     /// The kernel file is not one that is read today.
     Kernel,
+    /// The program file has this fault.
+    Program(ProgramFault),
     /// The file is not there.
     Absent(FileNumber),
     /// The file could not be read.
     ReadFault(FileNumber),
     /// The file has more bytes than its limit.
     TooLarge(FileNumber),
+    /// The words do not bind the parameters: each once, in its range, and nothing else.
+    Bindings,
+    /// The run made an access outside the memory.
+    Trap,
     /// The answer could not be written.
     WriteFault,
     /// There was no memory.
@@ -32,16 +39,19 @@ pub enum Ending {
 
 impl Ending {
     /// The status that it is told by.
-    pub fn status(self) -> Status
-        ensures { result ≡ status_of self }
+    pub fn status(&self) -> Status
+        ensures { result ≡ status_of self.now }
     {
         match self {
             Ending::Usage => Status::Usage,
             Ending::Instructions => Status::InstructionsRefused,
             Ending::Kernel => Status::KernelRefused,
+            Ending::Program(_) => Status::ProgramRefused,
             Ending::Absent(_) => Status::InputAbsent,
             Ending::ReadFault(_) => Status::ReadFault,
             Ending::TooLarge(_) => Status::TooLarge,
+            Ending::Bindings => Status::BindingsRefused,
+            Ending::Trap => Status::Trap,
             Ending::WriteFault => Status::WriteFault,
             Ending::Memory => Status::NoMemory,
         }

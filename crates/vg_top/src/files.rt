@@ -8,6 +8,9 @@ use crate::ending::{Ending, FileNumber};
 use std::alloc::Global;
 use vg_outside::{Shelf, ShelfFault};
 
+/// The most bytes of an instruction file.
+pub const INSTRUCTIONS_LIMIT: u64 = 1_048_576;
+
 /// The whole of the file of this name, which is the request's file of this number and has at most
 /// `limit` bytes.
 pub fn fetch<S: Shelf>(

@@ -2,12 +2,14 @@
 //! written and the status.
 #![tactic(auto)]
 
+pub mod binding;
 pub mod compile;
 pub mod emission;
 pub mod ending;
 pub mod files;
 pub mod message;
 pub mod request;
+pub mod run;
 pub mod status;
 pub mod top;
 

@@ -1,8 +1,9 @@
 //! What the words of a command line ask for.
 
-ghost use Rattle.std.specs.Prelude.{◌≡◌, option_map};
-ghost use Rattle.vg_top.specs.Request.{text_word, file_word, compile_of, request_of, asked_of};
+ghost use Rattle.std.specs.Prelude.{◌≡◌, option_map, drop};
+ghost use Rattle.vg_top.specs.Request.{text_word, file_word, compile_words, run_words, request_of, asked_of};
 
+use crate::binding::are_bindings;
 use vg_outside::Words;
 
 /// A request, with the names of its files.
@@ -12,6 +13,12 @@ pub enum Request<'a> {
     Compile {
         instructions: &'a str,
         kernel: &'a str,
+    },
+    /// The memory that a program leaves. The words behind the three files bind its parameters.
+    Run {
+        instructions: &'a str,
+        program: &'a str,
+        memory: &'a str,
     },
 }
 
@@ -36,24 +43,50 @@ fn file_word(word: &[u8]) -> Option<&str>
 
 /// What the words ask for. None where they are no request. Takes no memory.
 pub fn request_of(words: &Words) -> Option<Request<'_>>
-    ensures { option_map asked_of result ≡ request_of words.now }
+    ensures { option_map (asked_of words.now) result ≡ request_of words.now }
+{
+    if words.len() == 0 {
+        return None;
+    }
+    let command = words.get(0);
+    if command == b"compile".as_slice() {
+        return compile_words(words);
+    }
+    if command == b"run".as_slice() {
+        return run_words(words);
+    }
+    None
+}
+
+fn compile_words(words: &Words) -> Option<Request<'_>>
+    ensures { option_map (asked_of words.now) result ≡ compile_words (drop 1 words.now) }
 {
     if words.len() != 3 {
         return None;
     }
-    if words.get(0) != b"compile".as_slice() {
-        return None;
-    }
-    compile_of(words.get(1), words.get(2))
-}
-
-fn compile_of<'a>(instructions: &'a [u8], kernel: &'a [u8]) -> Option<Request<'a>>
-    ensures { option_map asked_of result ≡ compile_of instructions.now kernel.now }
-{
-    let instructions = file_word(instructions)?;
-    let kernel = file_word(kernel)?;
+    let instructions = file_word(words.get(1))?;
+    let kernel = file_word(words.get(2))?;
     Some(Request::Compile {
         instructions,
         kernel,
+    })
+}
+
+fn run_words(words: &Words) -> Option<Request<'_>>
+    ensures { option_map (asked_of words.now) result ≡ run_words (drop 1 words.now) }
+{
+    if words.len() < 4 {
+        return None;
+    }
+    if !are_bindings(words, 4) {
+        return None;
+    }
+    let instructions = file_word(words.get(1))?;
+    let program = file_word(words.get(2))?;
+    let memory = file_word(words.get(3))?;
+    Some(Request::Run {
+        instructions,
+        program,
+        memory,
     })
 }

@@ -14,12 +14,18 @@ pub enum Status {
     InstructionsRefused,
     /// The kernel has a fault.
     KernelRefused,
+    /// The program file has a fault.
+    ProgramRefused,
     /// A file is not there.
     InputAbsent,
     /// A file could not be read.
     ReadFault,
     /// The answer could not be written, or only a part of it.
     WriteFault,
+    /// The words do not bind the parameters.
+    BindingsRefused,
+    /// The run made an access outside the memory.
+    Trap,
     /// A file is larger than its limit.
     TooLarge,
     /// There was no memory.
@@ -36,9 +42,12 @@ impl Status {
             Status::Usage => 2,
             Status::InstructionsRefused => 3,
             Status::KernelRefused => 4,
+            Status::ProgramRefused => 5,
             Status::InputAbsent => 6,
             Status::ReadFault => 7,
             Status::WriteFault => 8,
+            Status::BindingsRefused => 9,
+            Status::Trap => 10,
             Status::TooLarge => 11,
             Status::NoMemory => 12,
         }

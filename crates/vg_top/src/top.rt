@@ -14,6 +14,7 @@ use crate::compile::compile;
 use crate::ending::Ending;
 use crate::message::say;
 use crate::request::{Request, request_of};
+use crate::run::run;
 use crate::status::Status;
 use std::alloc::Global;
 use vg_outside::{Shelf, Sink, Words};
@@ -36,6 +37,13 @@ fn answer<S: Shelf>(alloc: Global, words: &Words, shelf: &mut S) -> Result<Vec<u
                 kernel,
             },
         ) => compile(alloc, shelf, instructions, kernel),
+        Some(
+            Request::Run {
+                instructions,
+                program,
+                memory,
+            },
+        ) => run(alloc, shelf, words, instructions, program, memory),
         None => Err(Ending::Usage),
     }
 }
@@ -88,6 +96,6 @@ pub fn vegen<S: Shelf, O: Sink, E: Sink>(
         },
         Err(ending) => ending,
     };
-    say(err, words, ending);
+    say(err, words, &ending);
     ending.status()
 }

@@ -1,4 +1,4 @@
-use Rattle.std.proofs.Common.{◌≡◌, ◌∙◌, subst, sym, ℕ}
+use Rattle.std.proofs.Common.{◌∙◌, subst, sym, ℕ}
 use Rattle.vg_top.specs.Files.{CountsFault}
 use Rattle.vg_top.proofs.compile.compile.Goals as goal
 

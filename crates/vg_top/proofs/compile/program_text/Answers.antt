@@ -1,4 +1,4 @@
-use Rattle.std.proofs.Common.{◌≡◌, refl}
+use Rattle.std.proofs.Common.{refl}
 use Rattle.vg_kernel.specs.Tree.{tree_of}
 use Rattle.vg_top.proofs.Answers.{answer_of}
 use Rattle.vg_top.proofs.compile.program_text.Goals as goal

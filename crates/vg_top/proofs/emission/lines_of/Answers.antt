@@ -1,4 +1,4 @@
-use Rattle.std.proofs.Common.{◌≡◌, ◌∙◌, sym, arith}
+use Rattle.std.proofs.Common.{◌∙◌, sym, arith}
 use Rattle.vg_top.proofs.Lines.{lines_of-step, lines_of-end}
 use Rattle.vg_top.proofs.emission.lines_of.Goals as goal
 

@@ -1,4 +1,4 @@
-use Rattle.std.proofs.Common.{◌≡◌, refl, sym, subst, Option, Some, None, ℕ, List}
+use Rattle.std.proofs.Common.{sym, subst, Option, Some, None, ℕ, List}
 use Rattle.std.specs.Option.{IfSome}
 use Rattle.vg_outside.specs.Shelf.{Held}
 use Rattle.vg_top.specs.declared.ending.Ending.{Ending}
