@@ -310,3 +310,24 @@ fn faults_of_the_outside_while_running(rt: HostRuntime) -> Result<(), Fail> {
         b"vegen: write fault\n",
     )
 }
+
+#[test]
+fn files_are_read_up_to_the_refused_one(rt: HostRuntime) -> Result<(), Fail> {
+    let cases: [(&[&str], Status, u64); 9] = [
+        (&["run", "-i", "p", "m"], Status::Usage, 0),
+        (&["run", "x", "p", "m"], Status::InputAbsent, 1),
+        (&["run", "m", "p", "m"], Status::InstructionsRefused, 1),
+        (&["run", "i", "x", "m"], Status::InputAbsent, 2),
+        (&["run", "i", "m", "x"], Status::ProgramRefused, 2),
+        (&["run", "i", "p", "x", "d=0"], Status::InputAbsent, 3),
+        (&["run", "i", "p", "m", "d=0"], Status::BindingsRefused, 3),
+        (&["compile", "i", "x"], Status::InputAbsent, 2),
+        (&["compile", "i", "p"], Status::KernelRefused, 2),
+    ];
+    for (words, status, reads) in &cases {
+        let mut desk = desk_with(rt.alloc(), PUT, &[0; 20])?;
+        assert!(rt; desk.run(words)? == *status);
+        assert_eq!(rt; desk.shelf.reads(), *reads);
+    }
+    Ok(())
+}

@@ -1,8 +1,5 @@
 //! Known widths, orders and copies of small terms, worked out by hand.
 
-ghost use Rattle.std.specs.Prelude.{◌≡◌, ◌⊎◌, IfOk, Some};
-ghost use Rattle.vg_terms.specs.Term.{WellFormed, tree};
-
 use super::*;
 use std::alloc::{AllocError, Global};
 use std::cmp::Ordering;
@@ -253,47 +250,5 @@ fn ill_formed_terms_are_told(rt: HostRuntime) -> Result<(), Fail> {
     for t in rows {
         assert!(rt; !t.is_well_formed());
     }
-    Ok(())
-}
-
-// A table without rows.
-struct NoRows;
-
-impl Rule for NoRows {
-    ghost use Rattle.std.specs.Prelude.{None};
-
-    ghost first_row = { λ _ _. None };
-
-    ghost keeps = { λ rule old new formed applied. absurd (Prim.cc) };
-
-    ghost falls = { λ rule old new formed applied. absurd (Prim.cc) };
-
-    fn applies(&self, _t: &Term) -> bool {
-        false
-    }
-
-    fn apply(&self, _alloc: Global, t: Term) -> Result<Term, AllocError> {
-        Ok(t)
-    }
-}
-
-// Rewrites a term once where a row applies.
-fn rewritten<R: Rule>(rule: &R, alloc: Global, t: Term) -> Result<Term, AllocError>
-    requires { WellFormed (tree t) }
-    ensures { IfOk result (λ new. (new ≡ t) ⊎ (R.first_row rule.now (tree t) ≡ Some (tree new))) }
-{
-    if rule.applies(&t) {
-        rule.apply(alloc, t)
-    } else {
-        Ok(t)
-    }
-}
-
-#[test]
-fn a_rule_is_used_through_its_bound(rt: HostRuntime) -> Result<(), Fail> {
-    let t = leaf(8, 3);
-    assert!(rt; t.is_well_formed());
-    let new = rewritten(&NoRows, rt.alloc(), t)?;
-    assert_eq!(rt; new.key_cmp(&leaf(8, 3)), Ordering::Equal);
     Ok(())
 }

@@ -6,6 +6,7 @@ pub mod Ending
 pub mod Files
 pub mod Line
 pub mod Request
+pub mod Reads
 pub mod Run
 pub mod Status
 pub mod Verdict

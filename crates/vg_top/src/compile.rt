@@ -3,6 +3,7 @@
 ghost use Rattle.std.specs.Prelude.{◌≡◌, ◌≤◌, ℕ, IfSome, IfErr};
 ghost use Rattle.vg_kernel.specs.Reader.{kernel_of};
 ghost use Rattle.vg_top.specs.Files.{Tells, CountsAbsence, CountsFault, IsOfWork};
+ghost use Rattle.vg_top.specs.Reads.{IsReadCount, Reads, ending_of};
 ghost use Rattle.vg_top.specs.Compile.{compiled, kernel_or_refusal, Answers};
 
 use crate::emission::program_of;
@@ -20,7 +21,8 @@ const KERNEL_LIMIT: u64 = 262_144;
 fn program_text(alloc: Global, text: &[u8]) -> Result<Vec<u8>, Ending>
     ensures work { IfErr result IsOfWork }
     ensures told { Tells Answers result (kernel_or_refusal (kernel_of text.now)) }
-    // It reads no file.
+    // It reads no file: both were read.
+    ensures read { IsReadCount 2 2 (ending_of result) }
     ensures absence { (count : ℕ) → CountsAbsence count count result }
     ensures fault { (count : ℕ) → CountsFault count count result }
 {
@@ -48,6 +50,7 @@ pub fn compile<S: Shelf>(
     ensures keeps { S.holds shelf.new ≡ S.holds shelf.old }
     ensures work { IfErr result IsOfWork }
     ensures told { IfSome (S.holds shelf.old) (λ held. Tells Answers result (compiled held instructions.now kernel.now)) }
+    ensures read { Reads 2 (S.reads shelf.old) (S.reads shelf.new) (ending_of result) }
     ensures absence { CountsAbsence (S.absents shelf.old) (S.absents shelf.new) result }
     ensures fault { CountsFault (S.faults shelf.old) (S.faults shelf.new) result }
     ensures absents_never_fall { S.absents shelf.old ≤ S.absents shelf.new }

@@ -1,7 +1,8 @@
 //! Reads the files of a request.
 
-ghost use Rattle.std.specs.Prelude.{◌≡◌, ◌+◌, ◌<◌, ◌≤◌, ◌^◌, IfSome, IfOk, IfErr, vec_len};
+ghost use Rattle.std.specs.Prelude.{◌≡◌, ◌+◌, ◌<◌, ◌≤◌, ◌^◌, ℕ, Some, IfSome, IfOk, IfErr, vec_len};
 ghost use Rattle.vg_outside.specs.Shelf.{CountsRead};
+ghost use Rattle.vg_top.specs.Reads.{IsReadCount};
 ghost use Rattle.vg_top.specs.Files.{file_of, Tells, AreBytes, CountsAbsence, CountsFault, IsOfWork};
 
 use crate::ending::{Ending, FileNumber};
@@ -23,6 +24,8 @@ pub fn fetch<S: Shelf>(
     ensures keeps { S.holds shelf.new ≡ S.holds shelf.old }
     ensures counted { CountsRead (S.reads shelf.old) (S.reads shelf.new) }
     ensures told { IfSome (S.holds shelf.old) (λ held. Tells AreBytes result (file_of held number name.now limit)) }
+    // A refusal names this file as the last one read.
+    ensures numbered { (files : ℕ) → 1 ≤ number.0 → number.0 ≤ files → IfErr result (λ e. IsReadCount files number.0 (Some e)) }
     ensures work { IfErr result IsOfWork }
     ensures small { IfOk result (λ bytes. vec_len bytes ≤ limit) }
     ensures absence { CountsAbsence (S.absents shelf.old) (S.absents shelf.new) result }

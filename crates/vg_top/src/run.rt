@@ -1,8 +1,9 @@
 //! The command `run`.
 
-ghost use Rattle.std.specs.Prelude.{◌≡◌, ◌≤◌, ℕ, IfSome, IfErr, drop, Ok};
+ghost use Rattle.std.specs.Prelude.{◌≡◌, ◌≤◌, ℕ, Some, IfSome, IfErr, drop, Ok};
 ghost use Rattle.vg_program.specs.Faults.{read};
 ghost use Rattle.vg_top.specs.Files.{Tells, CountsAbsence, CountsFault, IsOfWork};
+ghost use Rattle.vg_top.specs.Reads.{IsReadCount, Reads, ending_of};
 ghost use Rattle.vg_top.specs.Binding.{bindings_in};
 ghost use Rattle.vg_top.specs.Run.{ran, ran_on, program_or_refusal, AreLeft, IsProgram};
 
@@ -27,7 +28,8 @@ const FIRST_BINDING: usize = 4;
 fn program_of_text(alloc: Global, text: &[u8]) -> Result<Program, Ending>
     ensures work { IfErr result IsOfWork }
     ensures told { Tells IsProgram result (program_or_refusal (read text.now)) }
-    // It reads no file.
+    // It reads no file: two were read.
+    ensures read { IfErr result (λ e. IsReadCount 3 2 (Some e)) }
     ensures absence { (count : ℕ) → CountsAbsence count count result }
     ensures fault { (count : ℕ) → CountsFault count count result }
 {
@@ -47,7 +49,8 @@ fn run_on(
 ) -> Result<Vec<u8>, Ending>
     ensures work { IfErr result IsOfWork }
     ensures told { Tells AreLeft result (ran_on (bindings_in (drop 4 words.now)) program.now memory.items) }
-    // It reads no file.
+    // It reads no file: all three were read.
+    ensures read { IsReadCount 3 3 (ending_of result) }
     ensures absence { (count : ℕ) → CountsAbsence count count result }
     ensures fault { (count : ℕ) → CountsFault count count result }
 {
@@ -87,6 +90,7 @@ pub fn run<S: Shelf>(
     ensures keeps { S.holds shelf.new ≡ S.holds shelf.old }
     ensures work { IfErr result IsOfWork }
     ensures told { IfSome (S.holds shelf.old) (λ held. Tells AreLeft result (ran held instructions.now program.now memory.now (bindings_in (drop 4 words.now)))) }
+    ensures read { Reads 3 (S.reads shelf.old) (S.reads shelf.new) (ending_of result) }
     ensures absence { CountsAbsence (S.absents shelf.old) (S.absents shelf.new) result }
     ensures fault { CountsFault (S.faults shelf.old) (S.faults shelf.new) result }
     ensures absents_never_fall { S.absents shelf.old ≤ S.absents shelf.new }

@@ -9,6 +9,7 @@ ghost use Rattle.vg_top.specs.Request.{request_of};
 ghost use Rattle.vg_top.specs.Files.{Tells, CountsAbsence, CountsFault};
 ghost use Rattle.vg_top.specs.Verdict.{verdict, VecAnswers, IsAnswered, Ends, EndsWell, status_from, line_from, EndedBy};
 ghost use Rattle.vg_top.specs.Line.{Says};
+ghost use Rattle.vg_top.specs.Reads.{Reads, files_of, ending_of};
 
 use crate::compile::compile;
 use crate::ending::Ending;
@@ -25,6 +26,7 @@ fn answer<S: Shelf>(alloc: Global, words: &Words, shelf: &mut S) -> Result<Vec<u
     ensures usage { (result ≡ Err Usage) ↔ (request_of words.now ≡ None) }
     ensures unwritten { result ≢ Err WriteFault }
     ensures told { IfSome (S.holds shelf.old) (λ held. Tells VecAnswers result (verdict held words.now)) }
+    ensures read { Reads (files_of (request_of words.now)) (S.reads shelf.old) (S.reads shelf.new) (ending_of result) }
     ensures absence { CountsAbsence (S.absents shelf.old) (S.absents shelf.new) result }
     ensures fault { CountsFault (S.faults shelf.old) (S.faults shelf.new) result }
     ensures absents_never_fall { S.absents shelf.old ≤ S.absents shelf.new }
@@ -82,10 +84,11 @@ pub fn vegen<S: Shelf, O: Sink, E: Sink>(
         → O.faults out.new ≡ O.faults out.old → O.faults out.old < 2 ^ 64 - 1
         → IfSome (S.holds shelf.old) (λ held. EndsWell result (verdict held words.now)) }
 
-    // The line tells of the ending, with the word of the file that was refused.
+    // The line tells of the ending, with the word of the file that was refused; this was the last one that was read.
     ensures said { (ending : Option Ending) × (status_from ending ≡ result)
         × Says (E.written err.old) (E.faults err.old) (line_from words.now ending) (E.written err.new) (E.faults err.new)
-        × IfSome (S.holds shelf.old) (λ held. EndedBy ending (verdict held words.now)) }
+        × IfSome (S.holds shelf.old) (λ held. EndedBy ending (verdict held words.now))
+        × Reads (files_of (request_of words.now)) (S.reads shelf.old) (S.reads shelf.new) ending }
 
     ensures keeps { S.holds shelf.new ≡ S.holds shelf.old }
 {

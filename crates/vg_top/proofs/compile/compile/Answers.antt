@@ -1,5 +1,7 @@
-use Rattle.std.proofs.Common.{◌∙◌, subst, sym, ℕ}
+use Rattle.std.proofs.Common.{◌∙◌, subst, sym, ℕ, arith}
+use Rattle.std.proofs.lemmas.Result.{err_from_is_err_and}
 use Rattle.vg_top.specs.Files.{CountsFault}
+use Rattle.vg_top.proofs.ReadCounts.{one_read, one_more}
 use Rattle.vg_top.proofs.compile.compile.Goals as goal
 
 pub returns-clause-fault : goal.returns-clause-fault
@@ -7,3 +9,28 @@ returns-clause-fault g c =
     let faults = g.S.Shelf.faults in
     let kept = c.in_ok-text.ensures.fault ∙ c.in_ok-file.ensures.fault in
     subst (λ (n : ℕ). CountsFault (faults c.args.shelf.now) n c.program_text.result) (sym kept) (c.program_text.ensures.fault (faults c.args.shelf.now))
+
+-- the reads up to an exit
+pub returns-in_err-file-clause-read : goal.returns-in_err-file-clause-read
+returns-in_err-file-clause-read g c =
+    let reads = g.S.Shelf.reads in
+    let result = c.from_residual.result in
+    let same = err_from_is_err_and result c.from_residual.ensures.1 in
+    let one = one_read (reads c.args.shelf.now) (reads c.fetch.new.shelf) c.fetch.ensures.counted in
+    rw (same.1, same.2) (1, c.in_err-file.ensures.numbered 2 (omega arith) (omega arith), one)
+
+pub returns-in_err-text-clause-read : goal.returns-in_err-text-clause-read
+returns-in_err-text-clause-read g c =
+    let reads = g.S.Shelf.reads in
+    let result = c.from_residual-in_err-text.result in
+    let same = err_from_is_err_and result c.from_residual-in_err-text.ensures.1 in
+    let one = one_read (reads c.args.shelf.now) (reads c.fetch.new.shelf) c.fetch.ensures.counted in
+    let two = one_more 1 (reads c.args.shelf.now) (reads c.fetch.new.shelf) (reads c.fetch-2.new.shelf) (omega arith) one c.fetch-2.ensures.counted in
+    rw (same.1, same.2) (2, c.in_err-text.ensures.numbered 2 (omega arith) (omega arith), two)
+
+pub returns-clause-read : goal.returns-clause-read
+returns-clause-read g c =
+    let reads = g.S.Shelf.reads in
+    let one = one_read (reads c.args.shelf.now) (reads c.fetch.new.shelf) c.fetch.ensures.counted in
+    let two = one_more 1 (reads c.args.shelf.now) (reads c.fetch.new.shelf) (reads c.fetch-2.new.shelf) (omega arith) one c.fetch-2.ensures.counted in
+    (2, c.program_text.ensures.read, two)
