@@ -6,4 +6,6 @@ mod compile_cases;
 #[cfg(test)]
 mod desk;
 #[cfg(test)]
+mod program_cases;
+#[cfg(test)]
 mod run_cases;
