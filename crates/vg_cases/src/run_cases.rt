@@ -193,8 +193,8 @@ fn programs_with_tokens_and_shapes_that_are_refused(rt: HostRuntime) -> Result<(
 }
 
 #[test]
-fn programs_with_operands_and_numbers_that_are_refused(rt: HostRuntime) -> Result<(), Fail> {
-    let cases: [(&[u8], &[u8]); 19] = [
+fn programs_with_operands_that_are_refused(rt: HostRuntime) -> Result<(), Fail> {
+    let cases: [(&[u8], &[u8]); 9] = [
         (
             b"program p(d: ptr)\nstore d+0 %s0\n",
             b"4 UnknownRegister at 2:11",
@@ -232,6 +232,16 @@ fn programs_with_operands_and_numbers_that_are_refused(rt: HostRuntime) -> Resul
             b"program p(k: i16)\n%s0:i16 = add 256i8 k\n",
             b"5 WidthMismatch at 2:15",
         ),
+    ];
+    for (program, said) in &cases {
+        refused(&rt, program, said)?;
+    }
+    Ok(())
+}
+
+#[test]
+fn programs_with_numbers_that_are_refused(rt: HostRuntime) -> Result<(), Fail> {
+    let cases: [(&[u8], &[u8]); 10] = [
         (
             b"program p()\nend cost 1 scalar 0\n",
             b"6 CostWrong 1 0 at 2:10",
