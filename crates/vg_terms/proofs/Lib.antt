@@ -7,6 +7,7 @@ pub mod Forms
 pub mod Measures
 pub mod Narrow
 pub mod Orders
+pub mod Resizing
 pub mod Shifts
 pub mod Signed
 pub mod Signs
@@ -14,3 +15,4 @@ pub mod Totals
 pub mod SortChain
 pub mod Sorting
 pub mod Soundness
+pub mod Tables

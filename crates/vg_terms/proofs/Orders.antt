@@ -1,11 +1,11 @@
 -- The order of terms: comparing node by node is comparing lists, the order is total, and equal is the same.
-use Rattle.std.proofs.Common.{◌≡◌, ℕ, List, [], ◌∷◌, ◌++◌, refl, sym, ap, ◌∙◌, arith, append_assoc, append-nil}
+use Rattle.std.proofs.Common.{◌≡◌, ℕ, List, [], ◌∷◌, ◌++◌, refl, sym, ap, ◌∙◌, ◌↔◌, subst, arith, append_assoc, append-nil}
 use Rattle.std.specs.declared.cmp.Ordering.{Ordering}
 use Rattle.std.specs.declared.cmp.Ordering.TheVariants.{Less, Equal, Greater}
-use Rattle.std.specs.Ordering.{nat_cmp, int_cmp, ordering_then}
+use Rattle.std.specs.Ordering.{is_eq, nat_cmp, int_cmp, ordering_then, ordering_reverse}
 use Rattle.std.specs.Cmp.{IsTotalOrder}
 use Rattle.std.specs.Cmp.Lexicographic.{slice_cmp}
-use Rattle.std.specs.Prelude.{ℤ, nat_eq, nat_lt, if◌then◌else◌}
+use Rattle.std.specs.Prelude.{ℤ, true, nat_eq, nat_lt, if◌then◌else◌}
 use Rattle.std.proofs.lemmas.Cmp.{ranked, int_ranked, nat_cmp_total, int_cmp_total, then_total, on_total, lists_total}
 use Rattle.vg_terms.specs.declared.term.LeafKey.{LeafKey}
 use Rattle.vg_terms.specs.declared.term.OneOp.{OneOp}
@@ -13,7 +13,7 @@ use Rattle.vg_terms.specs.declared.term.OneOp.TheVariants.{Zext, Sext, Trunc, Ls
 use Rattle.vg_terms.specs.declared.term.TwoOp.{TwoOp}
 use Rattle.vg_terms.specs.declared.term.TwoOp.TheVariants.{Add, Mul, And, Or, Xor, Smin, Smax, Umin, Umax, Eq, Slt, Ult, Cat}
 use Rattle.vg_terms.specs.Term.{Tree, leaf, constant, one, two, sel, width_of}
-use Rattle.vg_terms.specs.Order.{one_tag, two_tag, tag_of, extra_of, Node, node_of, shape, keys, node_cmp, leaf_cmp, order, below_cmp, shapes_cmp, leaves_cmp}
+use Rattle.vg_terms.specs.Order.{one_tag, two_tag, tag_of, extra_of, Node, node_of, shape, keys, node_cmp, leaf_cmp, order, is_same_term, below_cmp, shapes_cmp, leaves_cmp}
 
 then_assoc : (a b c : Ordering) → ordering_then (ordering_then a b) c ≡ ordering_then a (ordering_then b c)
 then_assoc Less b c = refl
@@ -275,3 +275,20 @@ order-equal t u e =
     let p = then-equal (slice_cmp node_cmp (shape t) (shape u)) (slice_cmp leaf_cmp (keys t) (keys u)) e in
     let s = sym (order-shapes t u) ∙ p.0 in
     same_from_walks t u s (sym (order-leaves t u s) ∙ e)
+
+tied : (o : Ordering) → is_eq o ≡ true → o ≡ Equal
+tied Less h = absurd (cc)
+tied Equal h = refl
+tied Greater h = absurd (cc)
+
+pub same_term : (t u : Tree) → is_same_term t u ≡ true → t ≡ u
+same_term t u h = order-equal t u (tied (order t u) h)
+
+own_reverse : (o : Ordering) → o ≡ ordering_reverse o → o ≡ Equal
+own_reverse Less e = absurd (cc)
+own_reverse Equal e = refl
+own_reverse Greater e = absurd (cc)
+
+pub same_term-means : (t u : Tree) → (is_same_term t u ≡ true) ↔ (t ≡ u)
+same_term-means t u =
+    (same_term t u, λ e. subst (λ v. is_same_term t v ≡ true) e (ap is_eq (own_reverse (order t t) (order_total.antisymm t t))))

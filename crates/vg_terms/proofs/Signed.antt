@@ -208,3 +208,10 @@ magnitude-mul_pos x v m n p q =
     let whole : m * ((n - 1) + 1) ≡ m * n = ap (λ k. m * k) e in
     let less : m * (n - 1) < m * n = omega arith in
     omega (arith, magnitude-le (x *ℤ pos v), distance-mul x (pos v), mul-le (distance x) v m (n - 1) dx dv)
+
+-- an extension by the sign of one by the sign
+pub extend-extend : (w m n v : ℕ) → 0 < n → n < m → v < 2 ^ n → residue w (signed_at m (residue m (signed_at n v))) ≡ residue w (signed_at n v)
+extend-extend w m n v h l b =
+    let some : 0 < m = omega arith in
+    let less : n - 1 ≤ m - 1 = omega arith in
+    ap (residue w) (signed-residue m (signed_at n v) some (below_wider (magnitude (signed_at n v)) (n - 1) (m - 1) (signed-within n v h b) less))

@@ -47,13 +47,16 @@ lifted-same w a b h p q e =
       | inr ga ↦ elim (cases_lt b H) [ inl lb ↦ absurd (omega (arith, lifted-high w a ga, lifted-low w b lb)) | inr gb ↦ omega (arith, lifted-high w a ga, lifted-high w b gb) ]
     ]
 
+-- the lesser and the greater of two numbers by a test
+pub lesser_of : (a b : ℕ) → min a b ≡ (if nat_lt a b then a else b)
+lesser_of a b = elim (cases_lt a b) [ inl l ↦ omega arith ∙ sym (cond-true _ _ _ (lt-ltb a b l)) | inr g ↦ omega arith ∙ sym (cond-false _ _ _ (le-ltb a b g)) ]
+
+pub greater_of : (a b : ℕ) → max a b ≡ (if nat_lt a b then b else a)
+greater_of a b = elim (cases_lt a b) [ inl l ↦ omega arith ∙ sym (cond-true _ _ _ (lt-ltb a b l)) | inr g ↦ omega arith ∙ sym (cond-false _ _ _ (le-ltb a b g)) ]
+
 -- below half a signed least is an unsigned least
 pub least-low : (w a b : ℕ) → a < 2 ^ (w - 1) → b < 2 ^ (w - 1) → (if int_lt (signed_at w a) (signed_at w b) then a else b) ≡ min a b
-least-low w a b p q =
-    ap (λ t. if t then a else b) (signed_less-low w a b p q)
-    ∙ elim (cases_lt a b) [ inl l ↦ cond-true _ _ _ (lt-ltb a b l) ∙ omega arith | inr g ↦ cond-false _ _ _ (le-ltb a b g) ∙ omega arith ]
+least-low w a b p q = ap (λ t. if t then a else b) (signed_less-low w a b p q) ∙ sym (lesser_of a b)
 
 pub greatest-low : (w a b : ℕ) → a < 2 ^ (w - 1) → b < 2 ^ (w - 1) → (if int_lt (signed_at w a) (signed_at w b) then b else a) ≡ max a b
-greatest-low w a b p q =
-    ap (λ t. if t then b else a) (signed_less-low w a b p q)
-    ∙ elim (cases_lt a b) [ inl l ↦ cond-true _ _ _ (lt-ltb a b l) ∙ omega arith | inr g ↦ cond-false _ _ _ (le-ltb a b g) ∙ omega arith ]
+greatest-low w a b p q = ap (λ t. if t then b else a) (signed_less-low w a b p q) ∙ sym (greater_of a b)

@@ -1,5 +1,5 @@
 -- The known widths of a term are true in every environment: each row is true for any true widths of the children.
-use Rattle.std.proofs.Common.{◌≡◌, ℕ, ◌+◌, ◌-◌, ◌*◌, ◌/◌, ◌%◌, ◌^◌, ◌<◌, ◌≤◌, Bool, refl, sym, ap, ◌∙◌, subst, arith, mul_comm, add_comm}
+use Rattle.std.proofs.Common.{◌≡◌, ℕ, ◌+◌, ◌-◌, ◌*◌, ◌/◌, ◌%◌, ◌^◌, ◌<◌, ◌≤◌, Bool, [], refl, sym, ap, ◌∙◌, subst, arith, mul_comm, add_comm}
 use Rattle.std.specs.Prelude.{ℤ, pos, negsuc, ◌+ℤ◌, ◌*ℤ◌, min, max, nat_lt, nat_eq, int_lt, if◌then◌else◌, bit_and, bit_or, bit_xor}
 use Rattle.std.proofs.lemmas.Bool.{ltb-true, cond_both}
 use Rattle.std.proofs.lemmas.Nat.{pow-add, mul-lt, and_le_l, and_le_r, or_lt, xor_lt, pow_below, leading_length}
@@ -303,6 +303,9 @@ known-holds env (sel w c x y) h =
     cut-known w (value env (sel w c x y)) _ h.0.0 (value-below env (sel w c x y) h) (either_known (nat_eq (value env c) 1) w (value env x) (value env y) (known x) (known y) first second)
 
 -- and they are at most the width
+pub known_some : (t : Tree) → WellFormed t → (0 < (known t).unsigned) × (0 < (known t).signed)
+known_some t h = let holds = known-holds (record { pairs = [] }) t h in (holds.some_unsigned, holds.some_signed)
+
 pub known_unsigned : (t : Tree) → (known t).unsigned ≤ width_of t
 known_unsigned (leaf w k) = omega arith
 known_unsigned (constant w v) = omega arith

@@ -2,7 +2,9 @@ pub mod Chain
 pub mod Known
 pub mod Measure
 pub mod Order
+pub mod Resize
 pub mod Rule
+pub mod Table
 pub mod Term
 pub mod Text
 pub mod Value

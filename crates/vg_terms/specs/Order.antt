@@ -1,8 +1,8 @@
 -- The order of terms: by shape, then by leaf keys, both compared as lists.
-use Rattle.std.specs.Prelude.{ℕ, List, [], ◌∷◌, ◌++◌}
+use Rattle.std.specs.Prelude.{ℕ, Bool, List, [], ◌∷◌, ◌++◌}
 use Rattle.std.specs.declared.cmp.Ordering.{Ordering}
 use Rattle.std.specs.declared.cmp.Ordering.TheVariants.{Equal}
-use Rattle.std.specs.Ordering.{nat_cmp, int_cmp, ordering_then}
+use Rattle.std.specs.Ordering.{is_eq, nat_cmp, int_cmp, ordering_then}
 use Rattle.std.specs.Cmp.Lexicographic.{slice_cmp}
 use Rattle.vg_terms.specs.declared.term.LeafKey.{LeafKey}
 use Rattle.vg_terms.specs.declared.term.OneOp.{OneOp}
@@ -82,6 +82,10 @@ leaf_cmp k l =
 
 abbrev pub order : Tree → Tree → Ordering
 order t u = ordering_then (slice_cmp node_cmp (shape t) (shape u)) (slice_cmp leaf_cmp (keys t) (keys u))
+
+-- the two terms are one and the same
+abbrev pub is_same_term : Tree → Tree → Bool
+is_same_term t u = is_eq (order t u)
 
 -- two shapes compared node by node, without their lists: what is below two nodes that compare as equal
 abbrev pub below_cmp : Tree → Tree → Ordering

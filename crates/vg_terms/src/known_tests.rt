@@ -252,3 +252,14 @@ fn ill_formed_terms_are_told(rt: HostRuntime) -> Result<(), Fail> {
     }
     Ok(())
 }
+
+#[test]
+fn the_low_bits_of_a_term_are_itself_or_a_truncation(rt: HostRuntime) -> Result<(), Fail> {
+    let alloc = rt.alloc();
+    let same = low_part(alloc, 8, leaf(8, 0))?;
+    assert_eq!(rt; same.key_cmp(&leaf(8, 0)), Ordering::Equal);
+    let cut = low_part(alloc, 7, leaf(8, 0))?;
+    let want = make_one(alloc, OneOp::Trunc, 7, 0, leaf(8, 0))?;
+    assert_eq!(rt; cut.key_cmp(&want), Ordering::Equal);
+    Ok(())
+}

@@ -10,6 +10,7 @@ mod known_tests;
 pub mod measure;
 pub mod order;
 pub mod print;
+pub mod resize;
 pub mod rule;
 pub mod term;
 #[cfg(test)]
@@ -19,6 +20,7 @@ pub mod value;
 
 pub use order::order_is_total;
 pub use print::print_term;
+pub use resize::{low_part, low_two};
 pub use rule::Rule;
 pub use term::{LeafKey, OneOp, Term, TwoOp, make_const, make_leaf, make_one, make_sel, make_two};
 pub use text::Names;

@@ -1,8 +1,8 @@
 //! The order of terms.
 
-ghost use Rattle.std.specs.Prelude.{◌≡◌};
+ghost use Rattle.std.specs.Prelude.{◌≡◌, ◌↔◌, IsTrue};
 ghost use Rattle.std.specs.Cmp.{IsTotalOrder};
-ghost use Rattle.vg_terms.specs.Order.{below_cmp, extra_of, leaf_cmp, leaves_cmp, node_cmp, node_of, one_tag, order, shapes_cmp, tag_of, two_tag};
+ghost use Rattle.vg_terms.specs.Order.{below_cmp, extra_of, is_same_term, leaf_cmp, leaves_cmp, node_cmp, node_of, one_tag, order, shapes_cmp, tag_of, two_tag};
 ghost use Rattle.vg_terms.specs.Term.{tree};
 
 use crate::term::{LeafKey, OneOp, Term, TwoOp};
@@ -58,6 +58,14 @@ impl Term {
             Ordering::Equal => compare_leaves(self, other),
             unequal => unequal,
         }
+    }
+
+    /// Whether the two are one and the same term.
+    pub fn is_same(&self, other: &Term) -> bool
+        ensures is { result ≡ is_same_term (tree self.now) (tree other.now) }
+        ensures means { IsTrue result ↔ (tree self.now ≡ tree other.now) }
+    {
+        self.key_cmp(other).is_eq()
     }
 
     // The place of the term's operation in the order: 0 for a leaf, 20 for a constant.

@@ -30,3 +30,18 @@ pub trait Rule {
 
     ghost falls: { (rule : Self) (old new : Tree) → WellFormed old → first_row rule old ≡ Some new → Falls old new };
 }
+
+/// Whether some row of a table applies to a term. A table is a list of `test => row`, each the name of a
+/// function; the crate that has the rows opens it by this macro and the next, so that a row stands once.
+#[macro_export]
+macro_rules! some_row {
+    (($t:expr) $($test:ident => $row:ident,)*) => { $(if $test($t) { true } else)* { false } };
+}
+
+/// What the first row of such a table whose test holds makes of the term.
+#[macro_export]
+macro_rules! first_row {
+    (($alloc:expr, $t:expr) $($test:ident => $row:ident,)*) => {
+        $(if $test(&$t) { $row($alloc, $t) } else)* { Ok($t) }
+    };
+}

@@ -1,0 +1,11 @@
+//! Canonical terms: the rules for sums, widths and choices, applied from the leaves up for as long as one
+//! applies.
+#![tactic(auto)]
+
+mod canonical_form;
+mod step;
+#[cfg(test)]
+mod tests;
+mod walk;
+
+pub use canonical_form::{canon, canon_root};

@@ -1,0 +1,12 @@
+//! The rules for choices: selections that are decided, or that take the lesser or the greater side of
+//! their condition; and least, greatest and comparisons in more bits than their operands need.
+#![tactic(auto)]
+
+mod choice_rules;
+mod narrowing;
+mod selections;
+mod stretch;
+#[cfg(test)]
+mod tests;
+
+pub use choice_rules::ChoiceRules;

@@ -1,0 +1,12 @@
+//! The rules for sums: constants are folded and merged, chains are put in order, and operations that
+//! change nothing, or whose result is known, go.
+#![tactic(auto)]
+
+mod chain;
+mod constant;
+mod rows;
+mod sum_rules;
+#[cfg(test)]
+mod tests;
+
+pub use sum_rules::SumRules;

@@ -1,0 +1,13 @@
+//! The rules for widths: truncations move towards the leaves, and operations are made as narrow as the
+//! known widths of their operands allow.
+#![tactic(auto)]
+
+mod narrowing;
+mod pairs;
+mod shifts;
+#[cfg(test)]
+mod tests;
+mod truncations;
+mod width_rules;
+
+pub use width_rules::WidthRules;
