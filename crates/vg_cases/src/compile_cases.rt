@@ -11,7 +11,7 @@ const COPY_TEXT: &[u8] =
 
 #[test]
 fn kernels_and_their_programs(rt: HostRuntime) -> Result<(), Fail> {
-    let cases: [(&[u8], &[u8]); 5] = [
+    let cases: [(&[u8], &[u8]); 9] = [
         (COPY, COPY_TEXT),
         (
             b"kernel none() { }",
@@ -28,6 +28,24 @@ fn kernels_and_their_programs(rt: HostRuntime) -> Result<(), Fail> {
         (
             b"kernel far(d: ptr) {\n  // both ends of the offsets\n  store8(d - 2147483648, load8(d + 2147483647));\n  store64(d - 1, load64(d - 0));\n}\n",
             b"program far(d: ptr)\n%s0:i8 = load d+2147483647\nstore d-2147483648 %s0\n%s1:i64 = load d+0\nstore d-1 %s1\nend cost 4 scalar 4\n",
+        ),
+        // A load that nothing uses stays.
+        (
+            b"kernel dead(p: ptr) { x = load8(p + 4); }",
+            b"program dead(p: ptr)\n%s0:i8 = load p+4\nend cost 1 scalar 1\n",
+        ),
+        (
+            b"kernel lap(d: ptr) { store32(d + 0, 67305985i32); store32(d + 2, 134678021i32); }",
+            b"program lap(d: ptr)\nstore d+0 67305985i32\nstore d+2 134678021i32\nend cost 2 scalar 2\n",
+        ),
+        // Operands from left to right; a name of an argument or of a literal is that.
+        (
+            b"kernel names(d: ptr, n: i32) { a = n; b = -1i32; c = a + b; store32(d, load32(d) - (c * load32(d + 4))); }",
+            b"program names(d: ptr, n: i32)\n%s0:i32 = add n 4294967295i32\n%s1:i32 = load d+0\n%s2:i32 = load d+4\n%s3:i32 = mul %s0 %s2\n%s4:i32 = sub %s1 %s3\nstore d+0 %s4\nend cost 6 scalar 6\n",
+        ),
+        (
+            b"kernel each(d: ptr, k: i8, n: i32) { c = slt(n, -1i32); store8(d + 0, select(c, trunc8(shl(n, 31)), k)); a = load8(d + 1); store32(d + 2, zext32(a) - (n * 3i32)); }",
+            b"program each(d: ptr, k: i8, n: i32)\n%s0:i1 = slt n 4294967295i32\n%s1:i32 = shl n 31\n%s2:i8 = trunc %s1\n%s3:i8 = select %s0 %s2 k\nstore d+0 %s3\n%s4:i8 = load d+1\n%s5:i32 = zext %s4\n%s6:i32 = mul n 3i32\n%s7:i32 = sub %s5 %s6\nstore d+2 %s7\nend cost 10 scalar 10\n",
         ),
     ];
     for (kernel, text) in &cases {
@@ -57,23 +75,51 @@ fn words_that_are_no_request_read_nothing(rt: HostRuntime) -> Result<(), Fail> {
 
 #[test]
 fn kernels_that_are_refused(rt: HostRuntime) -> Result<(), Fail> {
-    let cases: [&[u8]; 6] = [
-        b"",
-        b"kernel bad(d: ptr) { store8(d, load16(d)); }",
-        b"kernel bad(d: ptr) { store8(e, load8(d)); }",
-        b"kernel bad(d: ptr) { store8(d + 2147483648, load8(d)); }",
-        b"kernel bad(d: ptr) { } more",
-        b"kernel bad(d: ptr, d: ptr) { }",
+    let cases: [(&[u8], &[u8]); 9] = [
+        (b"", b"2 Shape at 1:1"),
+        (
+            b"kernel bad(d: ptr) { store8(d + 0, 1i8 \x80 2i8); }",
+            b"1 Token at 1:40",
+        ),
+        (b"kernel bad(d: ptr) { } more", b"2 Shape at 1:24"),
+        (
+            b"kernel bad(d: ptr) { store8(e, load8(d)); }",
+            b"3 UnknownName at 1:29",
+        ),
+        (
+            b"kernel bad(d: ptr, d: ptr) { }",
+            b"4 DuplicateName at 1:20",
+        ),
+        (
+            b"kernel bad(d: ptr) { store8(d + 0, 1i16 + 2i8); }",
+            b"5 WidthMismatch at 1:41",
+        ),
+        (
+            b"kernel bad(d: ptr) { store8(d + 0, 256i8); }",
+            b"6 LiteralRange at 1:36",
+        ),
+        (
+            b"kernel bad(d: ptr) { store8(d + 2147483648, load8(d)); }",
+            b"6 LiteralRange at 1:33",
+        ),
+        (
+            b"kernel bad(d: ptr) { x = shl(load8(d), 8); }",
+            b"7 ShiftRange at 1:40",
+        ),
     ];
-    for kernel in &cases {
+    for (kernel, said) in &cases {
+        let mut line = Vec::from_slice(rt.alloc(), b"vegen: kernel: ")?;
+        line.extend_from_slice(said)?;
+        line.push(b'\n')?;
         let mut desk = Desk::with_kernel(rt.alloc(), kernel)?;
         desk.expect(
             &rt,
             &["compile", "i", "k"],
             Status::KernelRefused,
             b"",
-            b"vegen: kernel: 0 NotYet at 1:1\n",
+            line.as_slice(),
         )?;
+        assert_eq!(rt; desk.shelf.reads(), 2);
     }
     Ok(())
 }
@@ -135,11 +181,11 @@ fn a_file_that_is_not_there_is_named(rt: HostRuntime) -> Result<(), Fail> {
     )
 }
 
-/// A kernel of so many copies of a byte.
-fn copies(rt: &HostRuntime, count: usize) -> Result<Vec<u8>, Fail> {
+/// A kernel of so many statements of one text.
+fn repeated(rt: &HostRuntime, statement: &[u8], count: usize) -> Result<Vec<u8>, Fail> {
     let mut text = Vec::from_slice(rt.alloc(), b"kernel many(d: ptr) {")?;
     for _ in 0..count {
-        text.extend_from_slice(b"store8(d, load8(d));")?;
+        text.extend_from_slice(statement)?;
     }
     text.extend_from_slice(b"}")?;
     Ok(text)
@@ -147,15 +193,33 @@ fn copies(rt: &HostRuntime, count: usize) -> Result<Vec<u8>, Fail> {
 
 #[test]
 fn the_most_statements_are_accepted_and_one_more_refused(rt: HostRuntime) -> Result<(), Fail> {
-    let mut desk = Desk::with_kernel(rt.alloc(), copies(&rt, 4096)?.as_slice())?;
-    assert!(rt; desk.run(&["compile", "i", "k"])? == Status::Ok);
-    assert!(rt;
-        desk.out
-            .written()
-            .ends_with(b"\nend cost 8192 scalar 8192\n")
-    );
-    let mut desk = Desk::with_kernel(rt.alloc(), copies(&rt, 4097)?.as_slice())?;
-    assert!(rt; desk.run(&["compile", "i", "k"])? == Status::KernelRefused);
+    let put: &[u8] = b"store8(d + 0, 0i8);";
+    let copy: &[u8] = b"store8(d, load8(d));";
+    let cases: [(&[u8], &[u8], &[u8]); 2] = [
+        (
+            put,
+            b"\nend cost 4096 scalar 4096\n",
+            b"vegen: kernel: 8 TooMany at 1:77846\n",
+        ),
+        (
+            copy,
+            b"\nend cost 8192 scalar 8192\n",
+            b"vegen: kernel: 8 TooMany at 1:81942\n",
+        ),
+    ];
+    for (statement, last, said) in &cases {
+        let mut desk = Desk::with_kernel(rt.alloc(), repeated(&rt, statement, 4096)?.as_slice())?;
+        assert!(rt; desk.run(&["compile", "i", "k"])? == Status::Ok);
+        assert!(rt; desk.out.written().ends_with(last));
+        let mut desk = Desk::with_kernel(rt.alloc(), repeated(&rt, statement, 4097)?.as_slice())?;
+        desk.expect(
+            &rt,
+            &["compile", "i", "k"],
+            Status::KernelRefused,
+            b"",
+            said,
+        )?;
+    }
     Ok(())
 }
 

@@ -1,10 +1,24 @@
-//! Worked cases of the top call: words, files and what comes of them.
+//! Worked cases of the top call: words, files and what comes of them; and of the kernel language below it.
 #![tactic(auto)]
 
 #[cfg(test)]
 mod compile_cases;
 #[cfg(test)]
 mod desk;
+#[cfg(test)]
+mod eval_cases;
+#[cfg(test)]
+mod kernel_faults;
+#[cfg(test)]
+mod kernel_fronts;
+#[cfg(test)]
+mod kernel_limits;
+#[cfg(test)]
+mod kernel_readings;
+#[cfg(test)]
+mod kernel_runs;
+#[cfg(test)]
+mod kernel_texts;
 #[cfg(test)]
 mod program_cases;
 #[cfg(test)]

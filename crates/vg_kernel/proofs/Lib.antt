@@ -1,9 +1,19 @@
-pub mod Again
-pub mod AgainWhole
-pub mod Found
-pub mod Laws
+pub mod Joins
+pub mod Failing
 pub mod Lists
+pub mod ParameterLists
+pub mod Scripts
 pub mod Sizes
-pub mod Spells
-pub mod Whole
+pub mod PlacesFound
+pub mod OperandsFound
+pub mod ExpressionsFound
+pub mod WordsAgain
+pub mod OperandsAgain
+pub mod ExpressionsAgain
+pub mod StatementsFound
+pub mod KernelsFound
+pub mod KernelsAgain
 pub mod WellFormed
+pub mod Laws
+mod NamesFound
+pub mod CostLaws

@@ -1,65 +1,57 @@
--- Lists of statements and of parameters, one more at a time.
-use Rattle.std.proofs.Common.{◌≡◌, ℕ, zero, suc, ◌+◌, ◌<◌, ◌∷◌, ◌++◌, [], List, Option, Some, None, Result, Ok, arith, refl}
-use Rattle.std.specs.Prelude.{codes}
+-- Statements and parameters, one step of reading them.
+use Rattle.std.proofs.Common.{◌≡◌, ℕ, suc, ◌-◌, ◌<◌, true, false, List, [], ◌∷◌, ◌++◌, Result, Ok, refl, sym, ◌∙◌, subst, arith}
+use Rattle.std.specs.Prelude.{codes, if◌then◌else◌}
+use Rattle.std.specs.Str.{bytes_eq}
 use Rattle.vg_base.specs.Bind.{◌>>=◌}
-use Rattle.vg_text.specs.Words.{Reading}
+use Rattle.vg_text.specs.Words.{Reading, Spelled}
 use Rattle.vg_kernel.specs.declared.fault.KernelFault.{KernelFault}
-use Rattle.vg_kernel.specs.declared.fault.KernelFault.TheVariants.{NotYet, Memory}
-use Rattle.vg_kernel.specs.declared.parameter.KParam.{KParam}
 use Rattle.vg_kernel.specs.Gives.{Fails}
+use Rattle.vg_kernel.specs.Names.{Names}
+use Rattle.vg_kernel.specs.Expressions.{Scan}
+use Rattle.vg_kernel.specs.Reader.{next_at}
+use Rattle.vg_kernel.specs.Statements.{Step, statement_at, closing_at, statements_at}
 use Rattle.vg_kernel.specs.Tree.{Statement}
-use Rattle.vg_kernel.specs.Reader.{expect_at, statement_or_end_at, statements_at, parameter_or_end_at, parameters_behind}
+use Rattle.vg_kernel.proofs.Failing.{fails-bind}
 
--- a fault of a part is one of the whole
-pub through : {X Y : Type 0} (e : KernelFault) (x : Result X KernelFault) (f : X → Result Y KernelFault) → Fails e x → Fails e (x >>= f)
-through NotYet x f h = rw h refl
-through (Memory a) x f h = tt
+abbrev Statements : Type 0
+Statements = Result (List Statement × Reading) KernelFault
 
-pub statements-stop : (params : List KParam) (n : ℕ) (done : List Statement) (r r' : Reading) (x : Option Statement) → 0 < n → statement_or_end_at params r ≡ Ok (x, r') → x ≡ None
-    → statements_at params n done r ≡ Ok (done, r')
+-- what stands in the place of a statement
+abbrev one : ℕ → Names → List Statement → Scan → Spelled × Reading → Statements
+one room names done s word = if bytes_eq word.0.bytes (codes "}") then Ok (done, word.1)
+    else (statement_at names word.0 word.1 s.used >>= λ x. statements_at room x.names (done ++ x.statement ∷ []) x.scan)
+
+at_some : (n : ℕ) → 0 < n → suc (n - 1) ≡ n
+at_some n h = omega arith
+
+some-statements : (room : ℕ) (names : Names) (done : List Statement) (s : Scan) → 0 < room → (next_at s.reading >>= one (room - 1) names done s) ≡ statements_at room names done s
 unfolding statements_at
-statements-stop params zero done r r' x some e i = absurd (omega arith)
-statements-stop params (suc n) done r r' x some e i = rw (e, i) refl
+some-statements room names done s h = subst (λ (n : ℕ). (next_at s.reading >>= one (room - 1) names done s) ≡ statements_at n names done s) (at_some room h) same
+  where
+    same : (next_at s.reading >>= one (room - 1) names done s) ≡ statements_at (suc (room - 1)) names done s
+    same = refl
 
-pub statements-more : (params : List KParam) (n m : ℕ) (done : List Statement) (s : Statement) (r r' : Reading) (x : Option Statement) → n ≡ m + 1 → statement_or_end_at params r ≡ Ok (x, r') → x ≡ Some s
-    → statements_at params m (done ++ s ∷ []) r' ≡ statements_at params n done r
+pub word-fails : (room : ℕ) (names : Names) (done : List Statement) (s : Scan) (fault : KernelFault) → 0 < room → Fails fault (next_at s.reading) → Fails fault (statements_at room names done s)
+word-fails room names done s fault h e = subst (Fails fault) (some-statements room names done s h) (fails-bind fault (next_at s.reading) (one (room - 1) names done s) e)
+
+pub statements-end : (room : ℕ) (names : Names) (done : List Statement) (s : Scan) (w : Spelled × Reading) → 0 < room → next_at s.reading ≡ Ok w → bytes_eq w.0.bytes (codes "}") ≡ true → statements_at room names done s ≡ Ok (done, w.1)
+statements-end room names done s w h e t = sym (some-statements room names done s h) ∙ rw (e, t) refl
+
+pub statement-fails : (room : ℕ) (names : Names) (done : List Statement) (s : Scan) (w : Spelled × Reading) (fault : KernelFault) → 0 < room → next_at s.reading ≡ Ok w → bytes_eq w.0.bytes (codes "}") ≡ false
+    → Fails fault (statement_at names w.0 w.1 s.used) → Fails fault (statements_at room names done s)
+statement-fails room names done s w fault h e t f = subst (Fails fault) (sym reached ∙ some-statements room names done s h) (fails-bind fault (statement_at names w.0 w.1 s.used) _ f)
+  where
+    reached : (next_at s.reading >>= one (room - 1) names done s) ≡ (statement_at names w.0 w.1 s.used >>= λ x. statements_at (room - 1) x.names (done ++ x.statement ∷ []) x.scan)
+    reached = rw (e, t) refl
+
+pub statements-more : (room : ℕ) (names : Names) (done : List Statement) (s : Scan) (w : Spelled × Reading) (x : Step) → 0 < room → next_at s.reading ≡ Ok w → bytes_eq w.0.bytes (codes "}") ≡ false
+    → statement_at names w.0 w.1 s.used ≡ Ok x → statements_at room names done s ≡ statements_at (room - 1) x.names (done ++ x.statement ∷ []) x.scan
+statements-more room names done s w x h e t f = sym (some-statements room names done s h) ∙ rw (e, t, f) refl
+
+pub statements-full : (names : Names) (done : List Statement) (s : Scan) (r : Reading) → closing_at s.reading ≡ Ok r → statements_at 0 names done s ≡ Ok (done, r)
 unfolding statements_at
-statements-more params zero m done s r r' x k e i = absurd (omega arith)
-statements-more params (suc n) m done s r r' x k e i = let same : m ≡ n = omega arith in rw (e, i, same) refl
+statements-full names done s r e = rw e refl
 
-pub statements-fail : (params : List KParam) (n : ℕ) (done : List Statement) (r : Reading) (e : KernelFault) → 0 < n → Fails e (statement_or_end_at params r) → Fails e (statements_at params n done r)
+pub full-fails : (names : Names) (done : List Statement) (s : Scan) (fault : KernelFault) → Fails fault (closing_at s.reading) → Fails fault (statements_at 0 names done s)
 unfolding statements_at
-statements-fail params zero done r e some h = absurd (omega arith)
-statements-fail params (suc n) done r e some h = through e (statement_or_end_at params r) _ h
-
-pub statements-full : (params : List KParam) (n : ℕ) (done : List Statement) (r r' : Reading) → n ≡ 0 → expect_at (codes "}") r ≡ Ok r' → statements_at params n done r ≡ Ok (done, r')
-unfolding statements_at
-statements-full params n done r r' k e = rw (k, e) refl
-
-pub statements-overfull : (params : List KParam) (n : ℕ) (done : List Statement) (r : Reading) (e : KernelFault) → n ≡ 0 → Fails e (expect_at (codes "}") r) → Fails e (statements_at params n done r)
-unfolding statements_at
-statements-overfull params n done r e k h = rw k (through e (expect_at (codes "}") r) _ h)
-
-pub parameters-stop : (n : ℕ) (done : List KParam) (r r' : Reading) (x : Option KParam) → 0 < n → parameter_or_end_at done r ≡ Ok (x, r') → x ≡ None → parameters_behind n done r ≡ Ok (done, r')
-unfolding parameters_behind
-parameters-stop zero done r r' x some e i = absurd (omega arith)
-parameters-stop (suc n) done r r' x some e i = rw (e, i) refl
-
-pub parameters-more : (n m : ℕ) (done : List KParam) (p : KParam) (r r' : Reading) (x : Option KParam) → n ≡ m + 1 → parameter_or_end_at done r ≡ Ok (x, r') → x ≡ Some p
-    → parameters_behind m (done ++ p ∷ []) r' ≡ parameters_behind n done r
-unfolding parameters_behind
-parameters-more zero m done p r r' x k e i = absurd (omega arith)
-parameters-more (suc n) m done p r r' x k e i = let same : m ≡ n = omega arith in rw (e, i, same) refl
-
-pub parameters-fail : (n : ℕ) (done : List KParam) (r : Reading) (e : KernelFault) → 0 < n → Fails e (parameter_or_end_at done r) → Fails e (parameters_behind n done r)
-unfolding parameters_behind
-parameters-fail zero done r e some h = absurd (omega arith)
-parameters-fail (suc n) done r e some h = through e (parameter_or_end_at done r) _ h
-
-pub parameters-full : (n : ℕ) (done : List KParam) (r r' : Reading) → n ≡ 0 → expect_at (codes ")") r ≡ Ok r' → parameters_behind n done r ≡ Ok (done, r')
-unfolding parameters_behind
-parameters-full n done r r' k e = rw (k, e) refl
-
-pub parameters-overfull : (n : ℕ) (done : List KParam) (r : Reading) (e : KernelFault) → n ≡ 0 → Fails e (expect_at (codes ")") r) → Fails e (parameters_behind n done r)
-unfolding parameters_behind
-parameters-overfull n done r e k h = rw k (through e (expect_at (codes ")") r) _ h)
+full-fails names done s fault e = fails-bind fault (closing_at s.reading) (λ closed. Ok (done, closed)) e

@@ -8,7 +8,7 @@ use Rattle.vg_base.specs.declared.width.Width.{Width}
 use Rattle.vg_base.specs.declared.width.Width.TheVariants.{W8, W16, W32, W64}
 use Rattle.vg_base.proofs.Bind.{either_way}
 use Rattle.vg_kernel.specs.Words.{width_text, width_of, width_behind, sized}
-use Rattle.vg_kernel.proofs.Spells.{same_text, text_is_itself}
+use Rattle.vg_kernel.proofs.Scripts.{same_text, text_is_itself}
 
 some_once : {A : Type 0} (x y : A) → Some x ≡ Some y → x ≡ y
 some_once x y e = cc

@@ -6,7 +6,7 @@ use Rattle.vg_base.specs.Address.{place_of}
 use Rattle.vg_base.specs.Width.{size_of}
 use Rattle.vg_kernel.specs.declared.parameter.KParam.{KParam}
 use Rattle.vg_kernel.specs.declared.parameter.KParamKind.TheVariants.{Pointer, Integer}
-use Rattle.vg_kernel.specs.Tree.{Expression, load, Statement, store, Tree}
+use Rattle.vg_kernel.specs.Tree.{Expression, argument, assigned, literal, load, two, shift, resize, compare, select, Statement, assign, store, Tree}
 
 -- where an access begins, how many bytes it has, and whether it writes them
 pub record Access : Type 0 where
@@ -14,12 +14,21 @@ pub record Access : Type 0 where
   pub size : ℕ
   pub writes : Bool
 
--- the loads of an expression
+-- the loads of an expression, from left to right
 abbrev pub reads_of : Expression → List Access
+reads_of (argument k w) = []
+reads_of (assigned k t) = []
+reads_of (literal w n) = []
+reads_of (two op w x y) = reads_of x ++ reads_of y
+reads_of (shift op w k x) = reads_of x
+reads_of (resize op w v x) = reads_of x
+reads_of (compare op w x y) = reads_of x ++ reads_of y
+reads_of (select w c x y) = reads_of c ++ (reads_of x ++ reads_of y)
 reads_of (load w a) = record { address = a; size = size_of w; writes = false } ∷ []
 
 -- the loads of a statement, and then its store
 abbrev pub statement_accesses : Statement → List Access
+statement_accesses (assign e) = reads_of e
 statement_accesses (store w a e) = reads_of e ++ record { address = a; size = size_of w; writes = true } ∷ []
 
 -- in the order in which they are made

@@ -1,10 +1,16 @@
 pub mod Cost
+pub mod Expressions
+pub mod Faults
 pub mod Gives
 pub mod Grammar
 pub mod Layout
 pub mod Meaning
 pub mod Names
+pub mod Nodes
 pub mod Reader
+pub mod Scanning
+pub mod Script
+pub mod Statements
 pub mod Tree
-pub mod Words
 pub mod WellFormed
+pub mod Words

@@ -4,14 +4,24 @@
 //! `specs/Grammar.antt`, what a kernel does in `specs/Meaning.antt`.
 #![tactic(auto)]
 
+mod assigned_names;
 pub mod costs;
 pub mod expression;
+mod expressions;
 pub mod fault;
+pub mod function;
+pub mod given;
 pub mod kernel;
 mod names;
+mod nodes;
+mod operands;
 pub mod parameter;
 mod parser;
+mod reading;
+mod scan;
 pub mod statement;
+mod statements;
+pub mod value_type;
 mod words;
 
 pub use costs::scalar_cost;
@@ -21,6 +31,4 @@ pub use kernel::Kernel;
 pub use parameter::{KParam, KParamKind};
 pub use parser::parse_kernel;
 pub use statement::KStmt;
-
-#[cfg(test)]
-mod tests;
+pub use value_type::ValueType;

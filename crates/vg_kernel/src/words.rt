@@ -2,13 +2,18 @@
 
 ghost use Rattle.std.specs.Prelude.{◌≡◌, true, is_some};
 ghost use Rattle.std.specs.Str.{bytes_eq};
-ghost use Rattle.vg_kernel.specs.Words.{width_of, width_behind, is_reserved, is_free, offset_of};
+ghost use Rattle.vg_base.specs.Width.{bits_of};
+ghost use Rattle.vg_text.specs.Lexing.{spelled_of};
+ghost use Rattle.vg_kernel.specs.Words.{width_of, width_behind, level_of, operator_named, plain_named, sized_named, function_named, is_reserved, is_free, begins_digit, begins_operand, begins_statement, adjoins, offset_of, literal_of};
 
+use crate::function::Function;
 use vg_base::Width;
-use vg_text::byte::is_name_text;
+use vg_scalar::{Comparison, Resize, Shift, TwoOp};
+use vg_text::byte::{is_digit, is_name_text};
+use vg_text::lexer::Word;
 
 /// Whether two texts are the same.
-pub fn is_text(bytes: &[u8], text: &[u8]) -> bool
+pub(crate) fn is_text(bytes: &[u8], text: &[u8]) -> bool
     ensures { result ≡ bytes_eq bytes.now text.now }
 {
     bytes == text
@@ -32,7 +37,7 @@ fn width_of(bytes: &[u8]) -> Option<Width>
 }
 
 /// The width behind a stem, as that of `load32` behind `load`.
-pub fn width_behind(stem: &[u8], bytes: &[u8]) -> Option<Width>
+pub(crate) fn width_behind(stem: &[u8], bytes: &[u8]) -> Option<Width>
     ensures { result ≡ width_behind stem.now bytes.now }
 {
     let cut = stem.len().min(bytes.len());
@@ -50,42 +55,167 @@ fn has_stem(stem: &[u8], bytes: &[u8]) -> bool
     width_behind(stem, bytes).is_some()
 }
 
+/// How tight an operator binds, from 1, the tightest, to 5; 0 where it is none.
+pub(crate) fn level_of(op: TwoOp) -> u32
+    ensures { result ≡ level_of op }
+{
+    match op {
+        TwoOp::Mul => 1,
+        TwoOp::Add => 2,
+        TwoOp::Sub => 2,
+        TwoOp::And => 3,
+        TwoOp::Xor => 4,
+        TwoOp::Or => 5,
+        _ => 0,
+    }
+}
+
+/// The operator of a sign.
+#[tactic(auto, unfolding(crate::specs::Words::operator_named))]
+pub(crate) fn operator_named(bytes: &[u8]) -> Option<TwoOp>
+    ensures { result ≡ operator_named bytes.now }
+{
+    if is_text(bytes, b"*") {
+        Some(TwoOp::Mul)
+    } else if is_text(bytes, b"+") {
+        Some(TwoOp::Add)
+    } else if is_text(bytes, b"-") {
+        Some(TwoOp::Sub)
+    } else if is_text(bytes, b"&") {
+        Some(TwoOp::And)
+    } else if is_text(bytes, b"^") {
+        Some(TwoOp::Xor)
+    } else if is_text(bytes, b"|") {
+        Some(TwoOp::Or)
+    } else {
+        None
+    }
+}
+
+/// The function of a name without a width.
+#[tactic(auto, unfolding(crate::specs::Words::plain_named))]
+fn plain_named(bytes: &[u8]) -> Option<Function>
+    ensures { result ≡ plain_named bytes.now }
+{
+    if is_text(bytes, b"smin") {
+        Some(Function::Two(TwoOp::Smin))
+    } else if is_text(bytes, b"smax") {
+        Some(Function::Two(TwoOp::Smax))
+    } else if is_text(bytes, b"umin") {
+        Some(Function::Two(TwoOp::Umin))
+    } else if is_text(bytes, b"umax") {
+        Some(Function::Two(TwoOp::Umax))
+    } else if is_text(bytes, b"eq") {
+        Some(Function::Compare(Comparison::Eq))
+    } else if is_text(bytes, b"slt") {
+        Some(Function::Compare(Comparison::Slt))
+    } else if is_text(bytes, b"ult") {
+        Some(Function::Compare(Comparison::Ult))
+    } else if is_text(bytes, b"shl") {
+        Some(Function::Shift(Shift::Shl))
+    } else if is_text(bytes, b"lshr") {
+        Some(Function::Shift(Shift::Lshr))
+    } else if is_text(bytes, b"ashr") {
+        Some(Function::Shift(Shift::Ashr))
+    } else if is_text(bytes, b"select") {
+        Some(Function::Select)
+    } else {
+        None
+    }
+}
+
+/// The function of a name that ends with a width.
+fn sized_named(bytes: &[u8]) -> Option<Function>
+    ensures { result ≡ sized_named bytes.now }
+{
+    if let Some(width) = width_behind(b"sext", bytes) {
+        return Some(Function::Resize(Resize::Sext, width));
+    }
+    if let Some(width) = width_behind(b"zext", bytes) {
+        return Some(Function::Resize(Resize::Zext, width));
+    }
+    match width_behind(b"trunc", bytes) {
+        Some(width) => Some(Function::Resize(Resize::Trunc, width)),
+        None => None,
+    }
+}
+
+/// The function of a name.
+pub(crate) fn function_named(bytes: &[u8]) -> Option<Function>
+    ensures { result ≡ function_named bytes.now }
+{
+    match plain_named(bytes) {
+        Some(function) => Some(function),
+        None => sized_named(bytes),
+    }
+}
+
+fn is_function(bytes: &[u8]) -> bool
+    ensures { result ≡ is_some (function_named bytes.now) }
+{
+    function_named(bytes).is_some()
+}
+
 /// Whether a word is one that no name may be.
 #[tactic(auto, unfolding(crate::specs::Words::is_reserved))]
-pub fn is_reserved(bytes: &[u8]) -> bool
+fn is_reserved(bytes: &[u8]) -> bool
     ensures { result ≡ is_reserved bytes.now }
 {
     is_text(bytes, b"kernel")
         | is_text(bytes, b"ptr")
         | is_text(bytes, b"noalias")
-        | is_text(bytes, b"shl")
-        | is_text(bytes, b"lshr")
-        | is_text(bytes, b"ashr")
-        | is_text(bytes, b"eq")
-        | is_text(bytes, b"slt")
-        | is_text(bytes, b"ult")
-        | is_text(bytes, b"select")
-        | is_text(bytes, b"smin")
-        | is_text(bytes, b"smax")
-        | is_text(bytes, b"umin")
-        | is_text(bytes, b"umax")
+        | is_function(bytes)
         | has_stem(b"i", bytes)
         | has_stem(b"load", bytes)
         | has_stem(b"store", bytes)
-        | has_stem(b"sext", bytes)
-        | has_stem(b"zext", bytes)
-        | has_stem(b"trunc", bytes)
 }
 
 /// Whether a word is a name that may be given.
-pub fn is_free(bytes: &[u8]) -> bool
+pub(crate) fn is_free(bytes: &[u8]) -> bool
     ensures { result ≡ is_free bytes.now }
 {
     is_name_text(bytes) && !is_reserved(bytes)
 }
 
+/// Whether a word is a number.
+pub(crate) fn begins_digit(bytes: &[u8]) -> bool
+    ensures { result ≡ begins_digit bytes.now }
+{
+    match bytes {
+        [] => false,
+        [first, ..] => is_digit(*first),
+    }
+}
+
+/// Whether an operand begins with this word.
+pub(crate) fn begins_operand(bytes: &[u8]) -> bool
+    ensures { result ≡ begins_operand bytes.now }
+{
+    is_text(bytes, b"(")
+        | is_text(bytes, b"-")
+        | begins_digit(bytes)
+        | is_free(bytes)
+        | is_function(bytes)
+        | has_stem(b"load", bytes)
+}
+
+/// Whether a statement begins with this word.
+pub(crate) fn begins_statement(bytes: &[u8]) -> bool
+    ensures { result ≡ begins_statement bytes.now }
+{
+    is_free(bytes) | has_stem(b"store", bytes)
+}
+
+/// Whether the second word stands right behind the first.
+pub(crate) fn adjoins(first: &Word, second: &Word) -> bool
+    ensures { result ≡ adjoins (spelled_of first.now) (spelled_of second.now) }
+{
+    second.place.line == first.place.line
+        && second.place.column as u64 == first.place.column as u64 + first.bytes.len() as u64
+}
+
 /// A distance above or below the place of a pointer as an offset. None where it is out of range.
-pub fn offset_of(negative: bool, distance: u128) -> Option<i32>
+pub(crate) fn offset_of(negative: bool, distance: u128) -> Option<i32>
     ensures { result ≡ offset_of negative distance }
 {
     if negative {
@@ -104,6 +234,32 @@ fn offset_below(distance: u128) -> Option<i32>
         Some(0)
     } else if distance - 1 < 1 << 31 {
         Some(-1 - (distance - 1) as i32)
+    } else {
+        None
+    }
+}
+
+/// The number of a literal at a width. None where it is out of range.
+pub(crate) fn literal_of(negative: bool, width: Width, number: u128) -> Option<u64>
+    ensures { result ≡ literal_of negative width number }
+{
+    if negative {
+        literal_below(width, number)
+    } else if number < 1 << width.bits() {
+        Some(number as u64)
+    } else {
+        None
+    }
+}
+
+fn literal_below(width: Width, number: u128) -> Option<u64>
+    ensures { result ≡ literal_of true width number }
+{
+    let half = 1u128 << (width.bits() - 1);
+    if number == 0 {
+        Some(0)
+    } else if number <= half {
+        Some((half - 1 + (half - number + 1)) as u64)
     } else {
         None
     }

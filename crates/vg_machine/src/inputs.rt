@@ -4,7 +4,7 @@ ghost use Rattle.std.specs.Prelude.{◌≡◌, slice_get, slice_index};
 ghost use Rattle.std.specs.Option.{option_map_or};
 ghost use Rattle.vg_base.specs.Address.{place_of};
 ghost use Rattle.vg_program.specs.Params.{integers, kind_bits};
-ghost use Rattle.vg_program.specs.Meaning.{scalar_of};
+ghost use Rattle.vg_program.specs.Meaning.{scalar_of, operand_number};
 
 use crate::scalar::Scalar;
 use std::marker::Model;
@@ -81,5 +81,12 @@ impl Inputs<'_> {
             },
             Operand::Literal { width, number } => Scalar::new(width, number),
         }
+    }
+
+    /// The number that an operand stands for.
+    pub(crate) fn number(&self, registers: &[Scalar], operand: Operand) -> u64
+        ensures { result ≡ operand_number self.now registers.now operand }
+    {
+        self.scalar(registers, operand).number
     }
 }

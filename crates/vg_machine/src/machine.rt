@@ -2,14 +2,14 @@
 
 ghost use Rattle.std.specs.Prelude.{◌≡◌, length, IfOk};
 ghost use Rattle.vg_program.specs.Meaning.{meaning};
-ghost use Rattle.vg_machine.specs.Outcome.{Leaves};
+ghost use Rattle.vg_memory.specs.Outcome.{Leaves};
 
 use crate::inputs::Inputs;
-use crate::outcome::Outcome;
 use crate::scalar::Scalar;
 use crate::steps::run;
 use std::alloc::{AllocError, Global};
 use std::marker::Model;
+use vg_memory::Outcome;
 use vg_program::program::Program;
 
 /// A program with room for its registers. Contracts see it as the program.

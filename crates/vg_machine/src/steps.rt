@@ -1,26 +1,15 @@
 //! Lines as steps.
 
 ghost use Rattle.std.specs.Prelude.{◌≡◌, ◌+◌, ◌≤◌, ◌<◌, length, vec_len, vec_capacity};
-ghost use Rattle.vg_base.specs.Width.{bits_of};
-ghost use Rattle.vg_program.specs.Meaning.{result_of, step, run};
-ghost use Rattle.vg_machine.specs.Outcome.{Leaves};
+ghost use Rattle.vg_program.specs.Meaning.{operand_number, step, run};
+ghost use Rattle.vg_memory.specs.Outcome.{Leaves};
 ghost use Rattle.vg_machine.specs.State.{state_of};
 
-use crate::access::{load, store};
 use crate::inputs::Inputs;
-use crate::outcome::Outcome;
 use crate::scalar::Scalar;
-use vg_base::width::Width;
+use vg_memory::{Outcome, load, store};
 use vg_program::line::Line;
-use vg_program::two_op::TwoOp;
-
-fn apply(op: TwoOp, width: Width, left: u64, right: u64) -> u64
-    ensures { result ≡ result_of op (bits_of width) left right }
-{
-    match op {
-        TwoOp::Add => ((left as u128 + right as u128) % (1 << width.bits())) as u64,
-    }
-}
+use vg_scalar::select;
 
 /// One line. Takes no memory.
 fn step(inputs: &Inputs, line: Line, memory: &mut [u8], registers: &mut Vec<Scalar>) -> Outcome
@@ -38,7 +27,8 @@ fn step(inputs: &Inputs, line: Line, memory: &mut [u8], registers: &mut Vec<Scal
         },
         Line::Store { address, value } => {
             let scalar = inputs.scalar(registers, value);
-            return store(memory, inputs.address(address), scalar);
+            let place = inputs.address(address);
+            return store(memory, place, scalar.width / 8, scalar.number);
         }
         Line::Two {
             op,
@@ -46,10 +36,49 @@ fn step(inputs: &Inputs, line: Line, memory: &mut [u8], registers: &mut Vec<Scal
             left,
             right,
         } => {
-            let first = inputs.scalar(registers, left);
-            let second = inputs.scalar(registers, right);
-            let number = apply(op, width, first.number, second.number);
+            let first = inputs.number(registers, left);
+            let second = inputs.number(registers, right);
+            registers.push_reserved(Scalar::new(width, op.apply(width, first, second)));
+        }
+        Line::Shift {
+            op,
+            width,
+            operand,
+            amount,
+        } => {
+            let number = op.apply(width, amount, inputs.number(registers, operand));
             registers.push_reserved(Scalar::new(width, number));
+        }
+        Line::Resize {
+            op,
+            width,
+            from,
+            operand,
+        } => {
+            let number = op.apply(width, from, inputs.number(registers, operand));
+            registers.push_reserved(Scalar::new(width, number));
+        }
+        Line::Compare {
+            op,
+            width,
+            left,
+            right,
+        } => {
+            let first = inputs.number(registers, left);
+            let second = inputs.number(registers, right);
+            let number = op.apply(width, first, second);
+            registers.push_reserved(Scalar { width: 1, number });
+        }
+        Line::Select {
+            width,
+            condition,
+            first,
+            second,
+        } => {
+            let condition = inputs.number(registers, condition);
+            let first = inputs.number(registers, first);
+            let second = inputs.number(registers, second);
+            registers.push_reserved(Scalar::new(width, select(condition, first, second)));
         }
     }
     Outcome::Done

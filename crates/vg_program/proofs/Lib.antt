@@ -6,5 +6,6 @@ pub mod TokenLaws
 pub mod ParamLaws
 pub mod NameLaws
 pub mod OperandLaws
+pub mod HeadLaws
 pub mod LineLaws
 pub mod ProgramLaws

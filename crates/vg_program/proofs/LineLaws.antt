@@ -1,140 +1,194 @@
 -- Lines: what is read is spelled so and keeps the rules, and what is spelled so is read again.
-use Rattle.std.proofs.Common.{◌≡◌, ◌≢◌, ℕ, zero, suc, ◌+◌, ◌≤◌, List, [], ◌∷◌, ◌++◌, length, true, false, ◌==◌, Option, Some, None, Ok, refl, sym, ap, subst, ◌∙◌, inl, inr, append_assoc, length-append, arith}
-use Rattle.std.specs.Prelude.{codes, IsSomeAnd, if◌then◌else◌}
-use Rattle.std.specs.Str.{bytes_eq}
-use Rattle.std.proofs.lemmas.Bool.{cases_Bool, eqb-true, eq-eqb, ne_eqb, eqb-false, not-true}
-use Rattle.std.proofs.lemmas.List.{take-append-drop, append-nil}
-use Rattle.vg_base.specs.declared.address.Address.{Address}
+use Rattle.std.proofs.Common.{◌≡◌, ◌≢◌, ℕ, zero, suc, ◌+◌, ◌<◌, ◌≤◌, List, [], ◌∷◌, ◌++◌, length, true, false, ◌==◌, Option, Some, None, Result, Ok, Err, refl, sym, ap, subst, ◌∙◌, inl, inr, append_assoc, length-append, arith}
+use Rattle.std.specs.Prelude.{codes, nat_lt, IsSomeAnd, not}
+use Rattle.std.specs.Fmt.{decimal}
+use Rattle.std.proofs.lemmas.Bool.{cases_Bool, eq-eqb, ne_eqb, eqb-true, eqb-false, not-true, and_parts, ltb-true, lt-ltb}
+use Rattle.std.proofs.lemmas.List.{append-nil}
 use Rattle.vg_base.specs.declared.width.Width.{Width}
+use Rattle.vg_base.specs.declared.width.Width.TheVariants.{W8, W16, W32, W64}
 use Rattle.vg_base.specs.Width.{bits_of}
+use Rattle.vg_scalar.specs.declared.two_op.TwoOp.{TwoOp}
+use Rattle.vg_scalar.specs.declared.shift.Shift.{Shift as ShiftOp}
+use Rattle.vg_scalar.specs.declared.comparison.Comparison.{Comparison}
+use Rattle.vg_scalar.specs.declared.resize.Resize.{Resize as ResizeOp}
+use Rattle.vg_scalar.specs.declared.resize.Resize.TheVariants.{Sext, Zext, Trunc}
 use Rattle.vg_program.specs.declared.param.Param.{Param}
 use Rattle.vg_program.specs.declared.line.Line.{Line}
-use Rattle.vg_program.specs.declared.line.Line.TheVariants.{Load, Store, Two}
-use Rattle.vg_program.specs.declared.operand.Operand.{Operand}
-use Rattle.vg_program.specs.declared.two_op.TwoOp.{TwoOp}
-use Rattle.vg_program.specs.declared.two_op.TwoOp.TheVariants.{Add}
-use Rattle.vg_text.specs.Byte.{is_digit}
+use Rattle.vg_program.specs.declared.line.Line.TheVariants.{Load, Store, Two, Shift, Resize, Compare, Select}
+use Rattle.vg_program.specs.declared.head.Head.{Head}
+use Rattle.vg_program.specs.declared.head.Head.TheVariants as head
+use Rattle.vg_program.specs.declared.wanted.Wanted.TheVariants as wanted
+use Rattle.vg_program.specs.declared.fault.Fault.{Fault}
+use Rattle.vg_program.specs.declared.fault.Fault.TheVariants.{Range}
 use Rattle.vg_program.specs.Params.{AreParams}
-use Rattle.vg_program.specs.Text.{line_end, type_text, address_text, register_text, operand_text, two_text, given, left_text, line_text, lines_text}
-use Rattle.vg_program.specs.Valid.{IsAddress, width_of, IsLine, AreLines}
-use Rattle.vg_program.specs.Tokens.{begins, signs_at, is_word, word_at, word_length, word_of, behind_word}
-use Rattle.vg_program.specs.Grammar.{fits, store_at, load_at, two_named, two_at, left_at, giving_at, line_at, lines_at}
+use Rattle.vg_program.specs.Text.{line_end, address_text, operand_text, pair_text, operands_text, word_text, given, left_text, line_text, lines_text}
+use Rattle.vg_program.specs.Valid.{width_of, Resizes, IsLine, AreLines}
+use Rattle.vg_program.specs.Tokens.{signs_at, is_word}
+use Rattle.vg_program.specs.Grammar.{fits, load_at, store_at, two_at, amount_from, shift_at, resized, resize_at, compare_at, select_at, operands_at, head_text, line_at, lines_at}
 use Rattle.vg_program.proofs.LineLoop.{lines_ended, lines_more}
-use Rattle.vg_program.proofs.Steps.{Holds, now, and_then, if_both, if_ok, or_stop_ok, weaker, Stops, same_bytes}
-use Rattle.vg_program.proofs.TokenLaws.{signs_takes, word_takes, type_takes, type_again, register_takes, register_again}
-use Rattle.vg_program.proofs.OperandLaws.{address_takes, address_again, operand_takes, operand_again}
+use Rattle.vg_program.proofs.Steps.{Holds, now, and_then, if_both, if_ok, judged_ok}
+use Rattle.vg_program.proofs.TokenLaws.{signs_takes, number_takes, number_again}
+use Rattle.vg_program.proofs.OperandLaws.{address_takes, address_again, operand_takes, operand_again, sized_takes, sized_again, exact, spaced, pair_takes, pair_again}
+use Rattle.vg_program.proofs.HeadLaws.{left_bits, left_of, head_takes, head_again}
 
--- a line that is read, where these are the widths of the registers given before
-record TakesLine (params : List Param) (widths : List ℕ) (text : List ℕ) (x : Line × List ℕ) : Type 0 where
-  spelled : text ≡ line_text params (length widths) x.0 ++ x.1
+-- a line without its operands
+abbrev head_of : Line → Head
+head_of (Load w a) = head.Load w
+head_of (Store a v) = head.Store
+head_of (Two op w l r) = head.Two op w
+head_of (Shift op w v n) = head.Shift op w
+head_of (Resize op w from v) = head.Resize op w
+head_of (Compare op w l r) = head.Compare op
+head_of (Select w c a b) = head.Select w
+
+-- ---- what is read is spelled so and keeps the rules
+
+-- the operands that are read behind a word make its line
+record TakesOperands (params : List Param) (widths : List ℕ) (h : Head) (text : List ℕ) (x : Line × List ℕ) : Type 0 where
+  spelled : text ≡ operands_text params x.0 ++ x.1
+  word : head_of x.0 ≡ h
   valid : IsLine params widths x.0
 
--- an operand whose width is wanted has it, and one of any width in memory is no bit
-fit_is : (w : Width) (width : ℕ) → fits (Some w) width ≡ true → width ≡ bits_of w
-fit_is w width e = eqb-true width (bits_of w) e
+-- a text behind another and a space
+behind : (text x gap y rest middle : List ℕ) → text ≡ x ++ middle → middle ≡ codes " " ++ gap → gap ≡ y ++ rest → text ≡ ((x ++ codes " ") ++ y) ++ rest
+behind text x gap y rest middle a b c = a ∙ ap (λ (t : List ℕ). x ++ t) (b ∙ ap (λ (t : List ℕ). codes " " ++ t) c) ∙ sym (spaced x y rest)
 
-fit_in_memory : (width : ℕ) → fits None width ≡ true → width ≢ 1
-fit_in_memory width e = eqb-false width 1 (not-true (width == 1) e)
+load_takes : (params : List Param) (widths : List ℕ) (w : Width) (text : List ℕ) → Holds (load_at params w text) (TakesOperands params widths (head.Load w) text)
+unfolding load_at
+load_takes params widths w text =
+    and_then _ _ _ _ (address_takes params text) (λ address a. now _ _ (record { spelled = a.0; word = refl; valid = a.1 }))
 
 some_and : (o : Option ℕ) (x : ℕ) (P : ℕ → Type 0) → o ≡ Some x → P x → IsSomeAnd o P
 some_and None x P e p = absurd cc
 some_and (Some y) x P e p = let same : x ≡ y = cc in subst P same p
 
-store-joined : (x y rest : List ℕ) → (((codes "store " ++ x) ++ codes " ") ++ y) ++ rest ≡ codes "store" ++ (codes " " ++ (x ++ (codes " " ++ (y ++ rest))))
-store-joined x y rest = simp append_assoc
-
-store_takes : (params : List Param) (widths : List ℕ) (text : List ℕ) → length widths ≤ 4194304 → Holds (store_at params widths text) (TakesLine params widths text)
+store_takes : (params : List Param) (widths : List ℕ) (text : List ℕ) → length widths ≤ 4194304 → Holds (store_at params widths text) (TakesOperands params widths head.Store text)
 unfolding store_at
 store_takes params widths text few =
-    and_then _ _ _ _ (word_takes (codes "store") text) (λ store a.
-    and_then _ _ _ _ (signs_takes (codes " ") store) (λ space b.
-    and_then _ _ _ _ (address_takes params space) (λ address d.
-    and_then _ _ _ _ (signs_takes (codes " ") address.1) (λ gap c.
-    and_then _ _ _ _ (operand_takes params widths None gap few) (λ value v.
-    let spelled : text ≡ line_text params (length widths) (Store address.0 value.0) ++ value.1 = a ∙ ap (λ (t : List ℕ). codes "store" ++ t) (b ∙ ap (λ (t : List ℕ). codes " " ++ t) (d.0 ∙ ap (λ (t : List ℕ). address_text params address.0 ++ t) (c ∙ ap (λ (t : List ℕ). codes " " ++ t) v.spelled))) ∙ sym (store-joined (address_text params address.0) (operand_text params value.0) value.1) in
-    now _ _ (record { spelled = spelled; valid = (d.1, some_and _ v.width (λ w. w ≢ 1) v.valid (fit_in_memory v.width v.fit)) }))))))
+    and_then _ _ _ _ (address_takes params text) (λ address a.
+    and_then _ _ _ _ (signs_takes (codes " ") address.1) (λ gap g.
+    and_then _ _ _ _ (operand_takes params widths wanted.Number gap few) (λ value v.
+    now _ _ (record {
+      spelled = behind text (address_text params address.0) gap (operand_text params value.0.0) value.1 address.1 a.0 g v.spelled;
+      word = refl;
+      valid = (a.1, some_and _ value.0.1 (λ w. w ≢ 1) v.valid (eqb-false value.0.1 1 (not-true (value.0.1 == 1) v.fit)));
+    }))))
 
--- what stands behind the left register of this width
-record TakesRight (params : List Param) (widths : List ℕ) (w : Width) (text : List ℕ) (x : Line × List ℕ) : Type 0 where
-  spelled : (k : ℕ) → left_text k w ++ text ≡ line_text params k x.0 ++ x.1
-  valid : IsLine params widths x.0
+two_takes : (params : List Param) (widths : List ℕ) (op : TwoOp) (w : Width) (text : List ℕ) → length widths ≤ 4194304 → Holds (two_at params widths op w text) (TakesOperands params widths (head.Two op w) text)
+unfolding two_at
+two_takes params widths op w text few =
+    and_then _ _ _ _ (pair_takes params widths w text few) (λ pair p. now _ _ (record { spelled = p.spelled; word = refl; valid = (p.first, p.second) }))
 
-load-joined : (l x rest : List ℕ) → ((l ++ codes "load ") ++ x) ++ rest ≡ l ++ (codes "load" ++ (codes " " ++ (x ++ rest)))
-load-joined l x rest = simp append_assoc
-
-load_takes : (params : List Param) (widths : List ℕ) (w : Width) (text : List ℕ) → Holds (load_at params w text) (TakesRight params widths w text)
-unfolding load_at
-load_takes params widths w text =
-    and_then _ _ _ _ (word_takes (codes "load") text) (λ load a.
-    and_then _ _ _ _ (signs_takes (codes " ") load) (λ space b.
-    and_then _ _ _ _ (address_takes params space) (λ address d.
-    now _ _ (record { spelled = λ k. ap (λ (t : List ℕ). left_text k w ++ t) (a ∙ ap (λ (t : List ℕ). codes "load" ++ t) (b ∙ ap (λ (t : List ℕ). codes " " ++ t) d.0)) ∙ sym (load-joined (left_text k w) (address_text params address.0) address.1); valid = d.1 }))))
-
-two_named_is : (name : List ℕ) (op : TwoOp) → two_named name ≡ Some op → name ≡ two_text op
-two_named_is name op e = elim (cases_Bool (bytes_eq name (codes "add"))) [
-  | inl is ↦ same_bytes name (codes "add") is ∙ ap two_text (the_same Add op (rw is at e))
-  | inr other ↦ let is : nothing ≡ Some op = rw other at e in absurd cc
+amount_is : (w : Width) (n k : ℕ) → amount_from w n ≡ Ok k → (n ≡ k) × (k < bits_of w)
+amount_is w n k e = elim (cases_Bool (nat_lt n (bits_of w))) [
+  | inl small ↦ let same = ok_is n k (rw small at e) in (same, subst (λ (m : ℕ). m < bits_of w) same (ltb-true n (bits_of w) small))
+  | inr large ↦ let is : bad ≡ Ok k = rw large at e in absurd cc
 ]
   where
-    nothing : Option TwoOp
-    nothing = None
+    good : ℕ → Result ℕ Fault
+    good x = Ok x
 
-    the_same : (x y : TwoOp) → Some x ≡ Some y → x ≡ y
-    the_same x y e = cc
+    ok_is : (x y : ℕ) → good x ≡ good y → x ≡ y
+    ok_is x y e = cc
 
-two-joined : (l o x y rest : List ℕ) → (((((l ++ o) ++ codes " ") ++ x) ++ codes " ") ++ y) ++ rest ≡ l ++ (o ++ (codes " " ++ (x ++ (codes " " ++ (y ++ rest)))))
-two-joined l o x y rest = simp append_assoc
+    bad : Result ℕ Fault
+    bad = Err Range
 
-two_takes : (params : List Param) (widths : List ℕ) (w : Width) (text : List ℕ) → length widths ≤ 4194304 → Holds (two_at params widths w text) (TakesRight params widths w text)
-unfolding two_at
-two_takes params widths w text few =
-    and_then _ _ (λ op. word_of text ≡ two_text op) _ (or_stop_ok _ _ _ (λ op e. two_named_is (word_of text) op e)) (λ op o.
-    and_then _ _ _ _ (signs_takes (codes " ") (behind_word text)) (λ space b.
-    and_then _ _ _ _ (operand_takes params widths (Some w) space few) (λ left l.
-    and_then _ _ _ _ (signs_takes (codes " ") left.1) (λ gap c.
-    and_then _ _ _ _ (operand_takes params widths (Some w) gap few) (λ right r.
-    let front : text ≡ two_text op ++ behind_word text = sym (take-append-drop (word_length text) text) ∙ ap (λ (t : List ℕ). t ++ behind_word text) o in
-    let behind : behind_word text ≡ codes " " ++ (operand_text params left.0 ++ (codes " " ++ (operand_text params right.0 ++ right.1))) = b ∙ ap (λ (t : List ℕ). codes " " ++ t) (l.spelled ∙ ap (λ (t : List ℕ). operand_text params left.0 ++ t) (c ∙ ap (λ (t : List ℕ). codes " " ++ t) r.spelled)) in
+bits_few : (w : Width) → bits_of w ≤ 64
+bits_few W8 = omega arith
+bits_few W16 = omega arith
+bits_few W32 = omega arith
+bits_few W64 = omega arith
+
+shift_takes : (params : List Param) (widths : List ℕ) (op : ShiftOp) (w : Width) (text : List ℕ) → length widths ≤ 4194304 → Holds (shift_at params widths op w text) (TakesOperands params widths (head.Shift op w) text)
+unfolding shift_at
+shift_takes params widths op w text few =
+    and_then _ _ _ _ (operand_takes params widths (wanted.Exactly w) text few) (λ operand o.
+    and_then _ _ _ _ (signs_takes (codes " ") operand.1) (λ gap g.
+    and_then _ _ _ _ (number_takes gap) (λ n t.
+    and_then _ _ (λ k. (n.0 ≡ k) × (k < bits_of w)) _ (judged_ok _ _ _ (amount_is w n.0)) (λ amount is.
+    let number : gap ≡ decimal amount ++ n.1 = t (omega (arith, is.0, is.1, bits_few w)) ∙ ap (λ (k : ℕ). decimal k ++ n.1) is.0 in
     now _ _ (record {
-      spelled = λ k. ap (λ (t : List ℕ). left_text k w ++ t) (front ∙ ap (λ (t : List ℕ). two_text op ++ t) behind) ∙ sym (two-joined (left_text k w) (two_text op) (operand_text params left.0) (operand_text params right.0) right.1);
-      valid = (l.valid ∙ ap (λ (b : ℕ). Some b) (fit_is w l.width l.fit), r.valid ∙ ap (λ (b : ℕ). Some b) (fit_is w r.width r.fit));
-    }))))))
+      spelled = behind text (operand_text params operand.0.0) gap (decimal amount) n.1 operand.1 o.spelled g number;
+      word = refl;
+      valid = (exact params widths w text operand o, is.1);
+    })))))
 
-left_takes : (k : ℕ) (text : List ℕ) → k ≤ 4194304 → Holds (left_at k text) (λ rest. text ≡ register_text k ++ rest)
-unfolding left_at
-left_takes k text few =
-    and_then _ _ _ _ (register_takes text) (λ r t. if_ok _ _ _ _ (λ is.
-    let same : r.0 ≡ k = eqb-true r.0 k is in
-    t (omega (arith, same)) ∙ ap (λ (n : ℕ). register_text n ++ r.1) same))
+resizes_is : (op : ResizeOp) (from to : Width) → fits (resized op to) (bits_of from) ≡ true → Resizes op from to
+resizes_is Sext from to e = ltb-true (bits_of from) (bits_of to) (and_parts (not (bits_of from == 1)) (nat_lt (bits_of from) (bits_of to)) e).1
+resizes_is Zext from to e = ltb-true (bits_of from) (bits_of to) (and_parts (not (bits_of from == 1)) (nat_lt (bits_of from) (bits_of to)) e).1
+resizes_is Trunc from to e = ltb-true (bits_of to) (bits_of from) e
 
-left-joined : (k : ℕ) (w : Width) (rest : List ℕ) → left_text k w ++ rest ≡ register_text k ++ (codes ":" ++ (type_text w ++ (codes " = " ++ rest)))
-left-joined k w rest = joined (register_text k) (type_text w) rest
+resize_takes : (params : List Param) (widths : List ℕ) (op : ResizeOp) (w : Width) (text : List ℕ) → length widths ≤ 4194304 → Holds (resize_at params widths op w text) (TakesOperands params widths (head.Resize op w) text)
+unfolding resize_at
+resize_takes params widths op w text few =
+    and_then _ _ _ _ (sized_takes params widths (resized op w) text few) (λ operand o. now _ _ (record { spelled = o.spelled; word = refl; valid = (o.valid, resizes_is op operand.0.1 w o.fit) }))
+
+compare_takes : (params : List Param) (widths : List ℕ) (op : Comparison) (text : List ℕ) → length widths ≤ 4194304 → Holds (compare_at params widths op text) (TakesOperands params widths (head.Compare op) text)
+unfolding compare_at
+compare_takes params widths op text few =
+    and_then _ _ _ _ (sized_takes params widths wanted.Number text few) (λ first f.
+    and_then _ _ _ _ (signs_takes (codes " ") first.1) (λ gap g.
+    and_then _ _ _ _ (operand_takes params widths (wanted.Exactly first.0.1) gap few) (λ second s.
+    now _ _ (record {
+      spelled = behind text (operand_text params first.0.0) gap (operand_text params second.0.0) second.1 first.1 f.spelled g s.spelled;
+      word = refl;
+      valid = (f.valid, exact params widths first.0.1 gap second s);
+    }))))
+
+select_takes : (params : List Param) (widths : List ℕ) (w : Width) (text : List ℕ) → length widths ≤ 4194304 → Holds (select_at params widths w text) (TakesOperands params widths (head.Select w) text)
+unfolding select_at
+select_takes params widths w text few =
+    and_then _ _ _ _ (operand_takes params widths wanted.Bit text few) (λ condition c.
+    and_then _ _ _ _ (signs_takes (codes " ") condition.1) (λ gap g.
+    and_then _ _ _ _ (pair_takes params widths w gap few) (λ pair p.
+    now _ _ (record {
+      spelled = behind text (operand_text params condition.0.0) gap (pair_text params pair.0.0 pair.0.1) pair.1 condition.1 c.spelled g p.spelled;
+      word = refl;
+      valid = (c.valid ∙ ap Some (eqb-true condition.0.1 1 c.fit), p.first, p.second);
+    }))))
+
+operands_take : (params : List Param) (widths : List ℕ) (h : Head) (text : List ℕ) → length widths ≤ 4194304 → Holds (operands_at params widths h text) (TakesOperands params widths h text)
+operands_take params widths head.Store text few = store_takes params widths text few
+operands_take params widths (head.Load w) text few = load_takes params widths w text
+operands_take params widths (head.Two op w) text few = two_takes params widths op w text few
+operands_take params widths (head.Shift op w) text few = shift_takes params widths op w text few
+operands_take params widths (head.Resize op w) text few = resize_takes params widths op w text few
+operands_take params widths (head.Compare op) text few = compare_takes params widths op text few
+operands_take params widths (head.Select w) text few = select_takes params widths w text few
+
+-- a line by what stands in front of its operands
+line-joined : (params : List Param) (k : ℕ) (l : Line) (rest : List ℕ) → line_text params k l ++ rest ≡ left_text k (left_bits (left_of (head_of l))) ++ (head_text (head_of l) ++ (codes " " ++ (operands_text params l ++ rest)))
+line-joined params k l rest = joined (left_text k (given l)) (word_text l) (operands_text params l) rest ∙ parts l
   where
-    joined : (x y rest : List ℕ) → (((x ++ codes ":") ++ y) ++ codes " = ") ++ rest ≡ x ++ (codes ":" ++ (y ++ (codes " = " ++ rest)))
-    joined x y rest = simp append_assoc
+    joined : (x y z rest : List ℕ) → (((x ++ y) ++ codes " ") ++ z) ++ rest ≡ x ++ (y ++ (codes " " ++ (z ++ rest)))
+    joined x y z rest = simp append_assoc
 
-giving_takes : (params : List Param) (widths : List ℕ) (text : List ℕ) → length widths ≤ 4194304 → Holds (giving_at params widths text) (TakesLine params widths text)
-unfolding giving_at
-giving_takes params widths text few =
-    and_then _ _ _ _ (left_takes (length widths) text few) (λ left a.
-    and_then _ _ _ _ (signs_takes (codes ":") left) (λ colon b.
-    and_then _ _ _ _ (type_takes colon) (λ w c.
-    and_then _ _ _ _ (signs_takes (codes " = ") w.1) (λ right d.
-    let front : text ≡ left_text (length widths) w.0 ++ right = a ∙ ap (λ (t : List ℕ). register_text (length widths) ++ t) (b ∙ ap (λ (t : List ℕ). codes ":" ++ t) (c ∙ ap (λ (t : List ℕ). type_text w.0 ++ t) d)) ∙ sym (left-joined (length widths) w.0 right) in
-    let whole = λ (x : Line × List ℕ) (t : TakesRight params widths w.0 right x). let line : TakesLine params widths text x = record { spelled = front ∙ t.spelled (length widths); valid = t.valid } in line in
-    if_both (is_word (codes "load") right) _ _ _ (λ _. weaker _ _ _ (load_takes params widths w.0 right) whole) (λ _. weaker _ _ _ (two_takes params widths w.0 right few) whole)))))
+    parts : (l : Line) → left_text k (given l) ++ (word_text l ++ (codes " " ++ (operands_text params l ++ rest))) ≡ left_text k (left_bits (left_of (head_of l))) ++ (head_text (head_of l) ++ (codes " " ++ (operands_text params l ++ rest)))
+    parts (Load w a) = refl
+    parts (Store a v) = refl
+    parts (Two op w x y) = refl
+    parts (Shift op w v n) = refl
+    parts (Resize op w from v) = refl
+    parts (Compare op w x y) = refl
+    parts (Select w c a b) = refl
 
 -- a line that is read with its end
-record TakesEnded (params : List Param) (widths : List ℕ) (text : List ℕ) (x : Line × List ℕ) : Type 0 where
+record TakesLine (params : List Param) (widths : List ℕ) (text : List ℕ) (x : Line × List ℕ) : Type 0 where
   spelled : text ≡ line_text params (length widths) x.0 ++ (line_end ++ x.1)
   valid : IsLine params widths x.0
 
-line_takes : (params : List Param) (widths : List ℕ) (text : List ℕ) → length widths ≤ 4194304 → Holds (line_at params widths text) (TakesEnded params widths text)
+line_takes : (params : List Param) (widths : List ℕ) (text : List ℕ) → length widths ≤ 4194304 → Holds (line_at params widths text) (TakesLine params widths text)
 unfolding line_at
 line_takes params widths text few =
-    and_then _ _ (TakesLine params widths text) _ (if_both (begins 37 text) _ _ _ (λ _. giving_takes params widths text few) (λ _. store_takes params widths text few)) (λ line l.
+    and_then _ _ _ _ (head_takes (length widths) text few) (λ front f.
+    and_then _ _ _ _ (operands_take params widths front.0 front.1 few) (λ line l.
     and_then _ _ _ _ (signs_takes line_end line.1) (λ rest e.
-    now _ _ (record { spelled = l.spelled ∙ ap (λ (t : List ℕ). line_text params (length widths) line.0 ++ t) e; valid = l.valid })))
+    let left = λ (h : Head) (t : List ℕ). left_text (length widths) (left_bits (left_of h)) ++ (head_text h ++ (codes " " ++ t)) in
+    now _ _ (record {
+      spelled = f ∙ ap (λ (h : Head). left h front.1) (sym l.word) ∙ ap (left (head_of line.0)) (l.spelled ∙ ap (λ (t : List ℕ). operands_text params line.0 ++ t) e) ∙ sym (line-joined params (length widths) line.0 (line_end ++ rest));
+      valid = l.valid;
+    }))))
 
 -- the lines that are read behind others, up to the word `end`
 pub record TakesLines (params : List Param) (widths : List ℕ) (before : List Line) (text : List ℕ) (x : List Line × List ℕ) : Type 0 where
@@ -147,6 +201,10 @@ given_few : (l : Line) → length (given l) ≤ 1
 given_few (Load w a) = omega arith
 given_few (Store a v) = omega arith
 given_few (Two op w l r) = omega arith
+given_few (Shift op w v n) = omega arith
+given_few (Resize op w from v) = omega arith
+given_few (Compare op w l r) = omega arith
+given_few (Select w c a b) = omega arith
 
 lines-joined : (params : List Param) (k : ℕ) (l : Line) (ls : List Line) (rest : List ℕ) → lines_text params k (l ∷ ls) ++ rest ≡ line_text params k l ++ (line_end ++ (lines_text params (k + length (given l)) ls ++ rest))
 unfolding lines_text
@@ -174,59 +232,58 @@ lines_take (suc room) params widths before text few =
 
 -- ---- what is spelled so is read again
 
-left_again : (k : ℕ) (rest : List ℕ) → k ≤ 4194304 → Stops is_digit rest → left_at k (register_text k ++ rest) ≡ Ok rest
-unfolding left_at
-left_again k rest few stops = rw (register_again k rest (omega arith) stops, eq-eqb k k refl) refl
+number_fits : (w : Width) → fits wanted.Number (bits_of w) ≡ true
+number_fits W8 = refl
+number_fits W16 = refl
+number_fits W32 = refl
+number_fits W64 = refl
 
-store_again : (params : List Param) (widths : List ℕ) (a : Address) (v : Operand) (rest : List ℕ) → AreParams params → length widths ≤ 4194304 → IsLine params widths (Store a v) → store_at params widths (line_text params (length widths) (Store a v) ++ (line_end ++ rest)) ≡ Ok (Store a v, line_end ++ rest)
-unfolding store_at word_at is_word signs_at
-store_again params widths a v rest p few valid =
+resizes_fit : (op : ResizeOp) (from to : Width) → Resizes op from to → fits (resized op to) (bits_of from) ≡ true
+resizes_fit Sext from to h = rw (number_fits from, lt-ltb (bits_of from) (bits_of to) h) refl
+resizes_fit Zext from to h = rw (number_fits from, lt-ltb (bits_of from) (bits_of to) h) refl
+resizes_fit Trunc from to h = lt-ltb (bits_of to) (bits_of from) h
+
+exactly_fits : (w : Width) → fits (wanted.Exactly w) (bits_of w) ≡ true
+exactly_fits w = eq-eqb (bits_of w) (bits_of w) refl
+
+operands_again : (params : List Param) (widths : List ℕ) (l : Line) (rest : List ℕ) → AreParams params → length widths ≤ 4194304 → IsLine params widths l → operands_at params widths (head_of l) (operands_text params l ++ (line_end ++ rest)) ≡ Ok (l, line_end ++ rest)
+unfolding load_at store_at two_at shift_at resize_at compare_at select_at signs_at
+operands_again params widths (Load w a) rest p few valid = rw (address_again params a (line_end ++ rest) p valid refl) refl
+operands_again params widths (Store a v) rest p few valid =
     let o = in_memory (width_of params widths v) valid.1 in
-    let fit : fits None o.0 ≡ true = rw (ne_eqb o.0 1 o.2) refl in
-    ap (store_at params widths) (store-joined (address_text params a) (operand_text params v) (line_end ++ rest)) ∙ rw (address_again params a (codes " " ++ (operand_text params v ++ (line_end ++ rest))) p valid.0 refl, operand_again params widths None v o.0 (line_end ++ rest) p few o.1 fit refl) refl
+    let fit : fits wanted.Number o.0 ≡ true = rw (ne_eqb o.0 1 o.2) refl in
+    ap (store_at params widths) (spaced (address_text params a) (operand_text params v) (line_end ++ rest)) ∙ rw (address_again params a (codes " " ++ (operand_text params v ++ (line_end ++ rest))) p valid.0 refl, operand_again params widths wanted.Number v o.0 (line_end ++ rest) p few o.1 fit refl) refl
   where
     in_memory : (o : Option ℕ) → IsSomeAnd o (λ w. w ≢ 1) → (w : ℕ) × (o ≡ Some w) × (w ≢ 1)
     in_memory None h = absurd h
     in_memory (Some w) h = (w, refl, h)
-
-load_again : (params : List Param) (w : Width) (a : Address) (rest : List ℕ) → AreParams params → IsAddress params a → load_at params w (codes "load" ++ (codes " " ++ (address_text params a ++ (line_end ++ rest)))) ≡ Ok (Load w a, line_end ++ rest)
-unfolding load_at word_at is_word signs_at
-load_again params w a rest p valid = rw (address_again params a (line_end ++ rest) p valid refl) refl
-
-two_again : (params : List Param) (widths : List ℕ) (op : TwoOp) (w : Width) (l r : Operand) (rest : List ℕ) → AreParams params → length widths ≤ 4194304 → IsLine params widths (Two op w l r) → two_at params widths w (two_text op ++ (codes " " ++ (operand_text params l ++ (codes " " ++ (operand_text params r ++ (line_end ++ rest)))))) ≡ Ok (Two op w l r, line_end ++ rest)
-unfolding two_at signs_at
-two_again params widths Add w l r rest p few valid =
-    let fit : fits (Some w) (bits_of w) ≡ true = eq-eqb (bits_of w) (bits_of w) refl in
-    rw (operand_again params widths (Some w) l (bits_of w) (codes " " ++ (operand_text params r ++ (line_end ++ rest))) p few valid.0 fit refl, operand_again params widths (Some w) r (bits_of w) (line_end ++ rest) p few valid.1 fit refl) refl
-
-two_no_load : (op : TwoOp) (rest : List ℕ) → is_word (codes "load") (two_text op ++ (codes " " ++ rest)) ≡ false
-unfolding is_word
-two_no_load Add rest = refl
-
--- what stands behind a left register is read
-giving_again : (params : List Param) (widths : List ℕ) (w : Width) (right : List ℕ) → length widths ≤ 4194304 → giving_at params widths (left_text (length widths) w ++ right) ≡ (if is_word (codes "load") right then load_at params w right else two_at params widths w right)
-unfolding giving_at signs_at
-giving_again params widths w right few =
-    ap (giving_at params widths) (left-joined (length widths) w right) ∙ rw (left_again (length widths) (codes ":" ++ (type_text w ++ (codes " = " ++ right))) few refl, type_again w (codes " = " ++ right) refl) refl
+operands_again params widths (Two op w l r) rest p few valid = rw (pair_again params widths w l r (line_end ++ rest) p few valid.0 valid.1 refl) refl
+operands_again params widths (Shift op w v n) rest p few valid =
+    ap (shift_at params widths op w) (spaced (operand_text params v) (decimal n) (line_end ++ rest))
+    ∙ rw (operand_again params widths (wanted.Exactly w) v (bits_of w) (codes " " ++ (decimal n ++ (line_end ++ rest))) p few valid.0 (exactly_fits w) refl, number_again n (line_end ++ rest) (omega (arith, valid.1, bits_few w)) refl, lt-ltb n (bits_of w) valid.1) refl
+operands_again params widths (Resize op w from v) rest p few valid = rw (sized_again params widths (resized op w) v from (line_end ++ rest) p few valid.0 (resizes_fit op from w valid.1) refl) refl
+operands_again params widths (Compare op w l r) rest p few valid =
+    ap (compare_at params widths op) (spaced (operand_text params l) (operand_text params r) (line_end ++ rest))
+    ∙ rw (sized_again params widths wanted.Number l w (codes " " ++ (operand_text params r ++ (line_end ++ rest))) p few valid.0 (number_fits w) refl, operand_again params widths (wanted.Exactly w) r (bits_of w) (line_end ++ rest) p few valid.1 (exactly_fits w) refl) refl
+operands_again params widths (Select w c a b) rest p few valid =
+    ap (select_at params widths w) (spaced (operand_text params c) (pair_text params a b) (line_end ++ rest))
+    ∙ rw (operand_again params widths wanted.Bit c 1 (codes " " ++ (pair_text params a b ++ (line_end ++ rest))) p few valid.0 refl refl, pair_again params widths w a b (line_end ++ rest) p few valid.1 valid.2 refl) refl
 
 line_again : (params : List Param) (widths : List ℕ) (l : Line) (rest : List ℕ) → AreParams params → length widths ≤ 4194304 → IsLine params widths l → line_at params widths (line_text params (length widths) l ++ (line_end ++ rest)) ≡ Ok (l, rest)
-unfolding line_at signs_at is_word
-line_again params widths (Store a v) rest p few valid = rw (store_again params widths a v rest p few valid) refl
-line_again params widths (Load w a) rest p few valid =
-    let right = codes "load" ++ (codes " " ++ (address_text params a ++ (line_end ++ rest))) in
-    let line : giving_at params widths (left_text (length widths) w ++ right) ≡ Ok (Load w a, line_end ++ rest) = giving_again params widths w right few ∙ load_again params w a rest p valid in
-    ap (line_at params widths) (load-joined (left_text (length widths) w) (address_text params a) (line_end ++ rest)) ∙ rw line refl
-line_again params widths (Two op w l r) rest p few valid =
-    let operands = operand_text params l ++ (codes " " ++ (operand_text params r ++ (line_end ++ rest))) in
-    let right = two_text op ++ (codes " " ++ operands) in
-    let line : giving_at params widths (left_text (length widths) w ++ right) ≡ Ok (Two op w l r, line_end ++ rest) = giving_again params widths w right few ∙ rw (two_no_load op operands) (two_again params widths op w l r rest p few valid) in
-    ap (line_at params widths) (two-joined (left_text (length widths) w) (two_text op) (operand_text params l) (operand_text params r) (line_end ++ rest)) ∙ rw line refl
+unfolding line_at signs_at
+line_again params widths l rest p few valid =
+    ap (line_at params widths) (line-joined params (length widths) l (line_end ++ rest))
+    ∙ rw (head_again (length widths) (head_of l) (operands_text params l ++ (line_end ++ rest)) few, operands_again params widths l rest p few valid) refl
 
 line_no_end : (params : List Param) (k : ℕ) (l : Line) (rest : List ℕ) → is_word (codes "end") (line_text params k l ++ rest) ≡ false
 unfolding is_word
 line_no_end params k (Load w a) rest = refl
 line_no_end params k (Store a v) rest = refl
 line_no_end params k (Two op w l r) rest = refl
+line_no_end params k (Shift op w v n) rest = refl
+line_no_end params k (Resize op w from v) rest = refl
+line_no_end params k (Compare op w l r) rest = refl
+line_no_end params k (Select w c a b) rest = refl
 
 pub lines_again : (room : ℕ) (params : List Param) (widths : List ℕ) (before ls : List Line) (rest : List ℕ) → AreParams params → length widths + room ≤ 4194304 → length ls ≤ room → AreLines params widths ls → is_word (codes "end") rest ≡ true → lines_at room params widths before (lines_text params (length widths) ls ++ rest) ≡ Ok (before ++ ls, rest)
 unfolding lines_text

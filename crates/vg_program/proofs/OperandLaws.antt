@@ -5,7 +5,7 @@ use Rattle.std.specs.Prelude.{if◌then◌else◌, nat_le}
 use Rattle.std.specs.List.{list_all}
 use Rattle.std.specs.Fmt.{decimal}
 use Rattle.std.proofs.lemmas.Fmt.{decimal_nonempty}
-use Rattle.std.proofs.lemmas.Bool.{and_parts, cases_Bool, ltb-true, lt-ltb, ne_eqb}
+use Rattle.std.proofs.lemmas.Bool.{and_parts, cases_Bool, ltb-true, lt-ltb, ne_eqb, eqb-true, eq-eqb}
 use Rattle.std.proofs.lemmas.Bool.Decides.{nat_tests}
 use Rattle.std.proofs.lemmas.Option.{slice_get_within}
 use Rattle.vg_base.specs.declared.address.Address.{Address}
@@ -17,15 +17,17 @@ use Rattle.vg_program.specs.declared.operand.Operand.{Operand}
 use Rattle.vg_program.specs.declared.operand.Operand.TheVariants.{Register, Argument, Literal}
 use Rattle.vg_program.specs.declared.fault.Fault.{Fault}
 use Rattle.vg_program.specs.declared.fault.Fault.TheVariants.{Range}
+use Rattle.vg_program.specs.declared.wanted.Wanted.{Wanted}
+use Rattle.vg_program.specs.declared.wanted.Wanted.TheVariants.{Exactly}
 use Rattle.vg_program.specs.declared.named.Named.{Named}
 use Rattle.vg_program.specs.declared.named.Named.TheVariants as named
 use Rattle.vg_text.specs.Byte.{is_digit, is_letter, is_name, is_name_text}
 use Rattle.vg_program.specs.Params.{pointers, integers, name_of, AreParams}
-use Rattle.vg_program.specs.Text.{type_text, offset_text, address_text, operand_text}
+use Rattle.vg_program.specs.Text.{type_text, offset_text, address_text, operand_text, pair_text}
 use Rattle.vg_program.specs.Valid.{IsOffset, IsAddress, width_of}
 use Rattle.vg_program.specs.Tokens.{begins, signs_at}
-use Rattle.vg_program.specs.Grammar.{pointer_of, integer_of, fits, positive_offset, negative_offset, negative_at, positive_at, offset_at, address_at, given_operand_at, literal_at, argument_at, begins_digit, operand_at}
-use Rattle.vg_program.proofs.Steps.{Holds, now, never, and_then, if_both, if_ok, or_stop_ok, judged_ok, Stops}
+use Rattle.vg_program.specs.Grammar.{pointer_of, integer_of, fits, positive_offset, negative_offset, negative_at, positive_at, offset_at, address_at, given_operand_at, literal_at, argument_at, begins_digit, operand_at, width_with, sized_at, pair_at}
+use Rattle.vg_program.proofs.Steps.{Holds, now, never, and_then, if_both, if_ok, or_stop_ok, judged_ok, Stops, found_is}
 use Rattle.vg_program.proofs.TokenLaws.{signs_takes, name_takes, name_again, name_begins, type_takes, type_again, number_takes, number_again, register_takes, register_again}
 use Rattle.vg_program.proofs.NameLaws.{PointerAt, pointer_at, pointer_named, IntegerAt, integer_at, integer_named, pointer_found, integer_found}
 use Rattle.vg_program.proofs.Numbers.{digits-decimal}
@@ -131,19 +133,18 @@ address_again params a rest p valid stops =
 
 -- ---- operands
 
--- an operand that is read, which is of a width that is wanted
-pub record TakesOperand (params : List Param) (widths : List ℕ) (wanted : Option Width) (text : List ℕ) (x : Operand × List ℕ) : Type 0 where
-  pub width : ℕ
-  pub spelled : text ≡ operand_text params x.0 ++ x.1
-  pub valid : width_of params widths x.0 ≡ Some width
-  pub fit : fits wanted width ≡ true
+-- an operand that is read with its width, which is want
+pub record TakesOperand (params : List Param) (widths : List ℕ) (want : Wanted) (text : List ℕ) (x : (Operand × ℕ) × List ℕ) : Type 0 where
+  pub spelled : text ≡ operand_text params x.0.0 ++ x.1
+  pub valid : width_of params widths x.0.0 ≡ Some x.0.1
+  pub fit : fits want x.0.1 ≡ true
 
-given_takes : (params : List Param) (widths : List ℕ) (wanted : Option Width) (text : List ℕ) → length widths ≤ 4194304 → Holds (given_operand_at widths wanted text) (TakesOperand params widths wanted text)
+given_takes : (params : List Param) (widths : List ℕ) (want : Wanted) (text : List ℕ) → length widths ≤ 4194304 → Holds (given_operand_at widths want text) (TakesOperand params widths want text)
 unfolding given_operand_at
-given_takes params widths wanted text few =
+given_takes params widths want text few =
     and_then _ _ _ _ (register_takes text) (λ k r.
     and_then _ _ (λ width. slice_get widths k.0 ≡ Some width) _ (or_stop_ok _ _ _ (λ width e. e)) (λ width e.
-    if_ok _ _ _ _ (λ fit. record { width = width; spelled = r (omega (arith, slice_get_within widths k.0 width e)); valid = e; fit = fit })))
+    if_ok _ _ _ _ (λ fit. record { spelled = r (omega (arith, slice_get_within widths k.0 width e)); valid = e; fit = fit })))
 
 below_all : (w : Width) (n : ℕ) → n < 2 ^ bits_of w → n < 2 ^ 64
 below_all W8 n h = omega arith
@@ -151,15 +152,17 @@ below_all W16 n h = omega arith
 below_all W32 n h = omega arith
 below_all W64 n h = h
 
-literal_takes : (params : List Param) (widths : List ℕ) (wanted : Option Width) (text : List ℕ) → Holds (literal_at wanted text) (TakesOperand params widths wanted text)
+literal_valid : (w : Width) (n : ℕ) → nat_lt n (2 ^ bits_of w) ≡ true → (if nat_lt n (2 ^ bits_of w) then Some (bits_of w) else None) ≡ Some (bits_of w)
+literal_valid w n small = rw small refl
+
+literal_takes : (params : List Param) (widths : List ℕ) (want : Wanted) (text : List ℕ) → Holds (literal_at want text) (TakesOperand params widths want text)
 unfolding literal_at
-literal_takes params widths wanted text =
+literal_takes params widths want text =
     and_then _ _ _ _ (number_takes text) (λ n t.
     and_then _ _ _ _ (type_takes n.1) (λ w u.
-    if_both _ _ _ _ (λ fit. if_ok _ _ _ _ (λ small. record {
-      width = bits_of w.0;
+    if_both _ _ _ _ (λ fit. if_ok _ ((Literal w.0 n.0, bits_of w.0), w.1) _ _ (λ small. record {
       spelled = t (below_all w.0 n.0 (ltb-true n.0 (2 ^ bits_of w.0) small)) ∙ ap (λ (b : List ℕ). decimal n.0 ++ b) u ∙ sym (append_assoc (decimal n.0) (type_text w.0) w.1);
-      valid = rw small refl;
+      valid = literal_valid w.0 n.0 small;
       fit = fit;
     })) (λ _. never _ _)))
 
@@ -168,21 +171,21 @@ integer_of_is (named.Pointer p) k e = absurd cc
 integer_of_is (named.Integer i w) k e = cc
 integer_of_is named.Nothing k e = absurd cc
 
-argument_takes : (params : List Param) (widths : List ℕ) (wanted : Option Width) (text : List ℕ) → Holds (argument_at params wanted text) (TakesOperand params widths wanted text)
+argument_takes : (params : List Param) (widths : List ℕ) (want : Wanted) (text : List ℕ) → Holds (argument_at params want text) (TakesOperand params widths want text)
 unfolding argument_at
-argument_takes params widths wanted text =
+argument_takes params widths want text =
     and_then _ _ _ _ (name_takes text) (λ name n.
     and_then _ _ (λ k. IntegerAt 0 params name.0 k.0 k.1) _ (judged_ok _ _ _ (λ k e. integer_at 0 0 params name.0 k.0 k.1 (integer_of_is _ k e))) (λ k i.
     if_ok _ _ _ _ (λ fit.
     let place : k.0 ≡ i.place = omega (arith, i.is) in
     let called : name_of (slice_get (integers params) k.0) ≡ name.0 = rw place i.called in
-    record { width = bits_of k.1; spelled = n.0 ∙ ap (λ (m : List ℕ). m ++ name.1) (sym called); valid = rw place i.wide; fit = fit })))
+    record { spelled = n.0 ∙ ap (λ (m : List ℕ). m ++ name.1) (sym called); valid = rw place i.wide; fit = fit })))
 
-pub operand_takes : (params : List Param) (widths : List ℕ) (wanted : Option Width) (text : List ℕ) → length widths ≤ 4194304 → Holds (operand_at params widths wanted text) (TakesOperand params widths wanted text)
+pub operand_takes : (params : List Param) (widths : List ℕ) (want : Wanted) (text : List ℕ) → length widths ≤ 4194304 → Holds (operand_at params widths want text) (TakesOperand params widths want text)
 unfolding operand_at
-operand_takes params widths wanted text few =
-    if_both (begins 37 text) _ _ _ (λ _. given_takes params widths wanted text few) (λ _.
-    if_both (begins_digit text) _ _ _ (λ _. literal_takes params widths wanted text) (λ _. argument_takes params widths wanted text))
+operand_takes params widths want text few =
+    if_both (begins 37 text) _ _ _ (λ _. given_takes params widths want text few) (λ _.
+    if_both (begins_digit text) _ _ _ (λ _. literal_takes params widths want text) (λ _. argument_takes params widths want text))
 
 stops_digit : (rest : List ℕ) → Stops is_name rest → Stops is_digit rest
 stops_digit [] stops = tt
@@ -219,19 +222,82 @@ literal_wide w n width e = elim (cases_Bool (nat_lt n (2 ^ bits_of w))) [
     some_is : (x y : ℕ) → Some x ≡ Some y → x ≡ y
     some_is x y e = cc
 
-pub operand_again : (params : List Param) (widths : List ℕ) (wanted : Option Width) (v : Operand) (width : ℕ) (rest : List ℕ) → AreParams params → length widths ≤ 4194304 → width_of params widths v ≡ Some width → fits wanted width ≡ true → Stops is_name rest → operand_at params widths wanted (operand_text params v ++ rest) ≡ Ok (v, rest)
+pub operand_again : (params : List Param) (widths : List ℕ) (want : Wanted) (v : Operand) (width : ℕ) (rest : List ℕ) → AreParams params → length widths ≤ 4194304 → width_of params widths v ≡ Some width → fits want width ≡ true → Stops is_name rest → operand_at params widths want (operand_text params v ++ rest) ≡ Ok ((v, width), rest)
 unfolding operand_at given_operand_at literal_at argument_at
-operand_again params widths wanted (Register k) width rest p few e fit stops =
+operand_again params widths want (Register k) width rest p few e fit stops =
     rw (register_again k rest (omega (arith, slice_get_within widths k width e)) (stops_digit rest stops), e, fit) refl
-operand_again params widths wanted (Literal w n) width rest p few e fit stops =
+operand_again params widths want (Literal w n) width rest p few e fit stops =
     let wide = literal_wide w n width e in
     let small : n < 2 ^ 64 = below_all w n (ltb-true n (2 ^ bits_of w) wide.0) in
     let begin = digits_begin (decimal n) (type_text w ++ rest) (digits-decimal n small) (decimal_nonempty n small) in
-    let here : fits wanted (bits_of w) ≡ true = rw wide.1 fit in
-    ap (operand_at params widths wanted) (append_assoc (decimal n) (type_text w) rest) ∙ rw (begin.0, begin.1, number_again n (type_text w ++ rest) small refl, type_again w rest stops, here, wide.0) refl
-operand_again params widths wanted (Argument k) width rest p few e fit stops =
+    let here : fits want (bits_of w) ≡ true = rw wide.1 fit in
+    ap (operand_at params widths want) (append_assoc (decimal n) (type_text w) rest) ∙ rw (begin.0, begin.1, number_again n (type_text w ++ rest) small refl, type_again w rest stops, here, wide.0, wide.1) refl
+operand_again params widths want (Argument k) width rest p few e fit stops =
     let i = integer_found 0 0 params k width e p.distinct in
     let named = integer_named params k width p.names e in
     let name = name_of (slice_get (integers params) k) in
-    let here : fits wanted (bits_of i.width) ≡ true = rw (← i.wide) fit in
-    rw (name_begins 37 name rest named refl, name_no_digit name rest named, name_again name rest named stops, i.found, here) (let same : 0 + k ≡ k = omega arith in rw same refl)
+    let here : fits want (bits_of i.width) ≡ true = rw (← i.wide) fit in
+    rw (name_begins 37 name rest named refl, name_no_digit name rest named, name_again name rest named stops, i.found, here) (let same : 0 + k ≡ k = omega arith in rw (same, ← i.wide) refl)
+
+-- ---- operands of the four widths, and pairs
+
+-- an operand that is read with one of the four widths
+pub record TakesSized (params : List Param) (widths : List ℕ) (want : Wanted) (text : List ℕ) (x : (Operand × Width) × List ℕ) : Type 0 where
+  pub spelled : text ≡ operand_text params x.0.0 ++ x.1
+  pub valid : width_of params widths x.0.0 ≡ Some (bits_of x.0.1)
+  pub fit : fits want (bits_of x.0.1) ≡ true
+
+width_with_is : (bits : ℕ) (w : Width) → width_with bits ≡ Some w → bits ≡ bits_of w
+width_with_is bits w e = eqb-true bits (bits_of w) (found_is (λ w. bits == bits_of w) (λ w. Unit {0}) (W8 ∷ W16 ∷ W32 ∷ W64 ∷ []) w (tt, (tt, (tt, (tt, tt)))) e).0
+
+pub sized_takes : (params : List Param) (widths : List ℕ) (want : Wanted) (text : List ℕ) → length widths ≤ 4194304 → Holds (sized_at params widths want text) (TakesSized params widths want text)
+unfolding sized_at
+sized_takes params widths want text few =
+    and_then _ _ _ _ (operand_takes params widths want text few) (λ operand o.
+    and_then _ _ (λ w. operand.0.1 ≡ bits_of w) _ (or_stop_ok _ _ _ (width_with_is operand.0.1)) (λ w same.
+    now _ _ (record { spelled = o.spelled; valid = o.valid ∙ ap Some same; fit = rw (← same) o.fit })))
+
+width_with_bits : (w : Width) → width_with (bits_of w) ≡ Some w
+width_with_bits W8 = refl
+width_with_bits W16 = refl
+width_with_bits W32 = refl
+width_with_bits W64 = refl
+
+pub sized_again : (params : List Param) (widths : List ℕ) (want : Wanted) (v : Operand) (w : Width) (rest : List ℕ) → AreParams params → length widths ≤ 4194304 → width_of params widths v ≡ Some (bits_of w) → fits want (bits_of w) ≡ true → Stops is_name rest → sized_at params widths want (operand_text params v ++ rest) ≡ Ok ((v, w), rest)
+unfolding sized_at
+sized_again params widths want v w rest p few e fit stops =
+    rw (operand_again params widths want v (bits_of w) rest p few e fit stops, width_with_bits w) refl
+
+-- two operands that are read, each of this width
+pub record TakesPair (params : List Param) (widths : List ℕ) (w : Width) (text : List ℕ) (x : (Operand × Operand) × List ℕ) : Type 0 where
+  pub spelled : text ≡ pair_text params x.0.0 x.0.1 ++ x.1
+  pub first : width_of params widths x.0.0 ≡ Some (bits_of w)
+  pub second : width_of params widths x.0.1 ≡ Some (bits_of w)
+
+-- two texts with a space between them
+pub spaced : (x y rest : List ℕ) → ((x ++ codes " ") ++ y) ++ rest ≡ x ++ (codes " " ++ (y ++ rest))
+spaced x y rest = simp append_assoc
+
+-- an operand of a width that is wanted exactly
+pub exact : (params : List Param) (widths : List ℕ) (w : Width) (text : List ℕ) (x : (Operand × ℕ) × List ℕ) → TakesOperand params widths (Exactly w) text x → width_of params widths x.0.0 ≡ Some (bits_of w)
+exact params widths w text x t = t.valid ∙ ap Some (eqb-true x.0.1 (bits_of w) t.fit)
+
+pub pair_takes : (params : List Param) (widths : List ℕ) (w : Width) (text : List ℕ) → length widths ≤ 4194304 → Holds (pair_at params widths w text) (TakesPair params widths w text)
+unfolding pair_at
+pair_takes params widths w text few =
+    and_then _ _ _ _ (operand_takes params widths (Exactly w) text few) (λ first f.
+    and_then _ _ _ _ (signs_takes (codes " ") first.1) (λ gap g.
+    and_then _ _ _ _ (operand_takes params widths (Exactly w) gap few) (λ second s.
+    let behind : first.1 ≡ codes " " ++ (operand_text params second.0.0 ++ second.1) = g ∙ ap (λ (t : List ℕ). codes " " ++ t) s.spelled in
+    now _ _ (record {
+      spelled = f.spelled ∙ ap (λ (t : List ℕ). operand_text params first.0.0 ++ t) behind ∙ sym (spaced (operand_text params first.0.0) (operand_text params second.0.0) second.1);
+      first = exact params widths w text first f;
+      second = exact params widths w gap second s;
+    }))))
+
+pub pair_again : (params : List Param) (widths : List ℕ) (w : Width) (l r : Operand) (rest : List ℕ) → AreParams params → length widths ≤ 4194304 → width_of params widths l ≡ Some (bits_of w) → width_of params widths r ≡ Some (bits_of w) → Stops is_name rest → pair_at params widths w (pair_text params l r ++ rest) ≡ Ok ((l, r), rest)
+unfolding pair_at signs_at
+pair_again params widths w l r rest p few left right stops =
+    let fit : fits (Exactly w) (bits_of w) ≡ true = eq-eqb (bits_of w) (bits_of w) refl in
+    ap (pair_at params widths w) (spaced (operand_text params l) (operand_text params r) rest)
+    ∙ rw (operand_again params widths (Exactly w) l (bits_of w) (codes " " ++ (operand_text params r ++ rest)) p few left fit refl, operand_again params widths (Exactly w) r (bits_of w) rest p few right fit stops) refl

@@ -8,7 +8,7 @@ use Rattle.std.proofs.lemmas.List.Sums.{sum_by-cons}
 use Rattle.vg_text.specs.Place.{first_place}
 use Rattle.vg_program.specs.declared.param.Param.{Param}
 use Rattle.vg_program.specs.declared.line.Line.{Line}
-use Rattle.vg_program.specs.declared.line.Line.TheVariants.{Load, Store, Two}
+use Rattle.vg_program.specs.declared.line.Line.TheVariants.{Load, Store, Two, Shift, Resize, Compare, Select}
 use Rattle.vg_program.specs.declared.program.Program.{Program}
 use Rattle.vg_program.specs.declared.fault.Fault.{Fault}
 use Rattle.vg_program.specs.declared.fault.Fault.TheVariants.{CostWrong, Range}
@@ -142,6 +142,10 @@ cost_few (l ∷ ls) = rw (sum_by-cons line_cost l ls) (omega (arith, one l, cost
     one (Load w a) = omega arith
     one (Store a v) = omega arith
     one (Two op w x y) = omega arith
+    one (Shift op w v n) = omega arith
+    one (Resize op w from v) = omega arith
+    one (Compare op w x y) = omega arith
+    one (Select w c x y) = omega arith
 
 last_ends : (cost scalar : ℕ) (rest : List ℕ) → is_word (codes "end") (last_text cost scalar ++ rest) ≡ true
 unfolding is_word

@@ -1,6 +1,6 @@
 -- Steps one after the other, and what stands at the front of a text.
 use Rattle.std.proofs.Common.{◌≡◌, ℕ, List, [], ◌∷◌, ◌++◌, length, take, drop, Bool, true, false, cond, Option, Some, None, Result, Ok, Err, refl, sym, subst, inl, inr, add-one, add_comm, arith}
-use Rattle.std.specs.List.{prefix_len, list_all}
+use Rattle.std.specs.List.{prefix_len, list_all, find, AllByRecursion}
 use Rattle.std.specs.Str.{bytes_eq}
 use Rattle.std.proofs.lemmas.Bool.{and_parts, and_from, cases_Bool}
 use Rattle.std.proofs.lemmas.List.{take_at, drop_at}
@@ -95,3 +95,14 @@ or_stop_ok None stop P p = never stop P
 pub judged_ok : {A : Type 0} (text : List ℕ) (r : Result A Fault) (P : A → Type 0) → ((x : A) → r ≡ Ok x → P x) → Holds (judged text r) P
 judged_ok text (Ok x) P p = now x P (p x refl)
 judged_ok text (Err fault) P p = never (met fault text) P
+
+-- what is found passes the test, and has what each element has
+pub found_is : {X : Type 0} (test : X → Bool) (P : X → Type 0) (xs : List X) (x : X) → AllByRecursion P xs → find test xs ≡ Some x → (test x ≡ true) × P x
+found_is test P [] x all e = absurd cc
+found_is test P (y ∷ ys) x all e = elim (cases_Bool (test y)) [
+  | inl passes ↦ subst (λ z. (test z ≡ true) × P z) (some_is y x (rw passes at e)) (passes, all.0)
+  | inr fails ↦ found_is test P ys x all.1 (rw fails at e)
+]
+  where
+    some_is : {X : Type 0} (x y : X) → Some x ≡ Some y → x ≡ y
+    some_is x y e = cc

@@ -1,27 +1,40 @@
 -- Reading a program from left to right, with the first fault that is met.
-use Rattle.std.specs.Prelude.{ℕ, zero, suc, ◌+◌, ◌-◌, ◌^◌, ℤ, pos, negsuc, List, [], ◌∷◌, ◌++◌, length, drop, slice_get, sum_by, Bool, false, ◌==◌, not, nat_le, nat_lt, Option, Some, None, Result, Ok, Err, codes, if◌then◌else◌}
-use Rattle.std.specs.List.{list_any}
+use Rattle.std.specs.Prelude.{ℕ, zero, suc, ◌+◌, ◌-◌, ◌^◌, ℤ, pos, negsuc, List, [], ◌∷◌, ◌++◌, length, drop, slice_get, sum_by, Bool, false, ◌==◌, not, ◌&&◌, nat_le, nat_lt, Option, Result, Ok, Err, codes, if◌then◌else◌}
+use Rattle.std.specs.List.{list_any, find}
 use Rattle.std.specs.Str.{bytes_eq}
 use Rattle.vg_base.specs.Bind.{◌>>=◌}
 use Rattle.vg_base.specs.declared.address.Address.{Address}
 use Rattle.vg_base.specs.declared.width.Width.{Width}
+use Rattle.vg_base.specs.declared.width.Width.TheVariants.{W8, W16, W32, W64}
 use Rattle.vg_base.specs.Width.{bits_of}
 use Rattle.vg_program.specs.declared.program.Program.{Program}
 use Rattle.vg_program.specs.declared.param.Param.{Param}
 use Rattle.vg_program.specs.declared.param_kind.ParamKind.{ParamKind}
 use Rattle.vg_program.specs.declared.param_kind.ParamKind.TheVariants.{Pointer, Integer}
 use Rattle.vg_program.specs.declared.line.Line.{Line}
-use Rattle.vg_program.specs.declared.line.Line.TheVariants.{Load, Store, Two}
+use Rattle.vg_program.specs.declared.line.Line.TheVariants.{Load, Store, Two, Shift, Resize, Compare, Select}
+use Rattle.vg_program.specs.declared.left.Left.{Left}
+use Rattle.vg_program.specs.declared.left.Left.TheVariants as left_side
+use Rattle.vg_program.specs.declared.head.Head.{Head}
+use Rattle.vg_program.specs.declared.head.Head.TheVariants as head
+use Rattle.vg_program.specs.declared.wanted.Wanted.{Wanted}
+use Rattle.vg_program.specs.declared.wanted.Wanted.TheVariants as wanted
 use Rattle.vg_program.specs.declared.operand.Operand.{Operand}
 use Rattle.vg_program.specs.declared.operand.Operand.TheVariants.{Register, Argument, Literal}
-use Rattle.vg_program.specs.declared.two_op.TwoOp.{TwoOp}
-use Rattle.vg_program.specs.declared.two_op.TwoOp.TheVariants.{Add}
+use Rattle.vg_scalar.specs.declared.two_op.TwoOp.{TwoOp}
+use Rattle.vg_scalar.specs.declared.two_op.TwoOp.TheVariants.{Add, Sub, Mul, And, Or, Xor, Smin, Smax, Umin, Umax}
+use Rattle.vg_scalar.specs.declared.shift.Shift.{Shift as ShiftOp}
+use Rattle.vg_scalar.specs.declared.shift.Shift.TheVariants.{Shl, Lshr, Ashr}
+use Rattle.vg_scalar.specs.declared.resize.Resize.{Resize as ResizeOp}
+use Rattle.vg_scalar.specs.declared.resize.Resize.TheVariants.{Sext, Zext, Trunc}
+use Rattle.vg_scalar.specs.declared.comparison.Comparison.{Comparison}
+use Rattle.vg_scalar.specs.declared.comparison.Comparison.TheVariants.{Eq, Slt, Ult}
 use Rattle.vg_program.specs.declared.named.Named.{Named}
 use Rattle.vg_program.specs.declared.named.Named.TheVariants as named
 use Rattle.vg_program.specs.declared.fault.Fault.{Fault}
 use Rattle.vg_program.specs.declared.fault.Fault.TheVariants.{Shape, UnknownRegister, WidthMismatch, CostWrong, Range}
 use Rattle.vg_program.specs.declared.stop.Stop.{Stop}
-use Rattle.vg_program.specs.Text.{line_end, given}
+use Rattle.vg_program.specs.Text.{line_end, two_text, shift_text, resize_text, comparison_text, given}
 use Rattle.vg_program.specs.Cost.{line_cost}
 use Rattle.vg_text.specs.Byte.{is_digit}
 use Rattle.vg_program.specs.Tokens.{Read, met, unfit, or_stop, begins, signs_at, is_word, word_at, word_of, behind_word, name_at, type_at, number_at, register_at}
@@ -105,10 +118,13 @@ abbrev pub judged : {A : Type 0} → List ℕ → Result A Fault → Result A St
 judged text (Ok x) = Ok x
 judged text (Err fault) = Err (met fault text)
 
--- whether an operand of this width may stand where one of a width, or of any width in memory, is wanted
-abbrev pub fits : Option Width → ℕ → Bool
-fits (Some w) bits = bits == bits_of w
-fits None bits = not (bits == 1)
+-- whether an operand of so many bits may stand where this is wanted
+abbrev pub fits : Wanted → ℕ → Bool
+fits wanted.Number bits = not (bits == 1)
+fits (wanted.Exactly w) bits = bits == bits_of w
+fits (wanted.Narrower w) bits = not (bits == 1) && nat_lt bits (bits_of w)
+fits (wanted.Wider w) bits = nat_lt (bits_of w) bits
+fits wanted.Bit bits = bits == 1
 
 -- the offset of a number behind `+`, and behind `-`
 abbrev pub positive_offset : ℕ → Result ℤ Fault
@@ -145,89 +161,187 @@ address_at params text = do
   offset ← offset_at name.1
   Ok (record { pointer = pointer; offset = offset.0 }, offset.1)
 
--- `%s3`, where these are the widths of the registers given before
-unfoldable pub given_operand_at : List ℕ → Option Width → List ℕ → Read Operand
-given_operand_at widths wanted text = do
+-- `%s3`, where these are the widths of the registers given before; an operand is read with its width in bits
+unfoldable pub given_operand_at : List ℕ → Wanted → List ℕ → Read (Operand × ℕ)
+given_operand_at widths want text = do
   k ← register_at text
   width ← or_stop (slice_get widths k.0) (met UnknownRegister text)
-  if fits wanted width then Ok (Register k.0, k.1) else Err (met WidthMismatch text)
+  if fits want width then Ok ((Register k.0, width), k.1) else Err (met WidthMismatch text)
 
 -- `7i32`
-unfoldable pub literal_at : Option Width → List ℕ → Read Operand
-literal_at wanted text = do
+unfoldable pub literal_at : Wanted → List ℕ → Read (Operand × ℕ)
+literal_at want text = do
   n ← number_at text
   w ← type_at n.1
-  if fits wanted (bits_of w.0) then (if nat_lt n.0 (2 ^ bits_of w.0) then Ok (Literal w.0 n.0, w.1) else Err (met Range text)) else Err (met WidthMismatch text)
+  if fits want (bits_of w.0) then (if nat_lt n.0 (2 ^ bits_of w.0) then Ok ((Literal w.0 n.0, bits_of w.0), w.1) else Err (met Range text)) else Err (met WidthMismatch text)
 
 -- the name of an integer parameter
-unfoldable pub argument_at : List Param → Option Width → List ℕ → Read Operand
-argument_at params wanted text = do
+unfoldable pub argument_at : List Param → Wanted → List ℕ → Read (Operand × ℕ)
+argument_at params want text = do
   name ← name_at text
   k ← judged text (integer_of (named_in 0 0 params name.0))
-  if fits wanted (bits_of k.1) then Ok (Argument k.0, name.1) else Err (met WidthMismatch text)
+  if fits want (bits_of k.1) then Ok ((Argument k.0, bits_of k.1), name.1) else Err (met WidthMismatch text)
 
 -- whether a text begins with a digit
 abbrev pub begins_digit : List ℕ → Bool
 begins_digit [] = false
 begins_digit (b ∷ bs) = is_digit b
 
--- an operand where one of this width, or of any width in memory, is wanted
-unfoldable pub operand_at : List Param → List ℕ → Option Width → List ℕ → Read Operand
-operand_at params widths wanted text = if begins 37 text then given_operand_at widths wanted text else if begins_digit text then literal_at wanted text else argument_at params wanted text
+-- an operand where this is wanted of its width
+unfoldable pub operand_at : List Param → List ℕ → Wanted → List ℕ → Read (Operand × ℕ)
+operand_at params widths want text = if begins 37 text then given_operand_at widths want text else if begins_digit text then literal_at want text else argument_at params want text
+
+-- the width of so many bits
+abbrev pub width_with : ℕ → Option Width
+width_with bits = find (λ w. bits == bits_of w) (W8 ∷ W16 ∷ W32 ∷ W64 ∷ [])
+
+-- an operand of 8, 16, 32 or 64 bits, with its width
+unfoldable pub sized_at : List Param → List ℕ → Wanted → List ℕ → Read (Operand × Width)
+sized_at params widths want text = do
+  operand ← operand_at params widths want text
+  width ← or_stop (width_with operand.0.1) (met WidthMismatch text)
+  Ok ((operand.0.0, width), operand.1)
+
+-- two operands of this width
+unfoldable pub pair_at : List Param → List ℕ → Width → List ℕ → Read (Operand × Operand)
+pair_at params widths w text = do
+  first ← operand_at params widths (wanted.Exactly w) text
+  gap ← signs_at (codes " ") first.1
+  second ← operand_at params widths (wanted.Exactly w) gap
+  Ok ((first.0.0, second.0.0), second.1)
+
+-- ---- what stands behind the words of lines
+
+-- `p+4`
+unfoldable pub load_at : List Param → Width → List ℕ → Read Line
+load_at params w text = do
+  address ← address_at params text
+  Ok (Load w address.0, address.1)
+
+-- `p+4 %s0`
+unfoldable pub store_at : List Param → List ℕ → List ℕ → Read Line
+store_at params widths text = do
+  address ← address_at params text
+  gap ← signs_at (codes " ") address.1
+  value ← operand_at params widths wanted.Number gap
+  Ok (Store address.0 value.0.0, value.1)
+
+-- `%s0 1i32`, where all have this width
+unfoldable pub two_at : List Param → List ℕ → TwoOp → Width → List ℕ → Read Line
+two_at params widths op w text = do
+  pair ← pair_at params widths w text
+  Ok (Two op w pair.0.0 pair.0.1, pair.1)
+
+-- a number of places below the width
+abbrev pub amount_from : Width → ℕ → Result ℕ Fault
+amount_from w n = if nat_lt n (bits_of w) then Ok n else Err Range
+
+-- `%s0 7`
+unfoldable pub shift_at : List Param → List ℕ → ShiftOp → Width → List ℕ → Read Line
+shift_at params widths op w text = do
+  operand ← operand_at params widths (wanted.Exactly w) text
+  gap ← signs_at (codes " ") operand.1
+  n ← number_at gap
+  amount ← judged gap (amount_from w n.0)
+  Ok (Shift op w operand.0.0 amount, n.1)
+
+-- what a change to this width wants
+abbrev pub resized : ResizeOp → Width → Wanted
+resized Sext w = wanted.Narrower w
+resized Zext w = wanted.Narrower w
+resized Trunc w = wanted.Wider w
+
+-- `%s0`
+unfoldable pub resize_at : List Param → List ℕ → ResizeOp → Width → List ℕ → Read Line
+resize_at params widths op w text = do
+  operand ← sized_at params widths (resized op w) text
+  Ok (Resize op w operand.0.1 operand.0.0, operand.1)
+
+-- `%s0 1i32`, the second of the width of the first
+unfoldable pub compare_at : List Param → List ℕ → Comparison → List ℕ → Read Line
+compare_at params widths op text = do
+  first ← sized_at params widths wanted.Number text
+  gap ← signs_at (codes " ") first.1
+  second ← operand_at params widths (wanted.Exactly first.0.1) gap
+  Ok (Compare op first.0.1 first.0.0 second.0.0, second.1)
+
+-- `%s0 1i32 k`, the first of one bit
+unfoldable pub select_at : List Param → List ℕ → Width → List ℕ → Read Line
+select_at params widths w text = do
+  condition ← operand_at params widths wanted.Bit text
+  gap ← signs_at (codes " ") condition.1
+  pair ← pair_at params widths w gap
+  Ok (Select w condition.0.0 pair.0.0 pair.0.1, pair.1)
+
+-- the operands of a line
+abbrev pub operands_at : List Param → List ℕ → Head → List ℕ → Read Line
+operands_at params widths head.Store text = store_at params widths text
+operands_at params widths (head.Load w) text = load_at params w text
+operands_at params widths (head.Two op w) text = two_at params widths op w text
+operands_at params widths (head.Shift op w) text = shift_at params widths op w text
+operands_at params widths (head.Resize op w) text = resize_at params widths op w text
+operands_at params widths (head.Compare op) text = compare_at params widths op text
+operands_at params widths (head.Select w) text = select_at params widths w text
 
 -- ---- lines
 
--- `store p+4 %s0`
-unfoldable pub store_at : List Param → List ℕ → List ℕ → Read Line
-store_at params widths text = do
-  store ← word_at (codes "store") text
-  space ← signs_at (codes " ") store
-  address ← address_at params space
-  gap ← signs_at (codes " ") address.1
-  value ← operand_at params widths None gap
-  Ok (Store address.0 value.0, value.1)
+-- the word of a line
+abbrev pub head_text : Head → List ℕ
+head_text head.Store = codes "store"
+head_text (head.Load w) = codes "load"
+head_text (head.Two op w) = two_text op
+head_text (head.Shift op w) = shift_text op
+head_text (head.Resize op w) = resize_text op
+head_text (head.Compare op) = comparison_text op
+head_text (head.Select w) = codes "select"
 
--- `load p+4`, whose register has this width
-unfoldable pub load_at : List Param → Width → List ℕ → Read Line
-load_at params w text = do
-  load ← word_at (codes "load") text
-  space ← signs_at (codes " ") load
-  address ← address_at params space
-  Ok (Load w address.0, address.1)
+-- the lines that give a register of this width
+abbrev pub numbers : Width → List Head
+numbers w = head.Load w ∷ head.Two Add w ∷ head.Two Sub w ∷ head.Two Mul w ∷ head.Two And w ∷ head.Two Or w ∷ head.Two Xor w ∷ head.Two Smin w ∷ head.Two Smax w ∷ head.Two Umin w ∷ head.Two Umax w ∷ head.Shift Shl w ∷ head.Shift Lshr w ∷ head.Shift Ashr w ∷ head.Resize Sext w ∷ head.Resize Zext w ∷ head.Resize Trunc w ∷ head.Select w ∷ []
 
--- the operation of a name
-abbrev pub two_named : List ℕ → Option TwoOp
-two_named name = if bytes_eq name (codes "add") then Some Add else None
+-- the lines that may stand to the right of this
+abbrev pub heads : Left → List Head
+heads left_side.Nothing = head.Store ∷ []
+heads left_side.Bit = head.Compare Eq ∷ head.Compare Slt ∷ head.Compare Ult ∷ []
+heads (left_side.Number w) = numbers w
 
--- `add %s0 1i32`, where all have this width
-unfoldable pub two_at : List Param → List ℕ → Width → List ℕ → Read Line
-two_at params widths w text = do
-  op ← or_stop (two_named (word_of text)) (unfit text)
-  space ← signs_at (codes " ") (behind_word text)
-  left ← operand_at params widths (Some w) space
-  gap ← signs_at (codes " ") left.1
-  right ← operand_at params widths (Some w) gap
-  Ok (Two op w left.0 right.0, right.1)
+-- the one of a word
+unfoldable pub head_named : Left → List ℕ → Option Head
+head_named left word = find (λ h. bytes_eq word (head_text h)) (heads left)
 
--- the register on the left, where k registers are given before
-unfoldable pub left_at : ℕ → List ℕ → Result (List ℕ) Stop
-left_at k text = do
+-- `i1` or `i32`
+unfoldable pub left_type_at : List ℕ → Read Left
+left_type_at text = if is_word (codes "i1") text then Ok (left_side.Bit, behind_word text) else do
+  width ← type_at text
+  Ok (left_side.Number width.0, width.1)
+
+-- `%s3:i32 = `, where k registers are given before
+unfoldable pub register_left_at : ℕ → List ℕ → Read Left
+register_left_at k text = do
   register ← register_at text
-  if register.0 == k then Ok register.1 else Err (met Shape text)
+  if not (register.0 == k) then Err (met Shape text) else do
+    colon ← signs_at (codes ":") register.1
+    left ← left_type_at colon
+    right ← signs_at (codes " = ") left.1
+    Ok (left.0, right)
 
--- a line that gives a register
-unfoldable pub giving_at : List Param → List ℕ → List ℕ → Read Line
-giving_at params widths text = do
-  left ← left_at (length widths) text
-  colon ← signs_at (codes ":") left
-  w ← type_at colon
-  right ← signs_at (codes " = ") w.1
-  if is_word (codes "load") right then load_at params w.0 right else two_at params widths w.0 right
+-- what stands to the left of the word of a line
+unfoldable pub left_at : ℕ → List ℕ → Read Left
+left_at k text = if begins 37 text then register_left_at k text else Ok (left_side.Nothing, text)
+
+-- what stands in front of the operands of a line
+unfoldable pub head_at : ℕ → List ℕ → Read Head
+head_at k text = do
+  left ← left_at k text
+  line ← or_stop (head_named left.0 (word_of left.1)) (unfit left.1)
+  space ← signs_at (codes " ") (behind_word left.1)
+  Ok (line, space)
 
 -- a line with its end, where these are the widths of the registers given before
 unfoldable pub line_at : List Param → List ℕ → List ℕ → Read Line
 line_at params widths text = do
-  line ← (if begins 37 text then giving_at params widths text else store_at params widths text)
+  front ← head_at (length widths) text
+  line ← operands_at params widths front.0 front.1
   rest ← signs_at line_end line.1
   Ok (line.0, rest)
 

@@ -13,6 +13,10 @@ fn line_cost(line: &Line) -> u64
         Line::Load { .. } => 1,
         Line::Store { .. } => 1,
         Line::Two { .. } => 1,
+        Line::Shift { .. } => 1,
+        Line::Resize { .. } => 1,
+        Line::Compare { .. } => 1,
+        Line::Select { .. } => 1,
     }
 }
 

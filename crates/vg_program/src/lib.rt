@@ -6,6 +6,9 @@
 
 pub mod costs;
 mod fault;
+mod head;
+mod head_reading;
+mod left;
 pub mod line;
 mod line_reading;
 mod named;
@@ -20,7 +23,8 @@ pub mod program;
 pub mod program_fault;
 mod stop;
 mod tokens;
-pub mod two_op;
+mod wanted;
+mod words;
 
 pub use costs::cost;
 pub use line::Line;
@@ -31,7 +35,6 @@ pub use parsing::{MOST_BYTES, one_program, parse_program};
 pub use printing::print_program;
 pub use program::Program;
 pub use program_fault::ProgramFault;
-pub use two_op::TwoOp;
 
 #[cfg(test)]
 mod tests;

@@ -1,22 +1,36 @@
 //! The lines of a program between its first and its last.
 
-ghost use Rattle.std.specs.Prelude.{◌≡◌, ◌≤◌, ◌+◌, ◌-◌, ◌++◌, length, vec_len, List, [], OnOk, IfOk};
+ghost use Rattle.std.specs.Prelude.{◌≡◌, ◌≤◌, ◌+◌, ◌-◌, ◌++◌, ◌∷◌, length, vec_len, List, [], OnOk, IfOk, MatchOption};
+ghost use Rattle.vg_base.specs.Width.{bits_of};
 ghost use Rattle.vg_program.specs.Text.{given};
 ghost use Rattle.vg_program.specs.Tokens.{Gives};
-ghost use Rattle.vg_program.specs.Grammar.{store_at, load_at, two_named, two_at, left_at, giving_at, line_at, lines_at};
+ghost use Rattle.vg_program.specs.Grammar.{load_at, store_at, two_at, amount_from, shift_at, resized, resize_at, compare_at, select_at, operands_at, line_at, lines_at};
 
 use crate::fault::Fault;
+use crate::head::Head;
+use crate::head_reading::head_at;
 use crate::line::Line;
-use crate::operand_reading::{address_at, operand_at};
+use crate::operand_reading::{address_at, judged, operand_at, pair_at, sized_at};
 use crate::param::Param;
 use crate::stop::ReadError;
-use crate::tokens::{
-    begins, behind_word, is_text, is_word, met, register_at, signs_at, type_at, unfit, word_at,
-    word_of,
-};
-use crate::two_op::TwoOp;
+use crate::tokens::{is_word, number_at, signs_at, unfit};
+use crate::wanted::Wanted;
 use std::alloc::{AllocError, Global};
 use vg_base::width::Width;
+use vg_scalar::{Comparison, Resize, Shift, TwoOp};
+
+#[tactic(auto, unfolding(crate::specs::Grammar::load_at))]
+fn load_at<'a>(
+    params: &[Param],
+    width: Width,
+    text: &'a [u8],
+) -> Result<(Line, &'a [u8]), ReadError>
+    requires { length params.now ≤ 16 }
+    ensures { Gives (λ x. (x.0, x.1.now)) result (load_at params.now width text.now) }
+{
+    let (address, rest) = address_at(params, text)?;
+    Ok((Line::Load { width, address }, rest))
+}
 
 #[tactic(auto, unfolding(crate::specs::Grammar::store_at))]
 fn store_at<'a>(
@@ -28,100 +42,175 @@ fn store_at<'a>(
     requires widths { length widths.now ≤ 4194304 }
     ensures { Gives (λ x. (x.0, x.1.now)) result (store_at params.now widths.now text.now) }
 {
-    let rest = word_at(b"store", text)?;
+    let (address, rest) = address_at(params, text)?;
     let rest = signs_at(b" ", rest)?;
-    let (address, rest) = address_at(params, rest)?;
-    let rest = signs_at(b" ", rest)?;
-    let (value, rest) = operand_at(params, widths, None, rest)?;
+    let (value, _, rest) = operand_at(params, widths, Wanted::Number, rest)?;
     Ok((Line::Store { address, value }, rest))
-}
-
-#[tactic(auto, unfolding(crate::specs::Grammar::load_at))]
-fn load_at<'a>(
-    params: &[Param],
-    width: Width,
-    text: &'a [u8],
-) -> Result<(Line, &'a [u8]), ReadError>
-    requires { length params.now ≤ 16 }
-    ensures { Gives (λ x. (x.0, x.1.now)) result (load_at params.now width text.now) }
-{
-    let rest = word_at(b"load", text)?;
-    let rest = signs_at(b" ", rest)?;
-    let (address, rest) = address_at(params, rest)?;
-    Ok((Line::Load { width, address }, rest))
-}
-
-fn two_named(name: &[u8]) -> Option<TwoOp>
-    ensures { result ≡ two_named name.now }
-{
-    if is_text(name, b"add") {
-        Some(TwoOp::Add)
-    } else {
-        None
-    }
 }
 
 #[tactic(auto, unfolding(crate::specs::Grammar::two_at))]
 fn two_at<'a>(
     params: &[Param],
     widths: &[u32],
+    op: TwoOp,
     width: Width,
     text: &'a [u8],
 ) -> Result<(Line, &'a [u8]), ReadError>
     requires params { length params.now ≤ 16 }
     requires widths { length widths.now ≤ 4194304 }
-    ensures { Gives (λ x. (x.0, x.1.now)) result (two_at params.now widths.now width text.now) }
+    ensures { Gives (λ x. (x.0, x.1.now)) result (two_at params.now widths.now op width text.now) }
 {
-    match two_named(word_of(text)) {
-        None => Err(ReadError::At(unfit(text))),
-        Some(op) => {
-            let rest = signs_at(b" ", behind_word(text))?;
-            let (left, rest) = operand_at(params, widths, Some(width), rest)?;
-            let rest = signs_at(b" ", rest)?;
-            let (right, rest) = operand_at(params, widths, Some(width), rest)?;
-            Ok((
-                Line::Two {
-                    op,
-                    width,
-                    left,
-                    right,
-                },
-                rest,
-            ))
-        }
-    }
+    let (left, right, rest) = pair_at(params, widths, width, text)?;
+    Ok((
+        Line::Two {
+            op,
+            width,
+            left,
+            right,
+        },
+        rest,
+    ))
 }
 
-#[tactic(auto, unfolding(crate::specs::Grammar::left_at))]
-fn left_at(given: usize, text: &[u8]) -> Result<&[u8], ReadError>
-    ensures { Gives (λ rest. rest.now) result (left_at given text.now) }
+fn amount_from(width: Width, number: u128) -> Result<u32, Fault>
+    ensures { result ≡ amount_from width number }
 {
-    let (register, rest) = register_at(text)?;
-    if register == given as u128 {
-        Ok(rest)
+    if number < width.bits() as u128 {
+        Ok(number as u32)
     } else {
-        Err(ReadError::At(met(Fault::Shape, text)))
+        Err(Fault::Range)
     }
 }
 
-#[tactic(auto, unfolding(crate::specs::Grammar::giving_at))]
-fn giving_at<'a>(
+#[tactic(auto, unfolding(crate::specs::Grammar::shift_at))]
+fn shift_at<'a>(
     params: &[Param],
     widths: &[u32],
+    op: Shift,
+    width: Width,
     text: &'a [u8],
 ) -> Result<(Line, &'a [u8]), ReadError>
     requires params { length params.now ≤ 16 }
     requires widths { length widths.now ≤ 4194304 }
-    ensures { Gives (λ x. (x.0, x.1.now)) result (giving_at params.now widths.now text.now) }
+    ensures { Gives (λ x. (x.0, x.1.now)) result (shift_at params.now widths.now op width text.now) }
 {
-    let rest = left_at(widths.len(), text)?;
-    let rest = signs_at(b":", rest)?;
-    let (width, rest) = type_at(rest)?;
-    let rest = signs_at(b" = ", rest)?;
-    if is_word(b"load", rest) {
-        load_at(params, width, rest)
-    } else {
-        two_at(params, widths, width, rest)
+    let (operand, _, rest) = operand_at(params, widths, Wanted::Exactly(width), text)?;
+    let number = signs_at(b" ", rest)?;
+    let (n, rest) = number_at(number)?;
+    let amount = judged(number, amount_from(width, n))?;
+    Ok((
+        Line::Shift {
+            op,
+            width,
+            operand,
+            amount,
+        },
+        rest,
+    ))
+}
+
+/// What a change to this width wants.
+fn resized(op: Resize, width: Width) -> Wanted
+    ensures { result ≡ resized op width }
+{
+    match op {
+        Resize::Sext | Resize::Zext => Wanted::Narrower(width),
+        Resize::Trunc => Wanted::Wider(width),
+    }
+}
+
+#[tactic(auto, unfolding(crate::specs::Grammar::resize_at))]
+fn resize_at<'a>(
+    params: &[Param],
+    widths: &[u32],
+    op: Resize,
+    width: Width,
+    text: &'a [u8],
+) -> Result<(Line, &'a [u8]), ReadError>
+    requires params { length params.now ≤ 16 }
+    requires widths { length widths.now ≤ 4194304 }
+    ensures { Gives (λ x. (x.0, x.1.now)) result (resize_at params.now widths.now op width text.now) }
+{
+    let (operand, from, rest) = sized_at(params, widths, resized(op, width), text)?;
+    Ok((
+        Line::Resize {
+            op,
+            width,
+            from,
+            operand,
+        },
+        rest,
+    ))
+}
+
+#[tactic(auto, unfolding(crate::specs::Grammar::compare_at))]
+fn compare_at<'a>(
+    params: &[Param],
+    widths: &[u32],
+    op: Comparison,
+    text: &'a [u8],
+) -> Result<(Line, &'a [u8]), ReadError>
+    requires params { length params.now ≤ 16 }
+    requires widths { length widths.now ≤ 4194304 }
+    ensures { Gives (λ x. (x.0, x.1.now)) result (compare_at params.now widths.now op text.now) }
+{
+    let (left, width, rest) = sized_at(params, widths, Wanted::Number, text)?;
+    let rest = signs_at(b" ", rest)?;
+    let (right, _, rest) = operand_at(params, widths, Wanted::Exactly(width), rest)?;
+    Ok((
+        Line::Compare {
+            op,
+            width,
+            left,
+            right,
+        },
+        rest,
+    ))
+}
+
+#[tactic(auto, unfolding(crate::specs::Grammar::select_at))]
+fn select_at<'a>(
+    params: &[Param],
+    widths: &[u32],
+    width: Width,
+    text: &'a [u8],
+) -> Result<(Line, &'a [u8]), ReadError>
+    requires params { length params.now ≤ 16 }
+    requires widths { length widths.now ≤ 4194304 }
+    ensures { Gives (λ x. (x.0, x.1.now)) result (select_at params.now widths.now width text.now) }
+{
+    let (condition, _, rest) = operand_at(params, widths, Wanted::Bit, text)?;
+    let rest = signs_at(b" ", rest)?;
+    let (first, second, rest) = pair_at(params, widths, width, rest)?;
+    Ok((
+        Line::Select {
+            width,
+            condition,
+            first,
+            second,
+        },
+        rest,
+    ))
+}
+
+fn operands_at<'a>(
+    params: &[Param],
+    widths: &[u32],
+    head: Head,
+    text: &'a [u8],
+) -> Result<(Line, &'a [u8]), ReadError>
+    requires params { length params.now ≤ 16 }
+    requires widths { length widths.now ≤ 4194304 }
+    ensures { Gives (λ x. (x.0, x.1.now)) result (operands_at params.now widths.now head text.now) }
+{
+    match head {
+        Head::Store => store_at(params, widths, text),
+        Head::Load(width) => load_at(params, width, text),
+        Head::Two(op, width) => two_at(params, widths, op, width, text),
+        Head::Shift(op, width) => shift_at(params, widths, op, width, text),
+        Head::Resize(op, width) => resize_at(params, widths, op, width, text),
+        Head::Compare(op) => compare_at(params, widths, op, text),
+        Head::Select(width) => select_at(params, widths, width, text),
     }
 }
 
@@ -135,24 +224,34 @@ fn line_at<'a>(
     requires widths { length widths.now ≤ 4194304 }
     ensures { Gives (λ x. (x.0, x.1.now)) result (line_at params.now widths.now text.now) }
 {
-    let (line, rest) = if begins(b'%', text) {
-        giving_at(params, widths, text)?
-    } else {
-        store_at(params, widths, text)?
-    };
+    let (head, rest) = head_at(widths.len(), text)?;
+    let (line, rest) = operands_at(params, widths, head, rest)?;
     let rest = signs_at(b"\n", rest)?;
     Ok((line, rest))
 }
 
-/// Adds the width of the register that a line gives.
-fn give(widths: &mut Vec<u32>, line: &Line) -> Result<(), AllocError>
-    ensures widths { OnOk result (widths.new.items ≡ widths.old.items ++ given line.now) }
-    ensures few { OnOk result (vec_len widths.new ≤ vec_len widths.old + 1) }
+/// The width in bits of the register that a line gives.
+pub(crate) fn given(line: Line) -> Option<u32>
+    ensures { MatchOption result (given line ≡ []) (λ bits. given line ≡ bits ∷ []) }
 {
     match line {
-        Line::Load { width, .. } => widths.push(width.bits())?,
-        Line::Two { width, .. } => widths.push(width.bits())?,
-        Line::Store { .. } => {}
+        Line::Store { .. } => None,
+        Line::Compare { .. } => Some(1),
+        Line::Load { width, .. }
+        | Line::Two { width, .. }
+        | Line::Shift { width, .. }
+        | Line::Resize { width, .. }
+        | Line::Select { width, .. } => Some(width.bits()),
+    }
+}
+
+/// Adds the width of the register that a line gives.
+fn give(widths: &mut Vec<u32>, line: Line) -> Result<(), AllocError>
+    ensures widths { OnOk result (widths.new.items ≡ widths.old.items ++ given line) }
+    ensures few { OnOk result (vec_len widths.new ≤ vec_len widths.old + 1) }
+{
+    if let Some(bits) = given(line) {
+        widths.push(bits)?;
     }
     Ok(())
 }
@@ -180,7 +279,7 @@ pub(crate) fn lines_at<'a>(
             return Err(ReadError::At(unfit(rest)));
         }
         let (line, behind) = line_at(params, &widths, rest)?;
-        give(&mut widths, &line)?;
+        give(&mut widths, line)?;
         lines.push(line)?;
         rest = behind;
     }

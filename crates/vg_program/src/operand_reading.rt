@@ -4,7 +4,7 @@ ghost use Rattle.std.specs.Prelude.{◌≡◌, ◌≤◌, ◌+◌, length, slice
 ghost use Rattle.vg_program.specs.Tokens.{Gives};
 ghost use Rattle.vg_base.specs.Width.{bits_of};
 ghost use Rattle.vg_text.specs.Byte.{is_digit};
-ghost use Rattle.vg_program.specs.Grammar.{named_in, judged, pointer_of, integer_of, fits, positive_offset, negative_offset, negative_at, positive_at, offset_at, address_at, given_operand_at, literal_at, argument_at, begins_digit, operand_at};
+ghost use Rattle.vg_program.specs.Grammar.{named_in, judged, pointer_of, integer_of, fits, positive_offset, negative_offset, negative_at, positive_at, offset_at, address_at, given_operand_at, literal_at, argument_at, begins_digit, operand_at, width_with, sized_at, pair_at};
 
 use crate::fault::Fault;
 use crate::named::Named;
@@ -13,6 +13,7 @@ use crate::param::Param;
 use crate::param_kind::ParamKind;
 use crate::stop::ReadError;
 use crate::tokens::{begins, is_text, met, name_at, number_at, register_at, signs_at, type_at};
+use crate::wanted::Wanted;
 use vg_base::address::Address;
 use vg_base::width::Width;
 use vg_text::byte::is_digit;
@@ -69,13 +70,16 @@ pub(crate) fn judged<T>(text: &[u8], judgement: Result<T, Fault>) -> Result<T, R
     }
 }
 
-/// Whether an operand of a width in bits may stand where one of a width, or of any width in memory, is wanted.
-fn fits(wanted: Option<Width>, bits: u32) -> bool
+/// Whether an operand of so many bits may stand where this is wanted.
+fn fits(wanted: Wanted, bits: u32) -> bool
     ensures { result ≡ fits wanted bits }
 {
     match wanted {
-        None => bits != 1,
-        Some(width) => bits == width.bits(),
+        Wanted::Number => bits != 1,
+        Wanted::Exactly(width) => bits == width.bits(),
+        Wanted::Narrower(width) => bits != 1 && bits < width.bits(),
+        Wanted::Wider(width) => bits > width.bits(),
+        Wanted::Bit => bits == 1,
     }
 }
 
@@ -160,16 +164,16 @@ fn width_of(widths: &[u32], register: u128) -> Option<u32>
 #[tactic(auto, unfolding(crate::specs::Grammar::given_operand_at))]
 fn given_operand_at<'a>(
     widths: &[u32],
-    wanted: Option<Width>,
+    wanted: Wanted,
     text: &'a [u8],
-) -> Result<(Operand, &'a [u8]), ReadError>
+) -> Result<(Operand, u32, &'a [u8]), ReadError>
     requires { length widths.now ≤ 4194304 }
-    ensures { Gives (λ x. (x.0, x.1.now)) result (given_operand_at widths.now wanted text.now) }
+    ensures { Gives (λ x. ((x.0, x.1), x.2.now)) result (given_operand_at widths.now wanted text.now) }
 {
     let (register, rest) = register_at(text)?;
     match width_of(widths, register) {
         None => Err(ReadError::At(met(Fault::UnknownRegister, text))),
-        Some(bits) if fits(wanted, bits) => Ok((Operand::Register(register as u32), rest)),
+        Some(bits) if fits(wanted, bits) => Ok((Operand::Register(register as u32), bits, rest)),
         Some(_) => Err(ReadError::At(met(Fault::WidthMismatch, text))),
     }
 }
@@ -187,8 +191,8 @@ fn is_below(number: u128, width: Width) -> bool
 }
 
 #[tactic(auto, unfolding(crate::specs::Grammar::literal_at))]
-fn literal_at(wanted: Option<Width>, text: &[u8]) -> Result<(Operand, &[u8]), ReadError>
-    ensures { Gives (λ x. (x.0, x.1.now)) result (literal_at wanted text.now) }
+fn literal_at(wanted: Wanted, text: &[u8]) -> Result<(Operand, u32, &[u8]), ReadError>
+    ensures { Gives (λ x. ((x.0, x.1), x.2.now)) result (literal_at wanted text.now) }
 {
     let (number, rest) = number_at(text)?;
     let (width, rest) = type_at(rest)?;
@@ -203,6 +207,7 @@ fn literal_at(wanted: Option<Width>, text: &[u8]) -> Result<(Operand, &[u8]), Re
             width,
             number: number as u64,
         },
+        width.bits(),
         rest,
     ))
 }
@@ -210,18 +215,18 @@ fn literal_at(wanted: Option<Width>, text: &[u8]) -> Result<(Operand, &[u8]), Re
 #[tactic(auto, unfolding(crate::specs::Grammar::argument_at))]
 fn argument_at<'a>(
     params: &[Param],
-    wanted: Option<Width>,
+    wanted: Wanted,
     text: &'a [u8],
-) -> Result<(Operand, &'a [u8]), ReadError>
+) -> Result<(Operand, u32, &'a [u8]), ReadError>
     requires { length params.now ≤ 16 }
-    ensures { Gives (λ x. (x.0, x.1.now)) result (argument_at params.now wanted text.now) }
+    ensures { Gives (λ x. ((x.0, x.1), x.2.now)) result (argument_at params.now wanted text.now) }
 {
     let (name, rest) = name_at(text)?;
     let (number, width) = judged(text, integer_of(named_in(params, name)))?;
     if !fits(wanted, width.bits()) {
         return Err(ReadError::At(met(Fault::WidthMismatch, text)));
     }
-    Ok((Operand::Argument(number), rest))
+    Ok((Operand::Argument(number), width.bits(), rest))
 }
 
 fn begins_digit(text: &[u8]) -> bool
@@ -233,16 +238,17 @@ fn begins_digit(text: &[u8]) -> bool
     }
 }
 
+/// An operand with its width in bits.
 #[tactic(auto, unfolding(crate::specs::Grammar::operand_at))]
 pub(crate) fn operand_at<'a>(
     params: &[Param],
     widths: &[u32],
-    wanted: Option<Width>,
+    wanted: Wanted,
     text: &'a [u8],
-) -> Result<(Operand, &'a [u8]), ReadError>
+) -> Result<(Operand, u32, &'a [u8]), ReadError>
     requires params { length params.now ≤ 16 }
     requires widths { length widths.now ≤ 4194304 }
-    ensures { Gives (λ x. (x.0, x.1.now)) result (operand_at params.now widths.now wanted text.now) }
+    ensures { Gives (λ x. ((x.0, x.1), x.2.now)) result (operand_at params.now widths.now wanted text.now) }
 {
     if begins(b'%', text) {
         given_operand_at(widths, wanted, text)
@@ -251,4 +257,53 @@ pub(crate) fn operand_at<'a>(
     } else {
         argument_at(params, wanted, text)
     }
+}
+
+fn width_with(bits: u32) -> Option<Width>
+    ensures { result ≡ width_with bits }
+{
+    match bits {
+        8 => Some(Width::W8),
+        16 => Some(Width::W16),
+        32 => Some(Width::W32),
+        64 => Some(Width::W64),
+        _ => None,
+    }
+}
+
+/// An operand of 8, 16, 32 or 64 bits with its width.
+#[tactic(auto, unfolding(crate::specs::Grammar::sized_at))]
+pub(crate) fn sized_at<'a>(
+    params: &[Param],
+    widths: &[u32],
+    wanted: Wanted,
+    text: &'a [u8],
+) -> Result<(Operand, Width, &'a [u8]), ReadError>
+    requires params { length params.now ≤ 16 }
+    requires widths { length widths.now ≤ 4194304 }
+    ensures { Gives (λ x. ((x.0, x.1), x.2.now)) result (sized_at params.now widths.now wanted text.now) }
+{
+    let (operand, bits, rest) = operand_at(params, widths, wanted, text)?;
+    match width_with(bits) {
+        None => Err(ReadError::At(met(Fault::WidthMismatch, text))),
+        Some(width) => Ok((operand, width, rest)),
+    }
+}
+
+/// Two operands of one width.
+#[tactic(auto, unfolding(crate::specs::Grammar::pair_at))]
+pub(crate) fn pair_at<'a>(
+    params: &[Param],
+    widths: &[u32],
+    width: Width,
+    text: &'a [u8],
+) -> Result<(Operand, Operand, &'a [u8]), ReadError>
+    requires params { length params.now ≤ 16 }
+    requires widths { length widths.now ≤ 4194304 }
+    ensures { Gives (λ x. ((x.0, x.1), x.2.now)) result (pair_at params.now widths.now width text.now) }
+{
+    let (first, _, rest) = operand_at(params, widths, Wanted::Exactly(width), text)?;
+    let rest = signs_at(b" ", rest)?;
+    let (second, _, rest) = operand_at(params, widths, Wanted::Exactly(width), rest)?;
+    Ok((first, second, rest))
 }

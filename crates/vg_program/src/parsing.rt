@@ -169,7 +169,7 @@ fn read(alloc: Global, text: &[u8]) -> Result<Program, ProgramFault>
     }
 }
 
-/// Reads the text of a program of the lines `load`, `store` and `add`.
+/// Reads the text of a program of scalar lines.
 ///
 /// An error is the first fault of the text, as `ProgramFault` tells, or want of memory.
 pub fn parse_program(alloc: Global, text: &[u8]) -> Result<Program, ProgramFault>

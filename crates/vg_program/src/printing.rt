@@ -3,14 +3,15 @@
 ghost use Rattle.std.specs.Prelude.{◌≡◌, ◌++◌, ◌∷◌, List, [], IfOk, OnOk, length, slice_get};
 ghost use Rattle.std.specs.Fmt.{decimal, signed_decimal};
 ghost use Rattle.vg_program.specs.Params.{pointers, integers, name_of};
-ghost use Rattle.vg_program.specs.Text.{type_text, kind_text, param_text, params_text, offset_text, address_text, register_text, operand_text, two_text, given, left_text, line_text, lines_text, first_line, last_line, text_of};
+ghost use Rattle.vg_program.specs.Text.{type_text, kind_text, param_text, params_text, offset_text, address_text, register_text, bits_text, operand_text, pair_text, operands_text, given, left_text, line_text, lines_text, first_line, last_line, text_of};
 
 use crate::line::Line;
+use crate::line_reading::given;
 use crate::operand::Operand;
 use crate::param::Param;
 use crate::param_kind::ParamKind;
 use crate::program::Program;
-use crate::two_op::TwoOp;
+use crate::words::word_text;
 use std::alloc::{AllocError, Global};
 use vg_base::address::Address;
 use vg_base::width::Width;
@@ -57,11 +58,17 @@ fn put_number(alloc: Global, to: &mut Vec<u8>, number: u64) -> Result<(), AllocE
     Ok(())
 }
 
+fn put_bits(alloc: Global, to: &mut Vec<u8>, bits: u32) -> Result<(), AllocError>
+    ensures { OnOk result (to.new.items ≡ to.old.items ++ bits_text bits) }
+{
+    to.extend_from_slice(b"i")?;
+    put_number(alloc, to, bits as u64)
+}
+
 fn put_type(alloc: Global, to: &mut Vec<u8>, width: Width) -> Result<(), AllocError>
     ensures { OnOk result (to.new.items ≡ to.old.items ++ type_text width) }
 {
-    to.extend_from_slice(b"i")?;
-    put_number(alloc, to, width.bits() as u64)
+    put_bits(alloc, to, width.bits())
 }
 
 fn put_param(alloc: Global, to: &mut Vec<u8>, param: &Param) -> Result<(), AllocError>
@@ -135,22 +142,70 @@ fn put_operand(
     Ok(())
 }
 
-fn put_two(to: &mut Vec<u8>, op: TwoOp) -> Result<(), AllocError>
-    ensures { OnOk result (to.new.items ≡ to.old.items ++ two_text op) }
+fn put_pair(
+    alloc: Global,
+    to: &mut Vec<u8>,
+    params: &[Param],
+    left: Operand,
+    right: Operand,
+) -> Result<(), AllocError>
+    ensures { OnOk result (to.new.items ≡ to.old.items ++ pair_text params.now left right) }
 {
-    match op {
-        TwoOp::Add => to.extend_from_slice(b"add")?,
+    put_operand(alloc, to, params, left)?;
+    to.extend_from_slice(b" ")?;
+    put_operand(alloc, to, params, right)
+}
+
+fn put_operands(
+    alloc: Global,
+    to: &mut Vec<u8>,
+    params: &[Param],
+    line: Line,
+) -> Result<(), AllocError>
+    ensures { OnOk result (to.new.items ≡ to.old.items ++ operands_text params.now line) }
+{
+    match line {
+        Line::Load { address, .. } => put_address(alloc, to, params, address)?,
+        Line::Store { address, value } => {
+            put_address(alloc, to, params, address)?;
+            to.extend_from_slice(b" ")?;
+            put_operand(alloc, to, params, value)?;
+        }
+        Line::Two { left, right, .. } => put_pair(alloc, to, params, left, right)?,
+        Line::Shift {
+            operand,
+            amount,
+            ..
+        } => {
+            put_operand(alloc, to, params, operand)?;
+            to.extend_from_slice(b" ")?;
+            put_number(alloc, to, amount as u64)?;
+        }
+        Line::Resize { operand, .. } => put_operand(alloc, to, params, operand)?,
+        Line::Compare { left, right, .. } => put_pair(alloc, to, params, left, right)?,
+        Line::Select {
+            condition,
+            first,
+            second,
+            ..
+        } => {
+            put_operand(alloc, to, params, condition)?;
+            to.extend_from_slice(b" ")?;
+            put_pair(alloc, to, params, first, second)?;
+        }
     }
     Ok(())
 }
 
-fn put_left(alloc: Global, to: &mut Vec<u8>, register: u64, width: Width) -> Result<(), AllocError>
-    ensures { OnOk result (to.new.items ≡ to.old.items ++ left_text register width) }
+fn put_left(alloc: Global, to: &mut Vec<u8>, register: u64, line: Line) -> Result<(), AllocError>
+    ensures { OnOk result (to.new.items ≡ to.old.items ++ left_text register (given line)) }
 {
-    put_register(alloc, to, register)?;
-    to.extend_from_slice(b":")?;
-    put_type(alloc, to, width)?;
-    to.extend_from_slice(b" = ")?;
+    if let Some(bits) = given(line) {
+        put_register(alloc, to, register)?;
+        to.extend_from_slice(b":")?;
+        put_bits(alloc, to, bits)?;
+        to.extend_from_slice(b" = ")?;
+    }
     Ok(())
 }
 
@@ -158,47 +213,24 @@ fn put_line(
     alloc: Global,
     to: &mut Vec<u8>,
     params: &[Param],
-    given: u64,
-    line: &Line,
+    register: u64,
+    line: Line,
 ) -> Result<(), AllocError>
-    ensures { OnOk result (to.new.items ≡ to.old.items ++ line_text params.now given line.now) }
+    ensures { OnOk result (to.new.items ≡ to.old.items ++ line_text params.now register line) }
 {
-    match *line {
-        Line::Load { width, address } => {
-            put_left(alloc, to, given, width)?;
-            to.extend_from_slice(b"load ")?;
-            put_address(alloc, to, params, address)?;
-        }
-        Line::Store { address, value } => {
-            to.extend_from_slice(b"store ")?;
-            put_address(alloc, to, params, address)?;
-            to.extend_from_slice(b" ")?;
-            put_operand(alloc, to, params, value)?;
-        }
-        Line::Two {
-            op,
-            width,
-            left,
-            right,
-        } => {
-            put_left(alloc, to, given, width)?;
-            put_two(to, op)?;
-            to.extend_from_slice(b" ")?;
-            put_operand(alloc, to, params, left)?;
-            to.extend_from_slice(b" ")?;
-            put_operand(alloc, to, params, right)?;
-        }
-    }
-    Ok(())
+    put_left(alloc, to, register, line)?;
+    to.extend_from_slice(word_text(line))?;
+    to.extend_from_slice(b" ")?;
+    put_operands(alloc, to, params, line)
 }
 
 /// How many registers a line gives.
-fn registers_of(line: &Line) -> u64
-    ensures { result ≡ length (given line.now) }
+fn registers_of(line: Line) -> u64
+    ensures { result ≡ length (given line) }
 {
-    match line {
-        Line::Load { .. } | Line::Two { .. } => 1,
-        Line::Store { .. } => 0,
+    match given(line) {
+        None => 0,
+        Some(_) => 1,
     }
 }
 
@@ -211,12 +243,12 @@ fn put_lines(
 ) -> Result<(), AllocError>
     ensures { OnOk result (to.new.items ≡ to.old.items ++ lines_text params.now 0 lines.now) }
 {
-    let mut given: u64 = 0;
+    let mut registers: u64 = 0;
     let mut rest = lines;
     'lines: while let [line, behind @ ..] = rest {
-        put_line(alloc, to, params, given, line)?;
+        put_line(alloc, to, params, registers, *line)?;
         to.extend_from_slice(b"\n")?;
-        given += registers_of(line);
+        registers += registers_of(*line);
         rest = behind;
     }
     Ok(())

@@ -1,6 +1,6 @@
 //! Shifts.
 
-ghost use Rattle.std.specs.Prelude.{◌≡◌, ◌^◌, ◌<◌};
+ghost use Rattle.std.specs.Prelude.{◌≡◌, ◌<◌};
 ghost use Rattle.vg_base.specs.Width.{bits_of};
 ghost use Rattle.vg_scalar.specs.Scalar.{shift_result};
 
@@ -19,11 +19,25 @@ pub enum Shift {
 }
 
 impl Shift {
-    /// The result, below 2 to the width. Of the number the low bits count.
+    /// The result, below 2 to the width. Of the number the low bits count; a shift by the width or more leaves zeros, or
+    /// under `Ashr` the sign alone.
     pub fn apply(self, width: Width, amount: u32, number: u64) -> u64
+        ensures { result ≡ shift_result self (bits_of width) amount number }
+    {
+        if amount < width.bits() {
+            return self.within(width, amount, number);
+        }
+        match self {
+            Shift::Shl => 0,
+            Shift::Lshr => 0,
+            Shift::Ashr => self.within(width, width.bits() - 1, number),
+        }
+    }
+
+    /// A shift by fewer places than there are bits.
+    fn within(self, width: Width, amount: u32, number: u64) -> u64
         requires { amount < bits_of width }
-        ensures is { result ≡ shift_result self (bits_of width) amount number }
-        ensures below { result < 2 ^ bits_of width }
+        ensures { result ≡ shift_result self (bits_of width) amount number }
     {
         match self {
             Shift::Shl => low(width, number << amount),

@@ -4,7 +4,7 @@ ghost use Rattle.std.specs.Prelude.{◌≡◌, ◌+◌, ◌<◌, ◌≤◌, ◌^
 ghost use Rattle.vg_text.specs.Place.{place_after, first_place};
 
 use crate::front::{Front, look_at};
-use crate::place::{Place, place_after};
+use crate::place::{Place, end_place, place_after};
 use crate::token::{Token, TokenKind};
 
 /// Reads a text token by token. White space and comments stand between tokens and are passed over.
@@ -34,7 +34,7 @@ pub struct Word<'a> {
 
 impl<'a> Lexer<'a> {
     ghost use Rattle.vg_text.specs.Lexing.{left, source, reading, spelled_of};
-    ghost use Rattle.vg_text.specs.Words.{word_at, reading_of};
+    ghost use Rattle.vg_text.specs.Words.{word_at, reading_of, place_in};
     ghost use Rattle.vg_text.specs.Token.{Takes};
     ghost use Rattle.vg_text.specs.Cut.{Cuts, IsTokenOf};
 
@@ -74,7 +74,19 @@ impl<'a> Lexer<'a> {
         Ok(self.end())
     }
 
-    /// The next token with its bytes, and the lexer behind it. Takes no memory.
+    /// The place of a token that was read; that of the end is right behind the last byte.
+    fn place_in(&self, token: &Token) -> Place
+        ensures { result ≡ place_in self.now.text.now token.now }
+    {
+        if token.kind.is_end() {
+            end_place(self.text)
+        } else {
+            token.place
+        }
+    }
+
+    /// The next token with its bytes, and the lexer behind it. The end stands one column past the last byte, on that
+    /// byte's line. Takes no memory.
     pub fn word(self) -> Result<(Word<'a>, Lexer<'a>), Place>
         ensures word { MatchResult result (λ x. word_at (reading self.entry) ≡ Ok (spelled_of x.0, reading x.1)) (λ p. word_at (reading self.entry) ≡ Err p) }
     {
@@ -82,7 +94,7 @@ impl<'a> Lexer<'a> {
         let token = lexer.next()?;
         let word = Word {
             bytes: &lexer.text[token.start..token.end],
-            place: token.place,
+            place: lexer.place_in(&token),
             is_end: token.kind.is_end(),
         };
         Ok((word, lexer))

@@ -1,7 +1,7 @@
 //! Places in a text.
 
 ghost use Rattle.std.specs.Prelude.{◌≡◌, ◌+◌, ◌-◌, ◌<◌, ◌≤◌, ◌^◌, max, length};
-ghost use Rattle.vg_text.specs.Place.{place_behind, place_after};
+ghost use Rattle.vg_text.specs.Place.{place_behind, place_after, end_place};
 
 /// Where a byte stands. Both count from 1, the column in bytes.
 #[derive(Clone, Copy, Debug, PartialEq, Eq)]
@@ -44,4 +44,21 @@ pub fn place_after(place: Place, bytes: &[u8]) -> Place
         here = place_behind(here, *byte);
     }
     here
+}
+
+/// Where a text ends: one column past its last byte, on that byte's line. An empty text ends where it begins.
+#[tactic(auto, unfolding(crate::specs::Place::end_place))]
+pub fn end_place(text: &[u8]) -> Place
+    requires { length text.now ≤ 2 ^ 31 }
+    ensures { result ≡ end_place text.now }
+{
+    let first = Place { line: 1, column: 1 };
+    if text.is_empty() {
+        return first;
+    }
+    let last = place_after(first, &text[..text.len() - 1]);
+    Place {
+        line: last.line,
+        column: last.column + 1,
+    }
 }

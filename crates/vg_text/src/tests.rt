@@ -63,6 +63,28 @@ fn signs_of_two_bytes_are_one_token(rt: HostRuntime) -> Result<(), Fail> {
     Ok(())
 }
 
+#[test]
+fn the_end_stands_behind_the_last_byte_of_its_line(rt: HostRuntime) -> Result<(), Fail> {
+    for (text, line, column) in [
+        (b"".as_slice(), 1, 1),
+        (b" ".as_slice(), 1, 2),
+        (b"\n".as_slice(), 1, 2),
+        (b" \n\n".as_slice(), 2, 2),
+        (b"// a\r\n".as_slice(), 1, 7),
+        (b"\n //".as_slice(), 2, 4),
+    ] {
+        let (word, rest) = Lexer::new(text).word().ok().ok_or("the end")?;
+        let (again, _) = rest.word().ok().ok_or("the end again")?;
+        let place = Place { line, column };
+        assert!(rt; word.is_end && again.is_end);
+        assert!(rt;
+            word.place == place && again.place == place,
+            "line {line} column {column}"
+        );
+    }
+    Ok(())
+}
+
 /// The answer behind so many tokens, and the one behind that.
 fn answers_behind(
     rt: &impl Abort,

@@ -1,14 +1,21 @@
 -- The text of the scalar program answers its kernel.
 use Rattle.std.proofs.Common.{◌≡◌, ℕ, List, Result, Ok, Err, refl, sym, ◌∙◌, ap, subst, arith}
+use Rattle.std.specs.Prelude.{Vec}
 use Rattle.std.specs.Result.{IfOk}
+use Rattle.std.specs.declared.alloc.Global.{Global}
 use Rattle.std.specs.declared.alloc.AllocError.{AllocError}
-use Rattle.vg_kernel.specs.Tree.{Tree}
+use Rattle.vg_kernel.specs.declared.kernel.Kernel.{Kernel}
+use Rattle.vg_kernel.specs.Tree.{Tree, tree_of}
 use Rattle.vg_kernel.specs.WellFormed.{IsWellFormed}
 use Rattle.vg_program.specs.declared.program.Program.{Program}
 use Rattle.vg_program.specs.Text.{text_of}
 use Rattle.vg_program.specs.Valid.{IsValid}
 use Rattle.vg_top.specs.Emission.{program_of}
+use Rattle.vg_top.specs.declared.ending.Ending.{Ending}
 use Rattle.vg_top.specs.Answer.{Means, Answer}
+use Rattle.vg_top.specs.Compile.{Answers}
+use Rattle.vg_top.specs.Files.{Tells}
+use Rattle.vg_top.specs.KernelFile.{IsTree}
 use Rattle.vg_top.proofs.Valid.{program_of-valid}
 use Rattle.vg_top.proofs.Runs.{program_of-meaning}
 
@@ -18,7 +25,7 @@ valid_of k (Err a) h e = tt
 
 -- the program means the kernel
 means_of : (k : Tree) → IsWellFormed k → Means (program_of k) k
-means_of k h = record { name = refl; params = refl; same = λ memory places args is. program_of-meaning k memory places args h }
+means_of k h = record { name = refl; params = refl; same = λ memory places args is. program_of-meaning k h memory places args }
 
 pub answer_of : (k : Tree) (p : Program) (bytes : List ℕ) → IsWellFormed k → p ≡ program_of k → bytes ≡ text_of p → Answer k bytes
 answer_of k p bytes h e text = record {
@@ -29,3 +36,8 @@ answer_of k p bytes h e text = record {
   scalar = refl;
   cost = let same = (program_of-valid k h).cost in omega (arith, same);
 }
+
+-- an answer to the kernel that was read is one to the kernel that is told
+pub answered : (told : Result Tree Ending) (kernel : Kernel) (bytes : Vec ℕ Global) → Tells IsTree (Ok kernel) told → Answer (tree_of kernel) bytes.items → Tells Answers (Ok bytes) told
+answered (Ok k) kernel bytes same answer = subst (λ (t : Tree). Answer t bytes.items) same answer
+answered (Err e) kernel bytes none answer = none

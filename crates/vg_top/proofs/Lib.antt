@@ -1,8 +1,10 @@
 pub mod Answers
 pub mod Bindings
+pub mod Emitted
 pub mod Fronts
-pub mod Lines
+pub mod LineCosts
 pub mod ReadCounts
 pub mod Runs
 pub mod TextSizes
 pub mod Valid
+pub mod Wide

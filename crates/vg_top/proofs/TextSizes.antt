@@ -1,25 +1,34 @@
--- How long the text of a scalar program can be.
-use Rattle.std.proofs.Common.{◌≡◌, ℕ, zero, suc, cond, ◌+◌, ◌*◌, ◌<◌, ◌≤◌, ◌^◌, ℤ, pos, negsuc, Bool, true, false, List, [], ◌∷◌, ◌++◌, length, refl, sym, ◌∙◌, subst, arith, lit<, length-append}
-use Rattle.std.specs.Prelude.{slice_get, codes}
+-- How long the text of a program with valid lines can be.
+use Rattle.std.proofs.Common.{◌≡◌, ◌≢◌, ℕ, zero, suc, cond, ◌+◌, ◌*◌, ◌<◌, ◌≤◌, ◌^◌, ℤ, pos, negsuc, Bool, true, false, List, [], ◌∷◌, ◌++◌, length, Option, Some, None, refl, arith, lit<, length-append}
+use Rattle.std.specs.Prelude.{slice_get, codes, nat_lt, IsSomeAnd}
 use Rattle.std.specs.List.{AllByRecursion, flat_map}
 use Rattle.std.specs.Fmt.{decimal}
+use Rattle.std.proofs.lemmas.Bool.{ltb-true}
 use Rattle.std.proofs.lemmas.Fmt.{length-decimal-le}
+use Rattle.std.proofs.lemmas.Option.{slice_get_within}
 use Rattle.vg_base.specs.declared.address.Address.{Address}
 use Rattle.vg_base.specs.declared.width.Width.{Width}
 use Rattle.vg_base.specs.declared.width.Width.TheVariants.{W8, W16, W32, W64}
 use Rattle.vg_base.specs.Width.{bits_of}
+use Rattle.vg_scalar.specs.declared.two_op.TwoOp.{TwoOp}
+use Rattle.vg_scalar.specs.declared.two_op.TwoOp.TheVariants.{Add, Sub, Mul, And, Or, Xor, Smin, Smax, Umin, Umax}
+use Rattle.vg_scalar.specs.declared.shift.Shift.{Shift as ShiftOp}
+use Rattle.vg_scalar.specs.declared.shift.Shift.TheVariants.{Shl, Lshr, Ashr}
+use Rattle.vg_scalar.specs.declared.resize.Resize.{Resize as ResizeOp}
+use Rattle.vg_scalar.specs.declared.resize.Resize.TheVariants.{Sext, Zext, Trunc}
+use Rattle.vg_scalar.specs.declared.comparison.Comparison.{Comparison}
+use Rattle.vg_scalar.specs.declared.comparison.Comparison.TheVariants.{Eq, Slt, Ult}
 use Rattle.vg_program.specs.declared.program.Program.{Program}
 use Rattle.vg_program.specs.declared.param.Param.{Param}
 use Rattle.vg_program.specs.declared.param_kind.ParamKind.{ParamKind}
 use Rattle.vg_program.specs.declared.param_kind.ParamKind.TheVariants.{Pointer, Integer}
 use Rattle.vg_program.specs.declared.line.Line.{Line}
-use Rattle.vg_program.specs.declared.line.Line.TheVariants.{Load, Store}
-use Rattle.vg_program.specs.declared.operand.Operand.TheVariants.{Register}
-use Rattle.vg_program.specs.Params.{pointers, name_of, is_pointer_kind}
-use Rattle.vg_program.specs.Valid.{IsOffset}
-use Rattle.vg_program.specs.Text.{type_text, kind_text, param_text, params_text, offset_text, address_text, register_text, left_text, line_text, lines_text, line_end, given, text_of}
-use Rattle.vg_kernel.specs.Tree.{Statement, store, load}
-use Rattle.vg_top.specs.Emission.{lines_of}
+use Rattle.vg_program.specs.declared.line.Line.TheVariants.{Load, Store, Two, Shift, Resize, Compare, Select}
+use Rattle.vg_program.specs.declared.operand.Operand.{Operand}
+use Rattle.vg_program.specs.declared.operand.Operand.TheVariants.{Register, Argument, Literal}
+use Rattle.vg_program.specs.Params.{pointers, integers, name_of, is_pointer_kind, is_integer_kind}
+use Rattle.vg_program.specs.Valid.{IsOffset, width_of, IsLine, AreLines}
+use Rattle.vg_program.specs.Text.{type_text, kind_text, param_text, params_text, offset_text, address_text, operand_text, two_text, shift_text, resize_text, comparison_text, word_text, pair_text, operands_text, left_text, line_text, lines_text, line_end, given, text_of}
 
 -- names of at most 64 bytes
 abbrev pub AreShort : List Param → Type 0
@@ -52,16 +61,9 @@ offset_text-short : (z : ℤ) → IsOffset z → length (offset_text z) ≤ 11
 offset_text-short (pos n) small = omega (arith, length-decimal-le 10 n (omega arith) (omega arith) (omega arith))
 offset_text-short (negsuc n) small = omega (arith, length-decimal-le 10 (suc n) (omega arith) (omega arith) (omega arith))
 
-register_text-short : (k : ℕ) → k < 2 ^ 32 → length (register_text k) ≤ 12
-register_text-short k small = omega (arith, length-decimal-le 10 k (omega arith) (omega arith) (omega arith))
-
 address_text-short : (ps : List Param) (a : Address) → AreShort ps → IsOffset a.offset → length (address_text ps a) ≤ 75
 address_text-short ps a all small =
     omega (arith, length-append (name_of (slice_get (pointers ps) a.pointer)) (offset_text a.offset), name_of-short (pointers ps) a.pointer (pointers-short ps all), offset_text-short a.offset small)
-
-left_text-short : (k : ℕ) (w : Width) → k < 2 ^ 32 → length (left_text k w) ≤ 19
-left_text-short k w small =
-    simp length-append (omega (arith, register_text-short k small, type_text-short w))
 
 bits-short : (w : Width) → length (decimal (bits_of w)) ≤ 2
 bits-short W8 = length-decimal-le 2 8 (omega arith) (lit< tt) (lit< tt)
@@ -72,18 +74,125 @@ bits-short W64 = length-decimal-le 2 64 (omega arith) (lit< tt) (lit< tt)
 number-short : (k : ℕ) → k < 2 ^ 32 → length (decimal k) ≤ 10
 number-short k small = length-decimal-le 10 k (omega arith) (omega arith) (omega arith)
 
--- a line
-load-short : (ps : List Param) (k : ℕ) (w : Width) (a : Address) → AreShort ps → k < 2 ^ 32 → IsOffset a.offset → length (line_text ps k (Load w a)) ≤ 120
-load-short ps k w a all few small =
-    simp length-append (omega (arith, number-short k few, bits-short w, name_of-short (pointers ps) a.pointer (pointers-short ps all), offset_text-short a.offset small))
+integers-short : (ps : List Param) → AreShort ps → AreShort (integers ps)
+integers-short [] all = tt
+integers-short (q ∷ ps) all = by_kind (is_integer_kind q.kind) (integers-short ps all.1)
+  where
+    by_kind : (b : Bool) → AreShort (integers ps) → AreShort (cond b (q ∷ integers ps) (integers ps))
+    by_kind true rest = (all.0, rest)
+    by_kind false rest = rest
 
-store-short : (ps : List Param) (k j : ℕ) (a : Address) → AreShort ps → j < 2 ^ 32 → IsOffset a.offset → length (line_text ps k (Store a (Register j))) ≤ 120
-store-short ps k j a all few small =
-    simp length-append (omega (arith, number-short j few, name_of-short (pointers ps) a.pointer (pointers-short ps all), offset_text-short a.offset small))
+literal-short : (w : Width) (n : ℕ) → n < 2 ^ bits_of w → length (decimal n) ≤ 20
+literal-short W8 n small = length-decimal-le 20 n (omega arith) (omega arith) (omega arith)
+literal-short W16 n small = length-decimal-le 20 n (omega arith) (omega arith) (omega arith)
+literal-short W32 n small = length-decimal-le 20 n (omega arith) (omega arith) (omega arith)
+literal-short W64 n small = length-decimal-le 20 n (omega arith) (omega arith) small
 
--- the offsets of a statement have 32 bits
-abbrev pub HasOffsets : Statement → Type 0
-HasOffsets (store w a (load v b)) = IsOffset a.offset × IsOffset b.offset
+-- an operand that stands before its line
+operand-short : (ps : List Param) (widths : List ℕ) (v : Operand) (n : ℕ) → AreShort ps → length widths < 2 ^ 32 → width_of ps widths v ≡ Some n → length (operand_text ps v) ≤ 64
+operand-short ps widths (Register k) n all few e = omega (arith, number-short k (omega (arith, few, slice_get_within widths k n e)))
+operand-short ps widths (Argument k) n all few e = name_of-short (integers ps) k (integers-short ps all)
+operand-short ps widths (Literal w m) n all few e = by (nat_lt m (2 ^ bits_of w)) refl e
+  where
+    by : (b : Bool) → nat_lt m (2 ^ bits_of w) ≡ b → cond b (Some (bits_of w)) None ≡ Some n → length (decimal m ++ type_text w) ≤ 64
+    by true small e = omega (arith, length-append (decimal m) (type_text w), literal-short w m (ltb-true m (2 ^ bits_of w) small), type_text-short w)
+    by false small e = absurd (cc)
+
+-- the words of the operations
+two-short : (op : TwoOp) → length (two_text op) ≤ 4
+two-short Add = omega arith
+two-short Sub = omega arith
+two-short Mul = omega arith
+two-short And = omega arith
+two-short Or = omega arith
+two-short Xor = omega arith
+two-short Smin = omega arith
+two-short Smax = omega arith
+two-short Umin = omega arith
+two-short Umax = omega arith
+
+shift-short : (op : ShiftOp) → length (shift_text op) ≤ 4
+shift-short Shl = omega arith
+shift-short Lshr = omega arith
+shift-short Ashr = omega arith
+
+resize-short : (op : ResizeOp) → length (resize_text op) ≤ 5
+resize-short Sext = omega arith
+resize-short Zext = omega arith
+resize-short Trunc = omega arith
+
+comparison-short : (op : Comparison) → length (comparison_text op) ≤ 3
+comparison-short Eq = omega arith
+comparison-short Slt = omega arith
+comparison-short Ult = omega arith
+
+word-short : (l : Line) → length (word_text l) ≤ 6
+word-short (Load w a) = omega arith
+word-short (Store a v) = omega arith
+word-short (Two op w l r) = omega (arith, two-short op)
+word-short (Shift op w v n) = omega (arith, shift-short op)
+word-short (Resize op w from v) = omega (arith, resize-short op)
+word-short (Compare op w l r) = omega (arith, comparison-short op)
+word-short (Select w c a b) = omega arith
+
+-- what stands before the word
+left-short : (k : ℕ) (w : Width) → k < 2 ^ 32 → length (left_text k (bits_of w ∷ [])) ≤ 20
+left-short k w few = simp length-append (omega (arith, number-short k few, bits-short w))
+
+left-bit-short : (k : ℕ) → k < 2 ^ 32 → length (left_text k (1 ∷ [])) ≤ 20
+left-bit-short k few = simp length-append (omega (arith, number-short k few, length-decimal-le 2 1 (omega arith) (lit< tt) (lit< tt)))
+
+left-given-short : (k : ℕ) (l : Line) → k < 2 ^ 32 → length (left_text k (given l)) ≤ 20
+left-given-short k (Load w a) few = left-short k w few
+left-given-short k (Store a v) few = omega arith
+left-given-short k (Two op w l r) few = left-short k w few
+left-given-short k (Shift op w v n) few = left-short k w few
+left-given-short k (Resize op w from v) few = left-short k w few
+left-given-short k (Compare op w l r) few = left-bit-short k few
+left-given-short k (Select w c a b) few = left-short k w few
+
+some-short : (ps : List Param) (widths : List ℕ) (v : Operand) (o : Option ℕ) → AreShort ps → length widths < 2 ^ 32 → width_of ps widths v ≡ o → IsSomeAnd o (λ n. n ≢ 1) → length (operand_text ps v) ≤ 64
+some-short ps widths v (Some n) all few e h = operand-short ps widths v n all few e
+some-short ps widths v None all few e h = absurd h
+
+-- two operands
+pair-short : (ps : List Param) (widths : List ℕ) (l r : Operand) (n : ℕ) → AreShort ps → length widths < 2 ^ 32 → width_of ps widths l ≡ Some n → width_of ps widths r ≡ Some n → length (pair_text ps l r) ≤ 129
+pair-short ps widths l r n all few e f =
+    simp length-append (omega (arith, operand-short ps widths l n all few e, operand-short ps widths r n all few f))
+
+amount-small : (w : Width) (n : ℕ) → n < bits_of w → n < 2 ^ 32
+amount-small W8 n h = omega (arith, h)
+amount-small W16 n h = omega (arith, h)
+amount-small W32 n h = omega (arith, h)
+amount-small W64 n h = omega (arith, h)
+
+-- what stands behind the word of a valid line
+operands-short : (ps : List Param) (widths : List ℕ) (l : Line) → AreShort ps → length widths < 2 ^ 32 → IsLine ps widths l → length (operands_text ps l) ≤ 200
+operands-short ps widths (Load w a) all few is = omega (arith, address_text-short ps a all is.offset)
+operands-short ps widths (Store a v) all few is =
+    simp length-append (omega (arith, name_of-short (pointers ps) a.pointer (pointers-short ps all), offset_text-short a.offset is.0.offset, some-short ps widths v (width_of ps widths v) all few refl is.1))
+operands-short ps widths (Two op w l r) all few is = omega (arith, pair-short ps widths l r (bits_of w) all few is.0 is.1)
+operands-short ps widths (Shift op w v n) all few is =
+    simp length-append (omega (arith, operand-short ps widths v (bits_of w) all few is.0, number-short n (amount-small w n is.1)))
+operands-short ps widths (Resize op w from v) all few is = omega (arith, operand-short ps widths v (bits_of from) all few is.0)
+operands-short ps widths (Compare op w l r) all few is = omega (arith, pair-short ps widths l r (bits_of w) all few is.0 is.1)
+operands-short ps widths (Select w c a b) all few is =
+    simp length-append (omega (arith, operand-short ps widths c 1 all few is.0, operand-short ps widths a (bits_of w) all few is.1, operand-short ps widths b (bits_of w) all few is.2))
+
+-- a valid line
+line-short : (ps : List Param) (widths : List ℕ) (k : ℕ) (l : Line) → AreShort ps → length widths < 2 ^ 32 → k < 2 ^ 32 → IsLine ps widths l → length (line_text ps k l) ≤ 230
+line-short ps widths k l all few small is =
+    simp length-append (omega (arith, left-given-short k l small, word-short l, operands-short ps widths l all few is))
+
+-- a line gives at most one register
+one-given : (l : Line) → length (given l) ≤ 1
+one-given (Load w a) = omega arith
+one-given (Store a v) = omega arith
+one-given (Two op w l r) = omega arith
+one-given (Shift op w v n) = omega arith
+one-given (Resize op w from v) = omega arith
+one-given (Compare op w l r) = omega arith
+one-given (Select w c a b) = omega arith
 
 -- one line more
 line-more : (ps : List Param) (k : ℕ) (l : Line) (ls : List Line) (n m : ℕ) → length (line_text ps k l) ≤ n → length (lines_text ps (k + length (given l)) ls) ≤ m → length (lines_text ps k (l ∷ ls)) ≤ n + 1 + m
@@ -91,22 +200,13 @@ unfolding lines_text
 line-more ps k l ls n m one rest =
     omega (arith, length-append (line_text ps k l ++ line_end) (lines_text ps (k + length (given l)) ls), length-append (line_text ps k l) line_end)
 
-lines-none : (ps : List Param) (k : ℕ) → length (lines_text ps k []) ≤ 0
+-- valid lines
+lines-short : (ps : List Param) (widths : List ℕ) (k : ℕ) (ls : List Line) → AreShort ps → k ≡ length widths → k + length ls < 2 ^ 32 → AreLines ps widths ls → length (lines_text ps k ls) ≤ 240 * length ls
 unfolding lines_text
-lines-none ps k = omega arith
-
--- two lines a statement
-lines-short : (ps : List Param) (ss : List Statement) (k : ℕ) → AreShort ps → AllByRecursion HasOffsets ss → k + length ss < 2 ^ 32 → length (lines_text ps k (lines_of k ss)) ≤ 250 * length ss
-unfolding lines_of
-lines-short ps [] k all offsets few = lines-none ps k
-lines-short ps (store w a (load v b) ∷ ss) k all offsets few =
-    let second = λ (j : ℕ). λ (e : j ≡ k + 1). line-more ps j (Store a (Register k)) (lines_of (k + 1) ss) 120 (250 * length ss) (store-short ps j k a all (omega arith) offsets.0.0)
-    (subst (λ (n : ℕ). length (lines_text ps n (lines_of (k + 1) ss)) ≤ 250 * length ss) (sym (plus_none j ∙ e)) (lines-short ps ss (k + 1) all offsets.1 (omega arith))) in
-    let both = line-more ps k (Load v b) (Store a (Register k) ∷ lines_of (k + 1) ss) 120 (120 + 1 + 250 * length ss) (load-short ps k v b all (omega arith) offsets.0.1) (second (k + 1) refl) in
-    omega (arith, both)
-  where
-    plus_none : (j : ℕ) → j + 0 ≡ j
-    plus_none j = omega arith
+lines-short ps widths k [] all same few are = omega arith
+lines-short ps widths k (l ∷ ls) all same few are =
+    let rest = lines-short ps (widths ++ given l) (k + length (given l)) ls all (omega (arith, same, length-append widths (given l))) (omega (arith, few, one-given l)) are.1 in
+    omega (arith, line-more ps k l ls 230 (240 * length ls) (line-short ps widths k l all (omega (arith, same, few)) (omega (arith, few)) are.0) rest)
 
 comma_params-short : (ps : List Param) → AreShort ps → length (flat_map (λ q. codes ", " ++ param_text q) ps) ≤ 80 * length ps
 comma_params-short [] all = omega arith
@@ -118,9 +218,9 @@ params-short [] all = omega arith
 params-short (q ∷ ps) all =
     simp length-append (omega (arith, all.0, kind_text-short q.kind, comma_params-short ps all.1))
 
--- the text of a scalar program
-pub text-short : (p : Program) (ss : List Statement) → p.lines ≡ lines_of 0 ss → length p.name ≤ 64 → AreShort p.params → length p.params ≤ 16 → AllByRecursion HasOffsets ss → length ss ≤ 4096 → p.cost < 2 ^ 32 → p.scalar < 2 ^ 32 → length (text_of p) ≤ 4194304
+-- the text of a program with valid lines
+pub text-short : (p : Program) → length p.name ≤ 64 → AreShort p.params → length p.params ≤ 16 → AreLines p.params [] p.lines → length p.lines ≤ 12288 → p.cost < 2 ^ 32 → p.scalar < 2 ^ 32 → length (text_of p) ≤ 4194304
 unfolding text_of
-text-short p ss same name all few offsets short cost scalar =
-    let lines = subst (λ (ls : List Line). length (lines_text p.params 0 ls) ≤ 250 * length ss) (sym same) (lines-short p.params ss 0 all offsets (omega arith)) in
+text-short p name all few are short cost scalar =
+    let lines = lines-short p.params [] 0 p.lines all refl (omega (arith, short)) are in
     simp length-append (omega (arith, lines, params-short p.params all, number-short p.cost cost, number-short p.scalar scalar))

@@ -1,16 +1,16 @@
 -- What `compile` answers, where it is known what the shelf holds: the kernel of which a program is written, or the
 -- first refusal. The files are judged one after the other.
-use Rattle.std.specs.Prelude.{ℕ, ◌==◌, List, length, Result, Ok, Err, if◌then◌else◌, Vec}
+use Rattle.std.specs.Prelude.{ℕ, ◌==◌, List, length, Result, Err, if◌then◌else◌, Vec}
 use Rattle.std.specs.declared.alloc.Global.{Global}
 use Rattle.vg_base.specs.Bind.{◌>>=◌}
 use Rattle.vg_outside.specs.Shelf.{Held}
-use Rattle.vg_kernel.specs.declared.fault.KernelFault.{KernelFault}
 use Rattle.vg_kernel.specs.Tree.{Tree}
-use Rattle.vg_kernel.specs.Reader.{kernel_of}
+use Rattle.vg_kernel.specs.Statements.{kernel_of}
 use Rattle.vg_top.specs.declared.ending.FileNumber.{FileNumber}
 use Rattle.vg_top.specs.declared.ending.Ending.{Ending}
-use Rattle.vg_top.specs.declared.ending.Ending.TheVariants.{Instructions, Kernel}
+use Rattle.vg_top.specs.declared.ending.Ending.TheVariants.{Instructions}
 use Rattle.vg_top.specs.Files.{file_of}
+use Rattle.vg_top.specs.KernelFile.{kernel_limit, kernel_or_refusal}
 use Rattle.vg_top.specs.Answer.{Answer}
 
 abbrev pub first_file : FileNumber
@@ -19,17 +19,9 @@ first_file = record { 0 = 1 }
 abbrev pub second_file : FileNumber
 second_file = record { 0 = 2 }
 
--- the bytes that an instruction file, a kernel file may have
+-- the bytes that an instruction file may have
 abbrev pub instructions_limit : ℕ
 instructions_limit = 1048576
-
-abbrev pub kernel_limit : ℕ
-kernel_limit = 262144
-
--- a fault of the kernel file
-abbrev pub kernel_or_refusal : Result Tree KernelFault → Result Tree Ending
-kernel_or_refusal (Ok k) = Ok k
-kernel_or_refusal (Err e) = Err Kernel
 
 -- the bytes of a vector answer the kernel
 abbrev pub Answers : Vec ℕ Global → Tree → Type 0
@@ -44,4 +36,4 @@ compiled held instructions kernel = do
   file ← file_of held first_file instructions instructions_limit
   without_instructions file (do
     text ← file_of held second_file kernel kernel_limit
-    kernel_or_refusal (kernel_of text))
+    kernel_or_refusal second_file (kernel_of text))

@@ -3,10 +3,12 @@ pub mod Binding
 pub mod Compile
 pub mod Emission
 pub mod Ending
+pub mod Eval
 pub mod Files
+pub mod KernelFile
 pub mod Line
-pub mod Request
 pub mod Reads
+pub mod Request
 pub mod Run
 pub mod Status
 pub mod Verdict

@@ -2,6 +2,9 @@
 use Rattle.std.specs.Prelude.{ℕ, List, [], ◌∷◌, ◌++◌, Option, Some, None, slice_get, unwrap_or, codes, ◌⊎◌}
 use Rattle.std.specs.Fmt.{decimal}
 use Rattle.vg_text.specs.declared.place.Place.{Place}
+use Rattle.vg_kernel.specs.declared.fault.KernelFault.{KernelFault}
+use Rattle.vg_kernel.specs.declared.fault.KernelFault.TheVariants as kernel_faults
+use Rattle.vg_kernel.specs.Faults as kernel
 use Rattle.vg_program.specs.declared.program_fault.ProgramFault.{ProgramFault}
 use Rattle.vg_program.specs.declared.program_fault.ProgramFault.TheVariants as faults
 use Rattle.vg_program.specs.Faults.{place_of_fault}
@@ -30,6 +33,20 @@ fault_name (faults.TooLarge p) = codes "7 TooLarge"
 fault_name (faults.Range p) = codes "8 Range"
 fault_name (faults.Memory e) = codes "memory"
 
+-- `5 WidthMismatch`, of a kernel
+abbrev pub kernel_fault_name : KernelFault → List ℕ
+kernel_fault_name (kernel_faults.Token p) = codes "1 Token"
+kernel_fault_name (kernel_faults.Shape p) = codes "2 Shape"
+kernel_fault_name (kernel_faults.UnknownName p) = codes "3 UnknownName"
+kernel_fault_name (kernel_faults.DuplicateName p) = codes "4 DuplicateName"
+kernel_fault_name (kernel_faults.WidthMismatch p) = codes "5 WidthMismatch"
+kernel_fault_name (kernel_faults.LiteralRange p) = codes "6 LiteralRange"
+kernel_fault_name (kernel_faults.ShiftRange p) = codes "7 ShiftRange"
+kernel_fault_name (kernel_faults.TooMany p) = codes "8 TooMany"
+kernel_fault_name (kernel_faults.TooLarge p) = codes "9 TooLarge"
+kernel_fault_name (kernel_faults.NestingTooDeep p) = codes "10 NestingTooDeep"
+kernel_fault_name (kernel_faults.Memory e) = codes "memory"
+
 -- ` at 3:14`
 abbrev pub place_text : Option Place → List ℕ
 place_text None = []
@@ -39,7 +56,7 @@ place_text (Some p) = (codes " at " ++ decimal p.line) ++ (codes ":" ++ decimal 
 abbrev pub head_of : Ending → List ℕ
 head_of Usage = codes "vegen: usage"
 head_of Instructions = codes "vegen: instructions: 0 NotYet at 1:1"
-head_of Kernel = codes "vegen: kernel: 0 NotYet at 1:1"
+head_of (Kernel n f) = codes "vegen: kernel: "
 head_of (Program f) = codes "vegen: program: "
 head_of (Absent n) = codes "vegen: absent: "
 head_of (ReadFault n) = codes "vegen: read fault: "
@@ -51,6 +68,7 @@ head_of Memory = codes "vegen: memory"
 
 -- the word that it names, or the fault and its place
 abbrev pub tail_of : List (List ℕ) → Ending → List ℕ
+tail_of words (Kernel n f) = kernel_fault_name f ++ place_text (kernel.place_of_fault f)
 tail_of words (Program f) = fault_name f ++ place_text (place_of_fault f)
 tail_of words (Absent n) = word_of words n
 tail_of words (ReadFault n) = word_of words n

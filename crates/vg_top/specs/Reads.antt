@@ -3,7 +3,7 @@ use Rattle.std.specs.Prelude.{◌≡◌, ℕ, ◌+◌, ◌<◌, ◌≤◌, ◌^�
 use Rattle.vg_top.specs.declared.ending.FileNumber.{FileNumber}
 use Rattle.vg_top.specs.declared.ending.Ending.{Ending}
 use Rattle.vg_top.specs.declared.ending.Ending.TheVariants.{Usage, Instructions, Kernel, Program, Absent, ReadFault, TooLarge, Bindings, Trap, WriteFault, Memory}
-use Rattle.vg_top.specs.Request.{Asked, compile, run}
+use Rattle.vg_top.specs.Request.{Asked, compile, run, eval}
 
 -- where told and far below its last value, the number of reads is so many more
 abbrev pub GrewBy : ℕ → Option ℕ → Option ℕ → Type 0
@@ -15,6 +15,7 @@ abbrev pub files_of : Option Asked → ℕ
 files_of None = 0
 files_of (Some (compile instructions kernel)) = 2
 files_of (Some (run instructions program memory bindings)) = 3
+files_of (Some (eval kernel memory bindings)) = 2
 
 -- a file of a request, by its number among them, was the last of so many that were read
 abbrev pub IsLastRead : ℕ → ℕ → FileNumber → Type 0
@@ -26,7 +27,7 @@ abbrev pub IsReadCount : ℕ → ℕ → Option Ending → Type 0
 IsReadCount files n None = n ≡ files
 IsReadCount files n (Some Usage) = n ≡ 0
 IsReadCount files n (Some Instructions) = n ≡ 1
-IsReadCount files n (Some Kernel) = n ≡ 2
+IsReadCount files n (Some (Kernel number f)) = IsLastRead files n number
 IsReadCount files n (Some (Program f)) = n ≡ 2
 IsReadCount files n (Some (Absent number)) = IsLastRead files n number
 IsReadCount files n (Some (ReadFault number)) = IsLastRead files n number

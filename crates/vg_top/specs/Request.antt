@@ -4,13 +4,14 @@ use Rattle.std.specs.Str.{bytes_eq, is_utf8}
 use Rattle.std.specs.List.{list_all}
 use Rattle.std.specs.Option.{option_and_then, option_map}
 use Rattle.vg_top.specs.declared.request.Request.{Request}
-use Rattle.vg_top.specs.declared.request.Request.TheVariants.{Compile, Run}
+use Rattle.vg_top.specs.declared.request.Request.TheVariants.{Compile, Run, Eval}
 use Rattle.vg_top.specs.Binding.{Binding, is_binding, bindings_in}
 
 -- what is asked for, each file by its name
 pub data Asked : Type 0 where
   compile : List ℕ → List ℕ → Asked
   run : List ℕ → List ℕ → List ℕ → List Binding → Asked
+  eval : List ℕ → List ℕ → List Binding → Asked
 
 -- a word that is text
 abbrev pub text_word : List ℕ → Option (List ℕ)
@@ -31,6 +32,13 @@ run_of a b c words =
     then option_and_then (λ instructions. option_and_then (λ program. option_map (λ memory. run instructions program memory (bindings_in words)) (file_word c)) (file_word b)) (file_word a)
     else None
 
+-- the two files of `eval`, and the words that bind the parameters
+abbrev pub eval_of : List ℕ → List ℕ → List (List ℕ) → Option Asked
+eval_of a b words =
+    if list_all is_binding words
+    then option_and_then (λ kernel. option_map (λ memory. eval kernel memory (bindings_in words)) (file_word b)) (file_word a)
+    else None
+
 -- the words behind `compile INSTRUCTIONS KERNEL`
 abbrev pub compile_words : List (List ℕ) → Option Asked
 compile_words (a ∷ b ∷ []) = compile_of a b
@@ -41,15 +49,22 @@ abbrev pub run_words : List (List ℕ) → Option Asked
 run_words (a ∷ b ∷ c ∷ words) = run_of a b c words
 run_words _ = None
 
+-- the words behind `eval KERNEL MEMORY name=number ..`
+abbrev pub eval_words : List (List ℕ) → Option Asked
+eval_words (a ∷ b ∷ words) = eval_of a b words
+eval_words _ = None
+
 -- the command, and what stands behind it; all other words are no request
 abbrev pub request_of : List (List ℕ) → Option Asked
 request_of [] = None
 request_of (command ∷ words) =
     if bytes_eq command (codes "compile") then compile_words words
     else if bytes_eq command (codes "run") then run_words words
+    else if bytes_eq command (codes "eval") then eval_words words
     else None
 
 -- what a request of the code asks for, where these are its words
 abbrev pub asked_of : List (List ℕ) → Request → Asked
 asked_of words (Compile a b) = compile a.now b.now
 asked_of words (Run a b c) = run a.now b.now c.now (bindings_in (drop 4 words))
+asked_of words (Eval a b) = eval a.now b.now (bindings_in (drop 3 words))

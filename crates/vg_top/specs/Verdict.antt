@@ -9,8 +9,9 @@ use Rattle.vg_top.specs.declared.ending.Ending.TheVariants.{Usage}
 use Rattle.vg_top.specs.declared.status.Status.{Status}
 use Rattle.vg_top.specs.declared.status.Status.TheVariants as status
 use Rattle.vg_top.specs.Ending.{status_of}
-use Rattle.vg_top.specs.Request.{Asked, compile, run, request_of}
+use Rattle.vg_top.specs.Request.{Asked, compile, run, eval, request_of}
 use Rattle.vg_top.specs.Compile.{compiled}
+use Rattle.vg_top.specs.Eval.{evaluated}
 use Rattle.vg_top.specs.Run.{ran}
 use Rattle.vg_top.specs.Answer.{Answer}
 use Rattle.vg_top.specs.Files.{Tells}
@@ -29,6 +30,7 @@ IsAnswer (memory_left memory) bytes = bytes ≡ memory
 abbrev pub outcome_of : Held → Asked → Result Outcome Ending
 outcome_of held (compile instructions kernel) = compiled held instructions kernel >>= λ k. Ok (program_for k)
 outcome_of held (run instructions program memory bindings) = ran held instructions program memory bindings >>= λ left. Ok (memory_left left)
+outcome_of held (eval kernel memory bindings) = evaluated held kernel memory bindings >>= λ left. Ok (memory_left left)
 
 -- what is to be written, or the first refusal: of the words, and then of the files in their order
 abbrev pub asked_outcome : Held → Option Asked → Result Outcome Ending

@@ -1,35 +1,32 @@
 //! The command `compile`.
 
 ghost use Rattle.std.specs.Prelude.{◌≡◌, ◌≤◌, ℕ, IfSome, IfErr};
-ghost use Rattle.vg_kernel.specs.Reader.{kernel_of};
+ghost use Rattle.vg_kernel.specs.Statements.{kernel_of};
+ghost use Rattle.vg_top.specs.KernelFile.{kernel_or_refusal};
 ghost use Rattle.vg_top.specs.Files.{Tells, CountsAbsence, CountsFault, IsOfWork};
 ghost use Rattle.vg_top.specs.Reads.{IsReadCount, Reads, ending_of};
-ghost use Rattle.vg_top.specs.Compile.{compiled, kernel_or_refusal, Answers};
+ghost use Rattle.vg_top.specs.Compile.{compiled, second_file, Answers};
 
 use crate::emission::program_of;
 use crate::ending::{Ending, FileNumber};
 use crate::files::{INSTRUCTIONS_LIMIT, fetch};
+use crate::kernel_file::{KERNEL_LIMIT, kernel_of_text};
 use std::alloc::Global;
-use vg_kernel::{KernelFault, parse_kernel};
 use vg_outside::Shelf;
 use vg_program::print_program;
-
-/// The most bytes of a kernel file.
-const KERNEL_LIMIT: u64 = 262_144;
 
 /// The program text of a kernel's text.
 fn program_text(alloc: Global, text: &[u8]) -> Result<Vec<u8>, Ending>
     ensures work { IfErr result IsOfWork }
-    ensures told { Tells Answers result (kernel_or_refusal (kernel_of text.now)) }
+    ensures told { Tells Answers result (kernel_or_refusal second_file (kernel_of text.now)) }
     // It reads no file: both were read.
     ensures read { IsReadCount 2 2 (ending_of result) }
     ensures absence { (count : ℕ) → CountsAbsence count count result }
     ensures fault { (count : ℕ) → CountsFault count count result }
 {
-    let kernel = match parse_kernel(alloc, text) {
+    let kernel = match kernel_of_text(alloc, FileNumber(2), text) {
         Ok(kernel) => kernel,
-        Err(KernelFault::NotYet) => return Err(Ending::Kernel),
-        Err(KernelFault::Memory(_)) => return Err(Ending::Memory),
+        Err(ending) => return Err(ending),
     };
     match program_of(alloc, &kernel) {
         Ok(program) => match print_program(alloc, &program) {

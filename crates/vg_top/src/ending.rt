@@ -4,6 +4,7 @@ ghost use Rattle.std.specs.Prelude.{◌≡◌};
 ghost use Rattle.vg_top.specs.Ending.{status_of};
 
 use crate::status::Status;
+use vg_kernel::KernelFault;
 use vg_program::ProgramFault;
 
 /// Which file of a request, by its number among them, from 1.
@@ -17,8 +18,8 @@ pub enum Ending {
     Usage,
     /// The instruction file is not one that is read today.
     Instructions,
-    /// The kernel file is not one that is read today.
-    Kernel,
+    /// The kernel file, which has this number, has this fault.
+    Kernel(FileNumber, KernelFault),
     /// The program file has this fault.
     Program(ProgramFault),
     /// The file is not there.
@@ -45,7 +46,7 @@ impl Ending {
         match self {
             Ending::Usage => Status::Usage,
             Ending::Instructions => Status::InstructionsRefused,
-            Ending::Kernel => Status::KernelRefused,
+            Ending::Kernel(..) => Status::KernelRefused,
             Ending::Program(_) => Status::ProgramRefused,
             Ending::Absent(_) => Status::InputAbsent,
             Ending::ReadFault(_) => Status::ReadFault,

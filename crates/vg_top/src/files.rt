@@ -12,6 +12,9 @@ use vg_outside::{Shelf, ShelfFault};
 /// The most bytes of an instruction file.
 pub const INSTRUCTIONS_LIMIT: u64 = 1_048_576;
 
+/// The most bytes of a memory file.
+pub const MEMORY_LIMIT: u64 = 16_777_216;
+
 /// The whole of the file of this name, which is the request's file of this number and has at most
 /// `limit` bytes.
 pub fn fetch<S: Shelf>(

@@ -3,12 +3,14 @@
 ghost use Rattle.std.specs.Prelude.{◌≡◌, ◌≤◌, ◌++◌, ◌∷◌, [], OnOk, OnErr, Some, None};
 ghost use Rattle.vg_outside.specs.Count.{Rose};
 ghost use Rattle.vg_outside.specs.Sink.{Appends, AppendsFront};
+ghost use Rattle.vg_kernel.specs.Faults as kernel;
 ghost use Rattle.vg_program.specs.Faults.{place_of_fault};
-ghost use Rattle.vg_top.specs.Line.{word_of, fault_name, place_text, costs_text, head_of, tail_of, line_of, Says};
+ghost use Rattle.vg_top.specs.Line.{word_of, kernel_fault_name, fault_name, place_text, costs_text, head_of, tail_of, line_of, Says};
 ghost use Rattle.std.specs.Fmt.{decimal};
 
 use crate::ending::{Ending, FileNumber};
 use itoa::Buffer;
+use vg_kernel::KernelFault;
 use vg_outside::{Sink, SinkFault, Words};
 use vg_program::ProgramFault;
 use vg_text::Place;
@@ -31,7 +33,7 @@ fn head_of(ending: &Ending) -> &'static [u8]
     match ending {
         Ending::Usage => b"vegen: usage",
         Ending::Instructions => b"vegen: instructions: 0 NotYet at 1:1",
-        Ending::Kernel => b"vegen: kernel: 0 NotYet at 1:1",
+        Ending::Kernel(..) => b"vegen: kernel: ",
         Ending::Program(_) => b"vegen: program: ",
         Ending::Absent(_) => b"vegen: absent: ",
         Ending::ReadFault(_) => b"vegen: read fault: ",
@@ -133,6 +135,35 @@ fn write_fault<E: Sink>(err: &mut E, fault: &ProgramFault) -> Result<(), SinkFau
     write_place(err, fault.place())
 }
 
+fn kernel_fault_name(fault: &KernelFault) -> &'static [u8]
+    ensures { result.now ≡ kernel_fault_name fault.now }
+{
+    match fault {
+        KernelFault::Token { .. } => b"1 Token",
+        KernelFault::Shape { .. } => b"2 Shape",
+        KernelFault::UnknownName { .. } => b"3 UnknownName",
+        KernelFault::DuplicateName { .. } => b"4 DuplicateName",
+        KernelFault::WidthMismatch { .. } => b"5 WidthMismatch",
+        KernelFault::LiteralRange { .. } => b"6 LiteralRange",
+        KernelFault::ShiftRange { .. } => b"7 ShiftRange",
+        KernelFault::TooMany { .. } => b"8 TooMany",
+        KernelFault::TooLarge { .. } => b"9 TooLarge",
+        KernelFault::NestingTooDeep { .. } => b"10 NestingTooDeep",
+        KernelFault::Memory(_) => b"memory",
+    }
+}
+
+#[tactic(auto, using(crate::proofs::Fronts::cut_first, crate::proofs::Fronts::cut_second, crate::proofs::Fronts::appends_both))]
+fn write_kernel_fault<E: Sink>(err: &mut E, fault: &KernelFault) -> Result<(), SinkFault>
+    ensures whole { OnOk result (Appends (E.written err.old) (kernel_fault_name fault.now ++ place_text (kernel.place_of_fault fault.now)) (E.written err.new)) }
+    ensures front { OnErr result (AppendsFront (E.written err.old) (kernel_fault_name fault.now ++ place_text (kernel.place_of_fault fault.now)) (E.written err.new)) }
+    ensures fault { OnErr result (Rose (E.faults err.old) (E.faults err.new)) }
+    ensures faults_never_fall { E.faults err.old ≤ E.faults err.new }
+{
+    err.write(kernel_fault_name(fault))?;
+    write_place(err, fault.place())
+}
+
 fn write_tail<E: Sink>(err: &mut E, words: &Words, ending: &Ending) -> Result<(), SinkFault>
     ensures whole { OnOk result (Appends (E.written err.old) (tail_of words.now ending.now) (E.written err.new)) }
     ensures front { OnErr result (AppendsFront (E.written err.old) (tail_of words.now ending.now) (E.written err.new)) }
@@ -140,6 +171,7 @@ fn write_tail<E: Sink>(err: &mut E, words: &Words, ending: &Ending) -> Result<()
     ensures faults_never_fall { E.faults err.old ≤ E.faults err.new }
 {
     match ending {
+        Ending::Kernel(_, fault) => write_kernel_fault(err, fault),
         Ending::Program(fault) => write_fault(err, fault),
         Ending::Absent(number) => err.write(word_of(words, *number)),
         Ending::ReadFault(number) => err.write(word_of(words, *number)),

@@ -1,7 +1,7 @@
 //! What the words of a command line ask for.
 
 ghost use Rattle.std.specs.Prelude.{◌≡◌, option_map, drop};
-ghost use Rattle.vg_top.specs.Request.{text_word, file_word, compile_words, run_words, request_of, asked_of};
+ghost use Rattle.vg_top.specs.Request.{text_word, file_word, compile_words, run_words, eval_words, request_of, asked_of};
 
 use crate::binding::are_bindings;
 use vg_outside::Words;
@@ -18,6 +18,11 @@ pub enum Request<'a> {
     Run {
         instructions: &'a str,
         program: &'a str,
+        memory: &'a str,
+    },
+    /// The memory that a kernel leaves. The words behind the two files bind its parameters.
+    Eval {
+        kernel: &'a str,
         memory: &'a str,
     },
 }
@@ -55,6 +60,9 @@ pub fn request_of(words: &Words) -> Option<Request<'_>>
     if command == b"run".as_slice() {
         return run_words(words);
     }
+    if command == b"eval".as_slice() {
+        return eval_words(words);
+    }
     None
 }
 
@@ -89,4 +97,18 @@ fn run_words(words: &Words) -> Option<Request<'_>>
         program,
         memory,
     })
+}
+
+fn eval_words(words: &Words) -> Option<Request<'_>>
+    ensures { option_map (asked_of words.now) result ≡ eval_words (drop 1 words.now) }
+{
+    if words.len() < 3 {
+        return None;
+    }
+    if !are_bindings(words, 3) {
+        return None;
+    }
+    let kernel = file_word(words.get(1))?;
+    let memory = file_word(words.get(2))?;
+    Some(Request::Eval { kernel, memory })
 }

@@ -9,7 +9,7 @@ ghost use Rattle.vg_top.specs.Run.{ran, ran_on, program_or_refusal, AreLeft, IsP
 
 use crate::binding::{bind, bindings_of};
 use crate::ending::{Ending, FileNumber};
-use crate::files::{INSTRUCTIONS_LIMIT, fetch};
+use crate::files::{INSTRUCTIONS_LIMIT, MEMORY_LIMIT, fetch};
 use std::alloc::Global;
 use vg_machine::{Machine, Outcome};
 use vg_outside::{Shelf, Words};
@@ -17,9 +17,6 @@ use vg_program::{Program, ProgramFault, parse_program};
 
 /// The most bytes of a program file.
 const PROGRAM_LIMIT: u64 = 4_194_304;
-
-/// The most bytes of a memory file.
-const MEMORY_LIMIT: u64 = 16_777_216;
 
 /// The words behind the command and its three files bind the parameters.
 const FIRST_BINDING: usize = 4;

@@ -13,6 +13,7 @@ ghost use Rattle.vg_top.specs.Reads.{Reads, files_of, ending_of};
 
 use crate::compile::compile;
 use crate::ending::Ending;
+use crate::eval::eval;
 use crate::message::say;
 use crate::request::{Request, request_of};
 use crate::run::run;
@@ -46,6 +47,7 @@ fn answer<S: Shelf>(alloc: Global, words: &Words, shelf: &mut S) -> Result<Vec<u
                 memory,
             },
         ) => run(alloc, shelf, words, instructions, program, memory),
+        Some(Request::Eval { kernel, memory }) => eval(alloc, shelf, words, kernel, memory),
         None => Err(Ending::Usage),
     }
 }
@@ -53,10 +55,14 @@ fn answer<S: Shelf>(alloc: Global, words: &Words, shelf: &mut S) -> Result<Vec<u
 /// Does what the words of a command line ask for.
 ///
 /// `compile INSTRUCTIONS KERNEL` reads the two files from `shelf` and writes the text of a program to
-/// `out`: a program that means the kernel and costs no more than it. All files are read before the
-/// one write. What goes wrong is told by the status and by one line on `err`; a fault of `err`
-/// changes no status. Where `shelf` tells what it holds, the status is a function of the words and
-/// the files, but for faults of the outside, which counts show, and want of memory.
+/// `out`: a program that means the kernel and costs no more than it.
+/// `run INSTRUCTIONS PROGRAM MEMORY name=number ..` writes the memory that the program leaves of the one
+/// in the file, with its parameters bound by the words, and `eval KERNEL MEMORY name=number ..` the
+/// memory that the kernel leaves.
+///
+/// All files are read before the one write. What goes wrong is told by the status and by one line on
+/// `err`; a fault of `err` changes no status. Where `shelf` tells what it holds, the status is a function
+/// of the words and the files, but for faults of the outside, which counts show, and want of memory.
 pub fn vegen<S: Shelf, O: Sink, E: Sink>(
     alloc: Global,
     words: &Words,

@@ -1,7 +1,7 @@
 -- what is left, read behind those that are done, is what the whole was
 use Rattle.std.proofs.Common.{◌≡◌, ◌≤◌, ◌-◌, vec_len}
 use Rattle.vg_text.specs.Lexing.{reading}
-use Rattle.vg_kernel.specs.Reader.{parameters_behind}
+use Rattle.vg_kernel.specs.Statements.{parameters_behind}
 use Rattle.vg_kernel.proofs.parser.parameters_behind.Given as goal
 
 abbrev pub invariant-parameters : goal.invariant-parameters

@@ -8,4 +8,4 @@ returns c =
     let self = c.args.self in
     let new = c.next.new.self in
     let taken = word_taken_of (source self) (source new) (left self) (left new) c.in_ok-token.token c.in_ok-token.ensures.source (lex-ends 0 self.at self.place (drop self.at self.text.now)) c.in_ok-token.ensures.token in
-    record { word = rw c.is_end.ensures taken }
+    record { word = rw (c.is_end.ensures, c.place_in.ensures) taken }

@@ -1,0 +1,140 @@
+//! Kernels of every form, the fronts of one, and where a text ends.
+
+use crate::kernel_texts::{HEAD, judge, refuse_at};
+use std::alloc::Global;
+use std::process::Abort;
+use std::test::Fail;
+use vg_kernel::parse_kernel;
+use vg_text::place::{Place, place_after};
+
+/// Every form of the language. No name in it is the front of another name or of a function.
+const ALL_FORMS: &str = "kernel all(p: ptr, q: noalias ptr, k: i8, b: i16, c: i32, d: i64) {\n  \
+    // each form once\n  \
+    r1 = (load8(p + 1) + k) * -5i8 - 7i8;\n  \
+    r2 = shl(b, 3) & lshr(b, 0) ^ ashr(load16(p - 2), 15) | 65535i16;\n  \
+    r3 = select(slt(c, 1i32), sext32(k), zext32(b));\n  \
+    r4 = eq(trunc32(d), r3);\n  \
+    r5 = select(r4, smin(c, r3), smax(c, umin(r3, umax(c, c))));\n  \
+    r6 = ult(k, r1);\n  \
+    store32(q, r5);\n  \
+    store64(q + 8, load64(q));\n\
+    }";
+
+#[test]
+fn texts_that_are_kernels(rt: HostRuntime) -> Result<(), Fail> {
+    for text in [
+        "kernel none(){}",
+        "// a comment\nkernel t ( t : i8 ) { }",
+        ALL_FORMS,
+    ] {
+        judge(&rt, rt.alloc(), &[(text, 1)], 0)?;
+    }
+    for body in [
+        "x = a; y = x; store8(p, y);}",
+        "x = (eq(a, a)); y = select((x), a, a);}",
+        "x = 255i8 + -128i8 + -0i8 + - 1i8 + 0000000000005i8;}",
+        "x = 18446744073709551615i64; y = -9223372036854775808i64;}",
+        "x=a-1i8;y=a- -1i8;z=a--1i8;}",
+        "store8(p + 2147483647, load8(p - 2147483648)); store8(p - 0, load8(p + 007));}",
+        "x = shl(a, 0) | lshr(a, 7) | ashr(a, 007);}",
+        "load7 = a; load = load7; store = load; i1 = store; i08 = i1; sext = i08; kernel_ = sext; _ = kernel_; t = _;}",
+        "a234567890123456789012345678901234567890123456789012345678901234 = a;}",
+        "\t\r\nx\n=\na\n;\n}\n// end",
+    ] {
+        judge(&rt, rt.alloc(), &[(HEAD, 1), (body, 1)], 0)?;
+    }
+    Ok(())
+}
+
+/// So many bytes from the end of the front of `text` that ends behind the first `piece`, the fault stands.
+fn refuse_front(
+    rt: &impl Abort,
+    alloc: Global,
+    text: &str,
+    (piece, number, back): (&str, u32, usize),
+) -> Result<(), Fail> {
+    let start = text.find(piece).ok_or(piece)?;
+    let end = start + piece.len();
+    assert!(rt; end <= text.len() && back <= end && text.len() <= 1_000_000);
+    let place = place_after(Place { line: 1, column: 1 }, &text.as_bytes()[..end - back]);
+    refuse_at(rt, alloc, &text.as_bytes()[..end], number, place, piece)
+}
+
+#[test]
+fn fronts_of_a_kernel(rt: HostRuntime) -> Result<(), Fail> {
+    for row in [
+        ("kern", 2, 4),
+        ("kernel", 2, 0),
+        ("kernel al", 2, 0),
+        ("kernel all(", 2, 0),
+        ("(p", 2, 0),
+        ("p: pt", 2, 2),
+        ("p: ptr", 2, 0),
+        ("q: noali", 2, 5),
+        ("q: noalias", 2, 0),
+        ("noalias p", 2, 1),
+        ("k: i", 2, 1),
+        ("d: i6", 2, 2),
+        ("d: i64)", 2, 0),
+        ("// each", 2, 0),
+        ("  r1", 2, 0),
+        ("= (loa", 3, 3),
+        ("(load8", 2, 0),
+        ("load8(p +", 2, 0),
+        (" + k", 2, 0),
+        ("* -", 2, 0),
+        ("* -5", 2, 0),
+        ("* -5i", 2, 1),
+        ("* -5i8", 2, 0),
+        ("r2 = sh", 3, 2),
+        ("shl(b, 3", 2, 0),
+        ("slt(c, 1i3", 2, 2),
+        ("sext3", 3, 5),
+        ("sext32", 2, 0),
+        ("trunc32(d), r", 3, 1),
+        ("umin(r3, um", 3, 2),
+        ("  stor", 2, 0),
+        ("  store32", 2, 0),
+        ("store32(q, r5)", 2, 0),
+        ("load64(q));", 2, 0),
+    ] {
+        refuse_front(&rt, rt.alloc(), ALL_FORMS, row)?;
+    }
+    for end in 0..ALL_FORMS.len() {
+        let front = &ALL_FORMS.as_bytes()[..end];
+        let Err(fault) = parse_kernel(rt.alloc(), front) else {
+            return Err("the front of a kernel is no kernel".into());
+        };
+        // a name that is cut is not known, and nothing else can be wrong
+        assert!(rt;
+            fault.number() == Some(2) || fault.number() == Some(3),
+            "{end}"
+        );
+    }
+    Ok(())
+}
+
+#[test]
+fn where_a_text_ends(rt: HostRuntime) -> Result<(), Fail> {
+    for (text, line, column) in [
+        ("", 1, 1),
+        ("\n", 1, 2),
+        (" \n\n", 2, 2),
+        ("// only a comment", 1, 18),
+        ("kernel t() {", 1, 13),
+        ("kernel t() {\n", 1, 14),
+        ("kernel t() {\r\n", 1, 15),
+        ("kernel t() {\n\n", 2, 2),
+        ("kernel t() {\n  x", 2, 4),
+    ] {
+        refuse_at(
+            &rt,
+            rt.alloc(),
+            text.as_bytes(),
+            2,
+            Place { line, column },
+            text,
+        )?;
+    }
+    Ok(())
+}

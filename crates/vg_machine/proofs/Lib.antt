@@ -1,2 +1,0 @@
-pub mod ByteLaws
-pub mod AccessLaws
