@@ -1,6 +1,7 @@
 pub mod Address
 pub mod Bind
 pub mod Bits
+pub mod Gives
 pub mod Memory
 pub mod Trap
 pub mod Width

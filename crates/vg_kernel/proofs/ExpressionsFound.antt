@@ -4,7 +4,7 @@ use Rattle.std.specs.Prelude.{codes, max, nat_lt, nat_le, nat_eq, is_some, if◌
 use Rattle.std.specs.Option.{option_map_or}
 use Rattle.std.specs.Str.{bytes_eq}
 use Rattle.std.proofs.lemmas.Bool.{ltb-true, leb-true, eqb-true}
-use Rattle.vg_base.specs.Bind.{◌>>=◌}
+use Rattle.vg_base.specs.Bind.{◌>>=◌, or_fault}
 use Rattle.vg_base.specs.Trap.{◌>>=◌ as ◌>>◌}
 use Rattle.vg_base.proofs.Bind.{bind_ok, tested_ok, either_way}
 use Rattle.vg_base.specs.declared.width.Width.{Width}
@@ -25,7 +25,7 @@ use Rattle.vg_kernel.specs.Expressions.{Scan, Part, Inner, Operator, leaf_part, 
 use Rattle.vg_kernel.specs.Grammar.{Is, name, number, negative, pair, moved, resized, chosen, tighter, joined, value_given}
 use Rattle.vg_kernel.specs.Names.{Names, given_as}
 use Rattle.vg_kernel.specs.Nodes.{width_in, pair_node, resize_node, select_node}
-use Rattle.vg_kernel.specs.Reader.{or_fault, next_at, expect_at}
+use Rattle.vg_kernel.specs.Reader.{next_at, expect_at}
 use Rattle.vg_kernel.specs.Tree.{Expression, argument, assigned, literal, shift}
 use Rattle.vg_kernel.specs.Words.{sized, width_behind, level_of, operator_named, plain_named, function_named, is_free, begins_digit}
 use Rattle.vg_kernel.proofs.Scripts.{Spells, Spells-append, same_text, ok_once, fault-some, next-found, tested-found, expect-found, true_fact}

@@ -6,7 +6,7 @@ use Rattle.std.specs.Option.{option_map}
 use Rattle.std.specs.Str.{bytes_eq}
 use Rattle.std.proofs.lemmas.Bool.{leb-true}
 use Rattle.std.proofs.lemmas.List.{map-append}
-use Rattle.vg_base.specs.Bind.{◌>>=◌}
+use Rattle.vg_base.specs.Bind.{◌>>=◌, or_fault}
 use Rattle.vg_base.proofs.Bind.{bind_ok, tested_ok, refused_ok, either_way}
 use Rattle.vg_text.specs.Place.{first_place}
 use Rattle.vg_text.specs.Words.{Reading, Spelled, reading_of}
@@ -17,7 +17,7 @@ use Rattle.vg_kernel.specs.declared.parameter.KParamKind.{KParamKind}
 use Rattle.vg_kernel.specs.declared.parameter.KParamKind.TheVariants.{Pointer, Integer}
 use Rattle.vg_kernel.specs.Grammar.{Is, IsKind, IsParameter, AreMore, AreParameters, AreStatements, IsKernel, IsKernelText}
 use Rattle.vg_kernel.specs.Names.{names_of}
-use Rattle.vg_kernel.specs.Reader.{or_fault, next_at, expect_at, end_at, name_at}
+use Rattle.vg_kernel.specs.Reader.{next_at, expect_at, end_at, name_at}
 use Rattle.vg_kernel.specs.Script.{Words, script_left}
 use Rattle.vg_kernel.specs.Statements.{kind_at, is_taken, parameter_at, parameter_too_many, comma_at, parameters_behind, parameters_at, statements_at, kernel_at, kernel_of}
 use Rattle.vg_kernel.specs.Cost.{uses_of}

@@ -3,6 +3,7 @@ use Rattle.std.proofs.Common.{◌≡◌, ℕ, ◌+◌, ◌<◌, ◌≤◌, Bool,
 use Rattle.std.specs.Prelude.{codes, nat_lt, if◌then◌else◌}
 use Rattle.std.specs.Option.{option_map}
 use Rattle.std.proofs.lemmas.Bool.{ltb-true}
+use Rattle.vg_base.specs.Bind.{or_fault}
 use Rattle.vg_base.specs.Trap.{◌>>=◌}
 use Rattle.vg_base.proofs.Bind.{bind_ok, tested_ok}
 use Rattle.vg_base.specs.declared.width.Width.{Width}
@@ -18,7 +19,7 @@ use Rattle.vg_kernel.specs.Expressions.{Scan, Part, Inner, leaf_part, counted, j
 use Rattle.vg_kernel.specs.Grammar.{Is, IsLiteral, IsExpression, read, parenthesised}
 use Rattle.vg_kernel.specs.Names.{Names}
 use Rattle.vg_kernel.specs.Nodes.{width_in, common_width, pair_node, resize_node, select_node, is_resize, is_bit}
-use Rattle.vg_kernel.specs.Reader.{or_fault, next_at, expect_at, address_at}
+use Rattle.vg_kernel.specs.Reader.{next_at, expect_at, address_at}
 use Rattle.vg_kernel.specs.Script.{Words}
 use Rattle.vg_kernel.specs.Tree.{Expression, literal, load, two, resize, compare, select}
 use Rattle.vg_kernel.specs.Words.{sized, width_behind, adjoins, literal_of}

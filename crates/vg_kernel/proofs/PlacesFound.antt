@@ -2,6 +2,7 @@
 use Rattle.std.proofs.Common.{◌≡◌, ℕ, ℤ, Bool, true, false, List, [], ◌∷◌, Option, Some, None, Ok, refl, sym, ◌∙◌, ap, subst, inl, inr}
 use Rattle.std.specs.Prelude.{codes, pos}
 use Rattle.std.specs.Str.{bytes_eq}
+use Rattle.vg_base.specs.Bind.{or_fault}
 use Rattle.vg_base.proofs.Bind.{bind_ok, either_way}
 use Rattle.vg_base.specs.declared.address.Address.{Address}
 use Rattle.vg_text.specs.declared.place.Place.{Place}
@@ -12,7 +13,7 @@ use Rattle.vg_kernel.specs.declared.given.Given.{Given}
 use Rattle.vg_kernel.specs.declared.given.Given.TheVariants as given
 use Rattle.vg_kernel.specs.Grammar.{IsPointer, IsDistance, IsOffset, IsAddress}
 use Rattle.vg_kernel.specs.Names.{Names, given_as}
-use Rattle.vg_kernel.specs.Reader.{or_fault, next_at, name_at, pointer_of, offset_at, address_at}
+use Rattle.vg_kernel.specs.Reader.{next_at, name_at, pointer_of, offset_at, address_at}
 use Rattle.vg_kernel.specs.Script.{Words}
 use Rattle.vg_kernel.specs.Words.{offset_of}
 use Rattle.vg_kernel.proofs.Scripts.{Spells, Spells-append, same_text, ok_once, fault-some, next-found, name-found}

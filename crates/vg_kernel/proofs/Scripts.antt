@@ -4,6 +4,7 @@ use Rattle.std.specs.Option.{option_map}
 use Rattle.std.specs.Str.{bytes_eq}
 use Rattle.std.specs.Prelude.{IsTrue}
 use Rattle.std.proofs.lemmas.Slice.Eq.{bytes_eq-Decides}
+use Rattle.vg_base.specs.Bind.{or_fault}
 use Rattle.vg_base.proofs.Bind.{bind_ok, tested_ok}
 use Rattle.vg_text.specs.declared.place.Place.{Place}
 use Rattle.vg_text.specs.Token.{Lexemes, token, finish, fault}
@@ -12,7 +13,7 @@ use Rattle.vg_kernel.specs.declared.fault.KernelFault.{KernelFault}
 use Rattle.vg_kernel.specs.declared.fault.KernelFault.TheVariants.{Shape}
 use Rattle.vg_kernel.specs.Script.{Words, script_from, script_left}
 use Rattle.vg_kernel.specs.Words.{is_free}
-use Rattle.vg_kernel.specs.Reader.{or_token, or_fault, next_at, expect_at, end_at, name_at}
+use Rattle.vg_kernel.specs.Reader.{or_token, next_at, expect_at, end_at, name_at}
 
 -- these words stand between the two
 abbrev pub Spells : Reading → Words → Reading → Type 0

@@ -5,7 +5,7 @@ use Rattle.std.specs.Option.{option_map_or}
 use Rattle.std.specs.Str.{bytes_eq}
 use Rattle.std.proofs.lemmas.Bool.{eqb-true}
 use Rattle.std.proofs.lemmas.List.Sums.{sum_by-cons}
-use Rattle.vg_base.specs.Bind.{◌>>=◌}
+use Rattle.vg_base.specs.Bind.{◌>>=◌, or_fault}
 use Rattle.vg_base.proofs.Bind.{bind_ok, tested_ok, refused_ok, either_way}
 use Rattle.vg_base.specs.declared.address.Address.{Address}
 use Rattle.vg_base.specs.declared.width.Width.{Width}
@@ -20,7 +20,7 @@ use Rattle.vg_kernel.specs.Expressions.{Scan, Part}
 use Rattle.vg_kernel.specs.Grammar.{Is, IsAddress, IsStatement, AreStatements}
 use Rattle.vg_kernel.specs.Names.{Names, given_as, with_name}
 use Rattle.vg_kernel.specs.Nodes.{width_in, one_width}
-use Rattle.vg_kernel.specs.Reader.{or_fault, next_at, expect_at, address_at}
+use Rattle.vg_kernel.specs.Reader.{next_at, expect_at, address_at}
 use Rattle.vg_kernel.specs.Script.{Words}
 use Rattle.vg_kernel.specs.Statements.{Step, outer_at, assignment_at, has_width, store_end, store_at, statement_at, closing_at, statements_at}
 use Rattle.vg_kernel.specs.Tree.{Expression, Statement, assign, store, type_of}

@@ -3,7 +3,7 @@
 use Rattle.std.specs.Prelude.{ℕ, zero, suc, ◌+◌, max, Bool, true, false, Option, Some, None, Result, Ok, Err, nat_le, nat_lt, nat_eq, codes, if◌then◌else◌}
 use Rattle.std.specs.Option.{option_map_or}
 use Rattle.std.specs.Str.{bytes_eq}
-use Rattle.vg_base.specs.Bind.{◌>>=◌}
+use Rattle.vg_base.specs.Bind.{◌>>=◌, or_fault}
 use Rattle.vg_base.specs.declared.width.Width.{Width}
 use Rattle.vg_base.specs.Width.{bits_of}
 use Rattle.vg_scalar.specs.declared.two_op.TwoOp.{TwoOp}
@@ -22,7 +22,7 @@ use Rattle.vg_kernel.specs.Tree.{Expression, argument, assigned, literal, load, 
 use Rattle.vg_kernel.specs.Words.{width_behind, level_of, operator_named, function_named, is_free, begins_digit, begins_operand, adjoins, literal_of}
 use Rattle.vg_kernel.specs.Names.{Names, given_as}
 use Rattle.vg_kernel.specs.Nodes.{width_in, pair_node, resize_node, select_node}
-use Rattle.vg_kernel.specs.Reader.{or_fault, next_at, expect_at, address_at}
+use Rattle.vg_kernel.specs.Reader.{next_at, expect_at, address_at}
 
 -- what is left of a text, and how many loads and operations were counted before it
 pub record Scan : Type 0 where

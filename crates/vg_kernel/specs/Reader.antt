@@ -2,7 +2,7 @@
 -- what is left and gives it with what is left behind it, or the first fault that it meets.
 use Rattle.std.specs.Prelude.{ℕ, Bool, true, false, List, Option, Some, None, Result, Ok, Err, pos, codes, if◌then◌else◌}
 use Rattle.std.specs.Str.{bytes_eq}
-use Rattle.vg_base.specs.Bind.{◌>>=◌}
+use Rattle.vg_base.specs.Bind.{◌>>=◌, or_fault}
 use Rattle.vg_base.specs.declared.address.Address.{Address}
 use Rattle.vg_base.specs.declared.width.Width.{Width}
 use Rattle.vg_text.specs.declared.place.Place.{Place}
@@ -19,11 +19,6 @@ use Rattle.vg_kernel.specs.Names.{Names, given_as}
 abbrev pub or_token : {X : Type 0} → Result X Place → Result X KernelFault
 or_token (Ok x) = Ok x
 or_token (Err p) = Err (Token p)
-
--- what is there, or this fault
-abbrev pub or_fault : {X : Type 0} → Option X → KernelFault → Result X KernelFault
-or_fault (Some x) fault = Ok x
-or_fault None fault = Err fault
 
 -- the next word
 abbrev pub next_at : Reading → Result (Spelled × Reading) KernelFault

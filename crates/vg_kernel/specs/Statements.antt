@@ -3,7 +3,7 @@ use Rattle.std.specs.Prelude.{ℕ, zero, suc, Bool, true, false, List, [], ◌�
 use Rattle.std.specs.List.{list_any}
 use Rattle.std.specs.Option.{option_map_or}
 use Rattle.std.specs.Str.{bytes_eq}
-use Rattle.vg_base.specs.Bind.{◌>>=◌}
+use Rattle.vg_base.specs.Bind.{◌>>=◌, or_fault}
 use Rattle.vg_base.specs.declared.address.Address.{Address}
 use Rattle.vg_base.specs.declared.width.Width.{Width}
 use Rattle.vg_text.specs.Place.{first_place}
@@ -17,7 +17,7 @@ use Rattle.vg_kernel.specs.Tree.{Expression, Statement, assign, store, Tree, typ
 use Rattle.vg_kernel.specs.Words.{width_behind, is_free, begins_statement}
 use Rattle.vg_kernel.specs.Names.{Names, given_as, names_of, with_name}
 use Rattle.vg_kernel.specs.Nodes.{width_in, one_width}
-use Rattle.vg_kernel.specs.Reader.{or_fault, next_at, expect_at, end_at, name_at, address_at}
+use Rattle.vg_kernel.specs.Reader.{next_at, expect_at, end_at, name_at, address_at}
 use Rattle.vg_kernel.specs.Expressions.{Scan, Part, expression_at}
 
 -- a statement that was read, the names that are given behind it, and what is left

@@ -16,11 +16,10 @@ use crate::nodes::{pair_end, pair_node, resize_end, select_end, shift_end};
 use crate::operands::{leaf, literal, load, negative, too_deep, value_of};
 use crate::reading::{expect, next};
 use crate::scan::{Part, Scan};
-use crate::words::{
-    begins_digit, function_named, is_free, is_text, level_of, operator_named, width_behind,
-};
+use crate::words::{begins_digit, function_named, is_free, level_of, operator_named, width_behind};
 use std::alloc::Global;
 use vg_scalar::TwoOp;
+use vg_text::byte::is_text;
 use vg_text::lexer::Word;
 use vg_text::{Lexer, Place};
 

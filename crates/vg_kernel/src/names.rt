@@ -7,9 +7,9 @@ use crate::assigned_names::AssignedNames;
 use crate::given::Given;
 use crate::parameter::{KParam, KParamKind};
 use crate::value_type::ValueType;
-use crate::words::is_text;
 use std::alloc::{AllocError, Global};
 use std::marker::Model;
+use vg_text::byte::is_text;
 
 fn is_pointer(kind: KParamKind) -> bool
     ensures { result ≡ is_pointer kind }

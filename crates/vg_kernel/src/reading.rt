@@ -9,8 +9,9 @@ ghost use Rattle.vg_kernel.specs.Reader.{next_at, expect_at, end_at, name_at, po
 use crate::fault::KernelFault;
 use crate::given::Given;
 use crate::names::Names;
-use crate::words::{is_free, is_text, offset_of};
+use crate::words::{is_free, offset_of};
 use vg_base::Address;
+use vg_text::byte::is_text;
 use vg_text::lexer::Word;
 use vg_text::number::decimal;
 use vg_text::{Lexer, Place};

@@ -17,10 +17,11 @@ use crate::parameter::KParam;
 use crate::reading::{address, expect, next};
 use crate::scan::{Part, Scan};
 use crate::statement::KStmt;
-use crate::words::{begins_statement, is_free, is_text, width_behind};
+use crate::words::{begins_statement, is_free, width_behind};
 use std::alloc::Global;
 use vg_base::{Address, Width};
 use vg_text::Lexer;
+use vg_text::byte::is_text;
 use vg_text::lexer::Word;
 
 /// An expression that no parenthesis encloses.

@@ -1,7 +1,6 @@
 //! The words of the kernel language.
 
 ghost use Rattle.std.specs.Prelude.{◌≡◌, true, is_some};
-ghost use Rattle.std.specs.Str.{bytes_eq};
 ghost use Rattle.vg_base.specs.Width.{bits_of};
 ghost use Rattle.vg_text.specs.Lexing.{spelled_of};
 ghost use Rattle.vg_kernel.specs.Words.{width_of, width_behind, level_of, operator_named, plain_named, sized_named, function_named, is_reserved, is_free, begins_digit, begins_operand, begins_statement, adjoins, offset_of, literal_of};
@@ -9,15 +8,8 @@ ghost use Rattle.vg_kernel.specs.Words.{width_of, width_behind, level_of, operat
 use crate::function::Function;
 use vg_base::Width;
 use vg_scalar::{Comparison, Resize, Shift, TwoOp};
-use vg_text::byte::{is_digit, is_name_text};
+use vg_text::byte::{is_digit, is_name_text, is_text};
 use vg_text::lexer::Word;
-
-/// Whether two texts are the same.
-pub(crate) fn is_text(bytes: &[u8], text: &[u8]) -> bool
-    ensures { result ≡ bytes_eq bytes.now text.now }
-{
-    bytes == text
-}
 
 /// The width that a word spells.
 fn width_of(bytes: &[u8]) -> Option<Width>

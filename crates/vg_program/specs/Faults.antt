@@ -1,7 +1,7 @@
 -- The refusal of a text: its first fault and the place of that.
 use Rattle.std.specs.Prelude.{◌≡◌, ℕ, ◌+◌, ◌-◌, ◌==◌, List, length, take, nat_lt, Option, Some, None, Result, Ok, Err, if◌then◌else◌}
 use Rattle.vg_text.specs.declared.place.Place.{Place}
-use Rattle.vg_text.specs.Place.{first_place, place_after}
+use Rattle.vg_text.specs.Place.{first_place, place_after, end_place}
 use Rattle.vg_program.specs.declared.program.Program.{Program}
 use Rattle.vg_program.specs.declared.fault.Fault.{Fault}
 use Rattle.vg_program.specs.declared.fault.Fault.TheVariants as faults
@@ -41,13 +41,9 @@ placed faults.WidthMismatch p = WidthMismatch p
 placed (faults.CostWrong stated counted) p = CostWrong stated counted p
 placed faults.Range p = Range p
 
--- one column further
-abbrev pub next_column : Place → Place
-next_column p = record { line = p.line; column = p.column + 1 }
-
--- The place of the byte behind these many. The end of a text is one column past its last byte, on that byte's line.
+-- the place of the byte behind these many, or of the end
 unfoldable pub place_in : List ℕ → ℕ → Place
-place_in text n = if nat_lt n (length text) then place_after first_place (take n text) else if length text == 0 then first_place else next_column (place_after first_place (take (length text - 1) text))
+place_in text n = if nat_lt n (length text) then place_after first_place (take n text) else end_place text
 
 -- the refusal of a text that stops there
 abbrev pub refusal : List ℕ → Stop → ProgramFault

@@ -2,7 +2,7 @@
 use Rattle.std.specs.Prelude.{ℕ, zero, suc, ◌+◌, ◌-◌, ◌^◌, ℤ, pos, negsuc, List, [], ◌∷◌, ◌++◌, length, drop, slice_get, sum_by, Bool, false, ◌==◌, not, ◌&&◌, nat_le, nat_lt, Option, Result, Ok, Err, codes, if◌then◌else◌}
 use Rattle.std.specs.List.{list_any, find}
 use Rattle.std.specs.Str.{bytes_eq}
-use Rattle.vg_base.specs.Bind.{◌>>=◌}
+use Rattle.vg_base.specs.Bind.{◌>>=◌, or_fault}
 use Rattle.vg_base.specs.declared.address.Address.{Address}
 use Rattle.vg_base.specs.declared.width.Width.{Width}
 use Rattle.vg_base.specs.declared.width.Width.TheVariants.{W8, W16, W32, W64}
@@ -37,7 +37,7 @@ use Rattle.vg_program.specs.declared.stop.Stop.{Stop}
 use Rattle.vg_program.specs.Text.{line_end, two_text, shift_text, resize_text, comparison_text, given}
 use Rattle.vg_program.specs.Cost.{line_cost}
 use Rattle.vg_text.specs.Byte.{is_digit}
-use Rattle.vg_program.specs.Tokens.{Read, met, unfit, or_stop, begins, signs_at, is_word, word_at, word_of, behind_word, name_at, type_at, number_at, register_at}
+use Rattle.vg_program.specs.Tokens.{Read, met, unfit, begins, signs_at, is_word, word_at, word_of, behind_word, name_at, type_at, number_at, register_at}
 
 -- ---- parameters
 
@@ -165,7 +165,7 @@ address_at params text = do
 unfoldable pub given_operand_at : List ℕ → Wanted → List ℕ → Read (Operand × ℕ)
 given_operand_at widths want text = do
   k ← register_at text
-  width ← or_stop (slice_get widths k.0) (met UnknownRegister text)
+  width ← or_fault (slice_get widths k.0) (met UnknownRegister text)
   if fits want width then Ok ((Register k.0, width), k.1) else Err (met WidthMismatch text)
 
 -- `7i32`
@@ -199,7 +199,7 @@ width_with bits = find (λ w. bits == bits_of w) (W8 ∷ W16 ∷ W32 ∷ W64 ∷
 unfoldable pub sized_at : List Param → List ℕ → Wanted → List ℕ → Read (Operand × Width)
 sized_at params widths want text = do
   operand ← operand_at params widths want text
-  width ← or_stop (width_with operand.0.1) (met WidthMismatch text)
+  width ← or_fault (width_with operand.0.1) (met WidthMismatch text)
   Ok ((operand.0.0, width), operand.1)
 
 -- two operands of this width
@@ -333,7 +333,7 @@ left_at k text = if begins 37 text then register_left_at k text else Ok (left_si
 unfoldable pub head_at : ℕ → List ℕ → Read Head
 head_at k text = do
   left ← left_at k text
-  line ← or_stop (head_named left.0 (word_of left.1)) (unfit left.1)
+  line ← or_fault (head_named left.0 (word_of left.1)) (unfit left.1)
   space ← signs_at (codes " ") (behind_word left.1)
   Ok (line, space)
 

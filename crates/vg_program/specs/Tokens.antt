@@ -4,7 +4,8 @@ use Rattle.std.specs.Prelude.{◌≡◌, ℕ, ◌+◌, ◌-◌, ◌*◌, ◌^◌
 use Rattle.std.specs.List.{prefix_len, starts_with}
 use Rattle.std.specs.Str.{bytes_eq}
 use Rattle.std.specs.Prelude.{nat_eq}
-use Rattle.vg_base.specs.Bind.{◌>>=◌}
+use Rattle.vg_base.specs.Bind.{◌>>=◌, or_fault}
+use Rattle.vg_base.specs.Gives as returned
 use Rattle.vg_base.specs.declared.width.Width.{Width}
 use Rattle.vg_base.specs.declared.width.Width.TheVariants.{W8, W16, W32, W64}
 use Rattle.vg_program.specs.declared.fault.Fault.{Fault}
@@ -18,15 +19,14 @@ use Rattle.vg_text.specs.Byte.{is_printable, is_digit, is_letter, is_name, is_na
 abbrev pub Read : Type 0 → Type 0
 Read A = Result (A × List ℕ) Stop
 
--- what a failed call says of the reader of its name: the same fault, or nothing where memory ran out
-abbrev pub Fails : {Y : Type 0} → ReadError → Result Y Stop → Type 0
-Fails (errors.Memory e) read = Unit {0}
-Fails (errors.At stop) read = read ≡ Err stop
+-- where a text stops by this error; want of memory tells nothing of the text
+abbrev pub told : ReadError → Option Stop
+told (errors.Memory e) = None
+told (errors.At stop) = Some stop
 
 -- what a call returned, seen by view, is what the reader of its name gives, unless memory ran out
 abbrev pub Gives : {X Y : Type 0} → (X → Y) → Result X ReadError → Result Y Stop → Type 0
-Gives view (Ok x) read = read ≡ Ok (view x)
-Gives view (Err e) read = Fails e read
+Gives view result read = returned.Gives told view result read
 
 -- a fault in front of these bytes
 abbrev pub met : Fault → List ℕ → Stop
@@ -55,11 +55,6 @@ begins_no_token (b ∷ bs) = if is_letter b then nat_lt 64 (word_length (b ∷ b
 -- the fault of a token that does not fit what stands before it, or of none
 unfoldable pub unfit : List ℕ → Stop
 unfit text = met (if begins_no_token text then Token else Shape) text
-
--- the value, or the fault where there is none
-abbrev pub or_stop : {A : Type 0} → Option A → Stop → Result A Stop
-or_stop (Some x) stop = Ok x
-or_stop None stop = Err stop
 
 -- whether the text begins with this byte
 abbrev pub begins : ℕ → List ℕ → Bool
@@ -91,7 +86,7 @@ width_named name = if bytes_eq name (codes "i8") then Some W8 else if bytes_eq n
 -- `i32`
 unfoldable pub type_at : List ℕ → Read Width
 type_at text = do
-  width ← or_stop (width_named (word_of text)) (unfit text)
+  width ← or_fault (width_named (word_of text)) (unfit text)
   Ok (width, behind_word text)
 
 -- the digits at the front

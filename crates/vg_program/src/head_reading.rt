@@ -11,11 +11,12 @@ use crate::head::Head;
 use crate::left::Left;
 use crate::stop::ReadError;
 use crate::tokens::{
-    begins, behind_word, is_text, is_word, met, register_at, signs_at, type_at, unfit, word_of,
+    begins, behind_word, is_word, met, register_at, signs_at, type_at, unfit, word_of,
 };
 use crate::words::head_text;
 use vg_base::width::Width;
 use vg_scalar::{Comparison, Resize, Shift, TwoOp};
+use vg_text::byte::is_text;
 
 /// The lines that give a register of this width.
 fn numbers(width: Width) -> [Head; 18]

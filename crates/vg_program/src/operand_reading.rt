@@ -12,11 +12,11 @@ use crate::operand::Operand;
 use crate::param::Param;
 use crate::param_kind::ParamKind;
 use crate::stop::ReadError;
-use crate::tokens::{begins, is_text, met, name_at, number_at, register_at, signs_at, type_at};
+use crate::tokens::{begins, met, name_at, number_at, register_at, signs_at, type_at};
 use crate::wanted::Wanted;
 use vg_base::address::Address;
 use vg_base::width::Width;
-use vg_text::byte::is_digit;
+use vg_text::byte::{is_digit, is_text};
 
 /// What a name stands for among these parameters.
 #[tactic(auto, unfolding(crate::specs::Grammar::named_in))]

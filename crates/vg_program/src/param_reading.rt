@@ -11,10 +11,11 @@ use crate::param::Param;
 use crate::param_kind::ParamKind;
 use crate::stop::ReadError;
 use crate::tokens::{
-    begins, behind_word, is_text, is_word, met, name_at, signs_at, skip, type_at, unfit, word_at,
+    begins, behind_word, is_word, met, name_at, signs_at, skip, type_at, unfit, word_at,
 };
 use std::alloc::Global;
 use vg_base::name::Name;
+use vg_text::byte::is_text;
 
 /// The most parameters of a program.
 const MOST_PARAMS: usize = 16;

@@ -8,7 +8,7 @@ ghost use Rattle.vg_program.specs.Text.{text_of};
 ghost use Rattle.vg_program.specs.Valid.{IsValid};
 ghost use Rattle.vg_program.specs.Tokens.{Gives};
 ghost use Rattle.vg_program.specs.Grammar.{cost_from, scalar_from, scalar_at, cost_at, last_line_at, program_at};
-ghost use Rattle.vg_program.specs.Faults.{next_column, place_in, read, Returns};
+ghost use Rattle.vg_program.specs.Faults.{place_in, read, Returns};
 
 use crate::costs::lines_cost;
 use crate::fault::Fault;
@@ -21,7 +21,7 @@ use crate::stop::{ReadError, Stop};
 use crate::tokens::{met, number_at, signs_at, unfit, word_at};
 use std::alloc::Global;
 use vg_base::items::Items;
-use vg_text::place::Place;
+use vg_text::place::{Place, end_place, place_after};
 
 /// The most bytes of the text of a program: 4 MiB.
 pub const MOST_BYTES: usize = 4194304;
@@ -105,47 +105,16 @@ fn program_at(alloc: Global, text: &[u8]) -> Result<Program, ReadError>
     })
 }
 
-/// Where the byte behind these stands.
-#[tactic(auto, unfolding(vg_text::specs::Place::place_after))]
-fn place_after(text: &[u8]) -> Place
-    requires { length text.now ≤ 4194304 }
-    ensures place { result ≡ place_after first_place text.now }
-    ensures near { result.column ≤ 1 + length text.now }
-{
-    let mut place = Place { line: 1, column: 1 };
-    let mut rest = text;
-    'bytes: while let [first, behind @ ..] = rest {
-        place = if *first == b'\n' {
-            Place {
-                line: place.line + 1,
-                column: 1,
-            }
-        } else {
-            Place {
-                line: place.line,
-                column: place.column + 1,
-            }
-        };
-        rest = behind;
-    }
-    place
-}
-
+/// The place of the byte behind so many, or of the end.
 #[tactic(auto, unfolding(crate::specs::Faults::place_in))]
 fn place_in(text: &[u8], n: usize) -> Place
     requires { length text.now ≤ 4194304 }
     ensures { result ≡ place_in text.now n }
 {
     if n < text.len() {
-        place_after(&text[..n])
-    } else if text.is_empty() {
-        Place { line: 1, column: 1 }
+        place_after(Place { line: 1, column: 1 }, &text[..n])
     } else {
-        let last = place_after(&text[..text.len() - 1]);
-        Place {
-            line: last.line,
-            column: last.column + 1,
-        }
+        end_place(text)
     }
 }
 

@@ -2,21 +2,13 @@
 
 ghost use Rattle.std.specs.Prelude.{◌≡◌, ◌≤◌, ◌&&◌, ◌||◌, ◌^◌, ◌==◌, List, length, take, drop, nat_le, nat_lt, not, min};
 ghost use Rattle.std.specs.List.{list_all, prefix_len, starts_with};
-ghost use Rattle.std.specs.Str.{bytes_eq};
 ghost use Rattle.vg_text.specs.Byte.{is_printable, is_digit, is_letter, is_name, is_name_text};
 ghost use Rattle.vg_program.specs.Tokens.{Gives, met, word_length, word_of, behind_word, is_printed, begins_no_token, unfit, begins, signs_at, is_word, word_at, name_at, width_named, type_at, digits_length, is_numeral, value_behind, number_of, number_at, is_register, register_at};
 
 use crate::fault::Fault;
 use crate::stop::{ReadError, Stop};
 use vg_base::width::Width;
-use vg_text::byte::{is_digit, is_letter, is_name, is_name_text, is_printable};
-
-/// Whether two texts are the same bytes.
-pub(crate) fn is_text(a: &[u8], b: &[u8]) -> bool
-    ensures { result ≡ bytes_eq a.now b.now }
-{
-    a == b
-}
+use vg_text::byte::{is_digit, is_letter, is_name, is_name_text, is_printable, is_text};
 
 fn is_printed(b: u8) -> bool
     ensures { result ≡ is_printed b }

@@ -166,10 +166,10 @@ place_after-append p [] ys = refl
 place_after-append p (x ∷ xs) ys = place_after-append (place_behind p x) xs ys
 
 -- a piece of a gap before a text that is cut
-prepend : (at : ℕ) (p : Place) (g text : List ℕ) (ls : Lexemes) → ((more rest : List ℕ) → text ≡ more ++ rest → IsGap more rest → IsGap (g ++ more) rest)
-    → Cuts (at + length g) (place_after p g) text ls → Cuts at p (g ++ text) ls
+prepend : (z : Place) (at : ℕ) (p : Place) (g text : List ℕ) (ls : Lexemes) → ((more rest : List ℕ) → text ≡ more ++ rest → IsGap more rest → IsGap (g ++ more) rest)
+    → Cuts z (at + length g) (place_after p g) text ls → Cuts z at p (g ++ text) ls
 unfolding Cuts
-prepend at p g text (token t rest) put (gap, lexeme, behind, e, is, lexed, stands, more) = (
+prepend z at p g text (token t rest) put (gap, lexeme, behind, e, is, lexed, stands, more) = (
   g ++ gap,
   lexeme,
   behind,
@@ -179,29 +179,30 @@ prepend at p g text (token t rest) put (gap, lexeme, behind, e, is, lexed, stand
   record { start = omega (arith, stands.start, length-append g gap); end = stands.end; place = stands.place ∙ sym (place_after-append p g gap) },
   more,
 )
-prepend at p g text (finish t) put (is, kind, stands) =
-    (put text [] (sym (append-nil text)) is, kind, record { start = omega (arith, stands.start, length-append g text); end = stands.end; place = stands.place ∙ sym (place_after-append p g text) })
-prepend at p g text (fault q) put (gap, behind, e, is, bad, place) =
+prepend z at p g text (finish t) put (is, ends) =
+    let len : (at + length g) + length text ≡ at + length (g ++ text) = omega (arith, length-append g text) in
+    (put text [] (sym (append-nil text)) is, rw len at ends)
+prepend z at p g text (fault q) put (gap, behind, e, is, bad, place) =
     (g ++ gap, behind, ap (λ (xs : List ℕ). g ++ xs) e ∙ sym (append_assoc g gap behind), put gap behind e is, bad, place ∙ sym (place_after-append p g gap))
 
 -- where a front fits, its step cuts the text, if what goes on cuts what is left
-cuts_step : (f : Front) (at : ℕ) (p : Place) (text : List ℕ) (more : ℕ → Lexemes) → Fits f text
-    → ((l behind : List ℕ) → text ≡ l ++ behind → 0 < length l → Cuts (at + length l) (place_after p l) behind (more (length l)))
-    → Cuts at p text (from_front f at p more)
+cuts_step : (z : Place) (f : Front) (at : ℕ) (p : Place) (text : List ℕ) (more : ℕ → Lexemes) → Fits f text
+    → ((l behind : List ℕ) → text ≡ l ++ behind → 0 < length l → Cuts z (at + length l) (place_after p l) behind (more (length l)))
+    → Cuts z at p text (from_front f at p more)
 unfolding Cuts place_after
-cuts_step (Gap n) at p text more (gap, behind, e, size, some, is) below =
-    rw (e, ← size) (prepend at p gap behind (more (length gap)) (λ m rest same k. join gap behind m rest same is k) (below gap behind e (rw (← size) at some)))
-cuts_step (Lexeme kind n) at p text more (lexeme, behind, e, size, some, is) below =
+cuts_step z (Gap n) at p text more (gap, behind, e, size, some, is) below =
+    rw (e, ← size) (prepend z at p gap behind (more (length gap)) (λ m rest same k. join gap behind m rest same is k) (below gap behind e (rw (← size) at some)))
+cuts_step z (Lexeme kind n) at p text more (lexeme, behind, e, size, some, is) below =
     ([], lexeme, behind, e, nothing (lexeme ++ behind), is, record { start = omega arith; end = omega (arith, size); place = refl }, rw (← size) (below lexeme behind e (rw (← size) at some)))
-cuts_step Bad at p text more bad below = ([], text, refl, nothing text, bad, refl)
+cuts_step z Bad at p text more bad below = ([], text, refl, nothing text, bad, refl)
 
 -- one byte more is taken
-one_more : (b : ℕ) (bs : List ℕ) (at : ℕ) (p : Place)
-    → ((l behind : List ℕ) → bs ≡ l ++ behind → Cuts ((at + 1) + length l) (place_after (place_behind p b) l) behind (lex (length l) (at + 1) (place_behind p b) bs))
-    → (l behind : List ℕ) → b ∷ bs ≡ l ++ behind → 0 < length l → Cuts (at + length l) (place_after p l) behind (lex (length l - 1) (at + 1) (place_behind p b) bs)
+one_more : (z : Place) (b : ℕ) (bs : List ℕ) (at : ℕ) (p : Place)
+    → ((l behind : List ℕ) → bs ≡ l ++ behind → Cuts z ((at + 1) + length l) (place_after (place_behind p b) l) behind (lex z (length l) (at + 1) (place_behind p b) bs))
+    → (l behind : List ℕ) → b ∷ bs ≡ l ++ behind → 0 < length l → Cuts z (at + length l) (place_after p l) behind (lex z (length l - 1) (at + 1) (place_behind p b) bs)
 unfolding place_after
-one_more b bs at p below [] behind e some = absurd (omega arith)
-one_more b bs at p below (x ∷ xs) behind e some =
+one_more z b bs at p below [] behind e some = absurd (omega arith)
+one_more z b bs at p below (x ∷ xs) behind e some =
     let first : x ≡ b = cc in
     let rest : bs ≡ xs ++ behind = cc in
     let one : suc (length xs) - 1 ≡ length xs = omega arith in
@@ -209,23 +210,23 @@ one_more b bs at p below (x ∷ xs) behind e some =
     rw (one, further, first) (below xs behind rest)
 
 -- behind the bytes that are taken, the text is cut into what is found there
-cuts_behind : (text taken behind : List ℕ) (at : ℕ) (p : Place) → text ≡ taken ++ behind → Cuts (at + length taken) (place_after p taken) behind (lex (length taken) at p text)
+cuts_behind : (z : Place) (text taken behind : List ℕ) (at : ℕ) (p : Place) → text ≡ taken ++ behind → Cuts z (at + length taken) (place_after p taken) behind (lex z (length taken) at p text)
 unfolding lex Cuts place_after
-cuts_behind [] [] [] at p e = (nothing [], refl, record { start = omega arith; end = omega arith; place = refl })
-cuts_behind [] [] (x ∷ xs) at p e = cc
-cuts_behind [] (x ∷ xs) behind at p e = cc
-cuts_behind (b ∷ bs) (x ∷ xs) behind at p e =
+cuts_behind z [] [] [] at p e = (nothing [], record { kind = refl; start = omega arith; end = omega arith; place = refl })
+cuts_behind z [] [] (x ∷ xs) at p e = cc
+cuts_behind z [] (x ∷ xs) behind at p e = cc
+cuts_behind z (b ∷ bs) (x ∷ xs) behind at p e =
     let one : suc (length xs) - 1 ≡ length xs = omega arith in
-    rw one at (one_more b bs at p (λ l rest same. cuts_behind bs l rest (at + 1) (place_behind p b) same) (x ∷ xs) behind e (omega arith))
-cuts_behind (b ∷ bs) [] behind at p e =
+    rw one at (one_more z b bs at p (λ l rest same. cuts_behind z bs l rest (at + 1) (place_behind p b) same) (x ∷ xs) behind e (omega arith))
+cuts_behind z (b ∷ bs) [] behind at p e =
     let none : at + 0 ≡ at = omega arith in
-    rw (none, ← e) (cuts_step (front_of (b ∷ bs)) at p (b ∷ bs) (λ n. lex (n - 1) (at + 1) (place_behind p b) bs) (fits_front b bs)
-    (one_more b bs at p (λ l rest same. cuts_behind bs l rest (at + 1) (place_behind p b) same)))
+    rw (none, ← e) (cuts_step z (front_of (b ∷ bs)) at p (b ∷ bs) (λ n. lex z (n - 1) (at + 1) (place_behind p b) bs) (fits_front b bs)
+    (one_more z b bs at p (λ l rest same. cuts_behind z bs l rest (at + 1) (place_behind p b) same)))
 
 -- a text is cut into the tokens that are found in it
-pub cuts : (at : ℕ) (p : Place) (text : List ℕ) → Cuts at p text (lex 0 at p text)
+pub cuts : (z : Place) (at : ℕ) (p : Place) (text : List ℕ) → Cuts z at p text (lex z 0 at p text)
 unfolding place_after
-cuts at p text = let none : at + 0 ≡ at = omega arith in rw none at (cuts_behind text [] text at p refl)
+cuts z at p text = let none : at + 0 ≡ at = omega arith in rw none at (cuts_behind z text [] text at p refl)
 
 -- the bytes of a text behind a place in it are those of the token that is found there, and what stands behind it
 pub token_of : (s rest : List ℕ) (kind : TokenKind) (t : Token) (at n : ℕ) (p : Place) → at < length s → rest ≡ drop at s → Lexeme kind n ≡ front_of rest

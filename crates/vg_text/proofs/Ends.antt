@@ -10,7 +10,7 @@ use Rattle.vg_text.specs.Byte.{is_white, is_printable, is_letter, is_digit, is_h
 use Rattle.vg_text.specs.Number.{value_in}
 use Rattle.vg_text.specs.Place.{place_behind}
 use Rattle.vg_text.specs.Token.{Lexemes, token, finish, fault, from_front, front_of, Takes, opens_comment, opens_hexadecimal, name_front, hexadecimal_front, decimal_front, sign_front, lex}
-use Rattle.vg_text.specs.Words.{EndsOnce, is_end, place_in, word_from}
+use Rattle.vg_text.specs.Words.{EndsOnce, is_end, word_from}
 
 -- a front is no end
 abbrev pub IsNoEnd : Front → Type 0
@@ -60,15 +60,15 @@ ends-from_front (Gap n) at p more k h = h n
 ends-from_front (Lexeme kind n) at p more k h = (k, h n)
 ends-from_front Bad at p more k h = tt
 
-pub lex-ends : (k at : ℕ) (p : Place) (text : List ℕ) → EndsOnce (lex k at p text)
+pub lex-ends : (z : Place) (k at : ℕ) (p : Place) (text : List ℕ) → EndsOnce (lex z k at p text)
 unfolding lex EndsOnce
-lex-ends k at p [] = (refl, refl)
-lex-ends (suc k) at p (b ∷ bs) = lex-ends k (at + 1) (place_behind p b) bs
-lex-ends zero at p (b ∷ bs) = ends-from_front (front_of (b ∷ bs)) at p (λ n. lex (n - 1) (at + 1) (place_behind p b) bs) (front_of-no_end (b ∷ bs)) (λ n. lex-ends (n - 1) (at + 1) (place_behind p b) bs)
+lex-ends z k at p [] = (refl, refl)
+lex-ends z (suc k) at p (b ∷ bs) = lex-ends z k (at + 1) (place_behind p b) bs
+lex-ends z zero at p (b ∷ bs) = ends-from_front (front_of (b ∷ bs)) at p (λ n. lex z (n - 1) (at + 1) (place_behind p b) bs) (front_of-no_end (b ∷ bs)) (λ n. lex-ends z (n - 1) (at + 1) (place_behind p b) bs)
 
 -- the word of a token that was taken
 pub word_taken : (text : List ℕ) (left rest : Lexemes) (t : Token) → EndsOnce left → Takes left (Ok t) rest
-    → word_from text left ≡ Ok (record { bytes = slice_range text t.start t.end; place = place_in text t; is_end = is_end t.kind }, record { text = text; left = rest })
+    → word_from text left ≡ Ok (record { bytes = slice_range text t.start t.end; place = t.place; is_end = is_end t.kind }, record { text = text; left = rest })
 unfolding EndsOnce
 word_taken text (token u more) rest t ends taken = let same : t ≡ u = cc in rw (same, taken.1, ends.0) refl
 word_taken text (finish u) rest t ends taken =
@@ -79,5 +79,5 @@ word_taken text (fault p) rest t ends taken = cc
 
 -- the same, where the text is known under another name
 pub word_taken_of : (text same : List ℕ) (left rest : Lexemes) (t : Token) → same ≡ text → EndsOnce left → Takes left (Ok t) rest
-    → word_from text left ≡ Ok (record { bytes = slice_range same t.start t.end; place = place_in same t; is_end = is_end t.kind }, record { text = same; left = rest })
+    → word_from text left ≡ Ok (record { bytes = slice_range same t.start t.end; place = t.place; is_end = is_end t.kind }, record { text = same; left = rest })
 word_taken_of text same left rest t e ends taken = rw e (word_taken text left rest t ends taken)

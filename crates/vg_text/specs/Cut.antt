@@ -62,14 +62,30 @@ pub record Stands (at : ℕ) (p : Place) (gap lexeme : List ℕ) (t : Token) : T
   pub end : t.end ≡ t.start + length lexeme
   pub place : t.place ≡ place_after p gap
 
--- A text that begins at this byte and place is cut into these tokens: a gap, a token, and what stands behind it, cut
--- again; or a gap alone, and the empty token of the end; or a gap and a fault, which stands at its place.
-unfoldable pub Cuts : ℕ → Place → List ℕ → Lexemes → Type 0
-Cuts at p text (token t rest) =
-    (gap lexeme behind : List ℕ) × (text ≡ gap ++ (lexeme ++ behind)) × IsGap gap (lexeme ++ behind)
-    × IsLexeme t.kind lexeme behind × Stands at p gap lexeme t × Cuts t.end (place_after t.place lexeme) behind rest
-Cuts at p text (finish t) = IsGap text [] × (t.kind ≡ End) × Stands at p text [] t
-Cuts at p text (fault q) = (gap behind : List ℕ) × (text ≡ gap ++ behind) × IsGap gap behind × IsFault behind × (q ≡ place_after p gap)
+-- the empty token of the end stands at this byte and place
+pub record IsEnd (at : ℕ) (last : Place) (t : Token) : Type 0 where
+  pub kind : t.kind ≡ End
+  pub start : t.start ≡ at
+  pub end : t.end ≡ at
+  pub place : t.place ≡ last
+
+-- A text that begins at this byte and place, and ends at the place before them, is cut into these tokens: a gap, a
+-- token, and what stands behind it, cut again; or a gap alone, and the end; or a gap and a fault, which stands at its place.
+unfoldable pub Cuts : Place → ℕ → Place → List ℕ → Lexemes → Type 0
+Cuts last at p text (token t rest) =
+    (gap lexeme behind : List ℕ)
+    × (text ≡ gap ++ (lexeme ++ behind))
+    × IsGap gap (lexeme ++ behind)
+    × IsLexeme t.kind lexeme behind
+    × Stands at p gap lexeme t
+    × Cuts last t.end (place_after t.place lexeme) behind rest
+Cuts last at p text (finish t) = IsGap text [] × IsEnd (at + length text) last t
+Cuts last at p text (fault q) =
+    (gap behind : List ℕ)
+    × (text ≡ gap ++ behind)
+    × IsGap gap behind
+    × IsFault behind
+    × (q ≡ place_after p gap)
 
 -- the end, or a token whose bytes are those of the text from its start to its end
 abbrev pub IsTokenOf : List ℕ → Token → Type 0

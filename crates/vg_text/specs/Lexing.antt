@@ -2,6 +2,7 @@
 use Rattle.std.specs.Prelude.{ℕ, List, drop}
 use Rattle.vg_text.specs.declared.lexer.Lexer.{Lexer}
 use Rattle.vg_text.specs.declared.lexer.Word.{Word}
+use Rattle.vg_text.specs.Place.{end_place}
 use Rattle.vg_text.specs.Token.{Lexemes, lex}
 use Rattle.vg_text.specs.Words.{Reading, Spelled}
 
@@ -11,7 +12,7 @@ source l = l.text.now
 
 -- the tokens that are left
 abbrev pub left : Lexer → Lexemes
-left l = lex 0 l.at l.place (drop l.at l.text.now)
+left l = lex (end_place l.text.now) 0 l.at l.place (drop l.at l.text.now)
 
 -- the text, and the tokens that are left
 abbrev pub reading : Lexer → Reading

@@ -73,11 +73,13 @@ from_front (Gap n) at p more = more n
 from_front (Lexeme kind n) at p more = token (record { kind = kind; start = at; end = at + n; place = p }) (more n)
 from_front Bad at p more = fault p
 
--- the tokens of a text of which `skip` bytes more are taken, and which begins at this byte and place
-unfoldable pub lex : ℕ → ℕ → Place → List ℕ → Lexemes
-lex skip at p [] = finish (record { kind = End; start = at; end = at; place = p })
-lex (suc skip) at p (b ∷ bs) = lex skip (at + 1) (place_behind p b) bs
-lex zero at p (b ∷ bs) = from_front (front_of (b ∷ bs)) at p (λ n. lex (n - 1) (at + 1) (place_behind p b) bs)
+-- the tokens of a text of which `skip` bytes more are taken, and which begins at this byte and place; the end of the
+-- whole text stands at the first of the two places
+unfoldable pub lex : Place → ℕ → ℕ → Place → List ℕ → Lexemes
+lex last skip at p [] = finish (record { kind = End; start = at; end = at; place = last })
+lex last (suc skip) at p (b ∷ bs) = lex last skip (at + 1) (place_behind p b) bs
+lex last zero at p (b ∷ bs) =
+    from_front (front_of (b ∷ bs)) at p (λ n. lex last (n - 1) (at + 1) (place_behind p b) bs)
 
 -- a call that takes the next token answers it, the end or the fault; the last two stay
 abbrev pub Takes : Lexemes → Result Token Place → Lexemes → Type 0

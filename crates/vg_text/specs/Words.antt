@@ -1,5 +1,5 @@
 -- The words of a text: its tokens by their bytes.
-use Rattle.std.specs.Prelude.{◌≡◌, ℕ, Bool, true, false, List, [], ◌∷◌, Option, Some, None, Result, Ok, Err, slice_range, if◌then◌else◌}
+use Rattle.std.specs.Prelude.{◌≡◌, ℕ, Bool, true, false, List, [], ◌∷◌, Option, Some, None, Result, Ok, Err, slice_range}
 use Rattle.std.specs.Option.{option_map}
 use Rattle.vg_text.specs.declared.place.Place.{Place}
 use Rattle.vg_text.specs.declared.token.TokenKind.{TokenKind}
@@ -21,12 +21,17 @@ pub record Reading : Type 0 where
 
 -- at the front of a text
 abbrev pub reading_of : List ℕ → Reading
-reading_of text = record { text = text; left = lex 0 0 first_place text }
+reading_of text = record { text = text; left = lex (end_place text) 0 0 first_place text }
 
--- the next word and what is left behind it; the end, which has its place right behind the last byte, and stays; or the place of a fault
+-- the word of a token that is not the end
+abbrev pub spelled : List ℕ → Token → Spelled
+spelled text t = record { bytes = slice_range text t.start t.end; place = t.place; is_end = false }
+
+-- the next word and what is left behind it; the end, which stays; or the place of a fault
 abbrev pub word_from : List ℕ → Lexemes → Result (Spelled × Reading) Place
-word_from text (token t rest) = Ok (record { bytes = slice_range text t.start t.end; place = t.place; is_end = false }, record { text = text; left = rest })
-word_from text (finish t) = Ok (record { bytes = []; place = end_place text; is_end = true }, record { text = text; left = finish t })
+word_from text (token t rest) = Ok (spelled text t, record { text = text; left = rest })
+word_from text (finish t) =
+    Ok (record { bytes = []; place = t.place; is_end = true }, record { text = text; left = finish t })
 word_from text (fault p) = Err p
 
 -- the next word of a text that is being read
@@ -53,10 +58,6 @@ is_end Name = false
 is_end Number = false
 is_end Sign = false
 is_end End = true
-
--- the place of a token of a text as a word
-abbrev pub place_in : List ℕ → Token → Place
-place_in text t = if is_end t.kind then end_place text else t.place
 
 -- only the end is of the kind of the end, and it is empty
 unfoldable pub EndsOnce : Lexemes → Type 0

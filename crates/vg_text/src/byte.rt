@@ -1,8 +1,9 @@
-//! What a byte may be.
+//! What bytes may be.
 
 ghost use Rattle.std.specs.Prelude.{◌≡◌};
 ghost use Rattle.vg_text.specs.Byte.{is_white, is_printable, is_letter, is_digit, is_hex_digit, is_name, is_name_text, in_comment, is_pair};
 ghost use Rattle.std.specs.List.{list_all};
+ghost use Rattle.std.specs.Str.{bytes_eq};
 
 /// Space, tab, CR or LF.
 pub fn is_white(byte: u8) -> bool
@@ -49,6 +50,13 @@ fn goes_on(bytes: &[u8]) -> bool
     ensures { result ≡ list_all is_name bytes.now }
 {
     bytes.iter().all(|byte| is_name(*byte))
+}
+
+/// Whether two texts are the same bytes.
+pub fn is_text(bytes: &[u8], text: &[u8]) -> bool
+    ensures { result ≡ bytes_eq bytes.now text.now }
+{
+    bytes == text
 }
 
 /// A letter or `_`, then letters, digits and `_`, at most 64 bytes.

@@ -1,7 +1,7 @@
 //! The tokens of a text, one a call.
 
 ghost use Rattle.std.specs.Prelude.{◌≡◌, ◌+◌, ◌<◌, ◌≤◌, ◌^◌, length, take, drop, IfOk, MatchResult};
-ghost use Rattle.vg_text.specs.Place.{place_after, first_place};
+ghost use Rattle.vg_text.specs.Place.{place_after, first_place, end_place};
 
 use crate::front::{Front, look_at};
 use crate::place::{Place, end_place, place_after};
@@ -34,7 +34,7 @@ pub struct Word<'a> {
 
 impl<'a> Lexer<'a> {
     ghost use Rattle.vg_text.specs.Lexing.{left, source, reading, spelled_of};
-    ghost use Rattle.vg_text.specs.Words.{word_at, reading_of, place_in};
+    ghost use Rattle.vg_text.specs.Words.{word_at, reading_of};
     ghost use Rattle.vg_text.specs.Token.{Takes};
     ghost use Rattle.vg_text.specs.Cut.{Cuts, IsTokenOf};
 
@@ -43,7 +43,7 @@ impl<'a> Lexer<'a> {
     pub fn new(text: &'a [u8]) -> Lexer<'a>
         requires { length text.now ≤ 2 ^ 31 }
         ensures reading { reading result ≡ reading_of text.now }
-        ensures cut { Cuts 0 first_place text.now (left result) }
+        ensures cut { Cuts (end_place text.now) 0 first_place text.now (left result) }
     {
         let place = Place { line: 1, column: 1 };
         Lexer { text, at: 0, place }
@@ -55,9 +55,9 @@ impl<'a> Lexer<'a> {
         &self.text[self.at..]
     }
 
-    /// The next token. At the end of the text it is of the kind `End` and empty, and so it is again from
-    /// then on. `Err` is the place of the first byte, name or number that is no token, and is
-    /// answered again from then on. Takes no memory.
+    /// The next token. At the end of the text it is of the kind `End` and empty, stands one column past the
+    /// last byte, on that byte's line, and is answered again from then on. `Err` is the place of the first
+    /// byte, name or number that is no token, and is answered again from then on. Takes no memory.
     pub fn next(&mut self) -> Result<Token, Place>
         ensures source { source self.new ≡ source self.old }
         ensures token { Takes (left self.old) result (left self.new) }
@@ -74,19 +74,7 @@ impl<'a> Lexer<'a> {
         Ok(self.end())
     }
 
-    /// The place of a token that was read; that of the end is right behind the last byte.
-    fn place_in(&self, token: &Token) -> Place
-        ensures { result ≡ place_in self.now.text.now token.now }
-    {
-        if token.kind.is_end() {
-            end_place(self.text)
-        } else {
-            token.place
-        }
-    }
-
-    /// The next token with its bytes, and the lexer behind it. The end stands one column past the last byte, on that
-    /// byte's line. Takes no memory.
+    /// The next token with its bytes, and the lexer behind it. Takes no memory.
     pub fn word(self) -> Result<(Word<'a>, Lexer<'a>), Place>
         ensures word { MatchResult result (λ x. word_at (reading self.entry) ≡ Ok (spelled_of x.0, reading x.1)) (λ p. word_at (reading self.entry) ≡ Err p) }
     {
@@ -94,7 +82,7 @@ impl<'a> Lexer<'a> {
         let token = lexer.next()?;
         let word = Word {
             bytes: &lexer.text[token.start..token.end],
-            place: lexer.place_in(&token),
+            place: token.place,
             is_end: token.kind.is_end(),
         };
         Ok((word, lexer))
@@ -120,13 +108,13 @@ impl<'a> Lexer<'a> {
 
     /// The empty token at the end of the text.
     fn end(&self) -> Token
-        ensures { result ≡ record { kind = TokenKind.End; start = self.now.at; end = self.now.at; place = self.now.place } }
+        ensures { result ≡ record { kind = TokenKind.End; start = self.now.at; end = self.now.at; place = end_place self.now.text.now } }
     {
         Token {
             kind: TokenKind::End,
             start: self.at,
             end: self.at,
-            place: self.place,
+            place: end_place(self.text),
         }
     }
 

@@ -1,5 +1,6 @@
 use Rattle.std.proofs.Common.{List, ℕ, ◌∙◌, subst, sym}
 use Rattle.vg_text.proofs.Lexing.{after_gap, after_lexeme, at_bad, at_end}
+use Rattle.vg_text.specs.Place.{end_place}
 use Rattle.vg_text.specs.Cut.{IsTokenOf}
 use Rattle.vg_text.proofs.Cutting.{token_of}
 use Rattle.vg_text.proofs.lexer.Lexer.next.Goals as goal
@@ -26,12 +27,12 @@ returns-in-Lexeme-clause-token c =
 pub returns-in-Bad-clause-token : goal.returns-in-Bad-clause-token
 returns-in-Bad-clause-token c =
     let old = c.gaps.self in
-    rw (sym c.gaps.invariant.left) (at_bad old.text.now c.rest.result.now old.at old.place c.gaps-test.true c.rest.ensures c.in-Bad.ensures.front)
+    rw (sym c.gaps.invariant.left) (at_bad (end_place old.text.now) old.text.now c.rest.result.now old.at old.place c.gaps-test.true c.rest.ensures c.in-Bad.ensures.front)
 
 pub returns-clause-token : goal.returns-clause-token
 returns-clause-token c =
     let old = c.gaps.self in
-    rw (sym c.gaps.invariant.left) (at_end old.text.now c.end.result old.at old.place c.gaps-test.false c.end.ensures)
+    rw (sym c.gaps.invariant.left) (at_end (end_place old.text.now) old.text.now c.end.result old.at old.place c.gaps-test.false c.end.ensures)
 
 pub returns-in-Lexeme-clause-slice : goal.returns-in-Lexeme-clause-slice
 returns-in-Lexeme-clause-slice c =
