@@ -1,2 +1,5 @@
 pub mod Bind
+pub mod Bits
 pub mod Gives
+pub mod LowBits
+pub mod Signed

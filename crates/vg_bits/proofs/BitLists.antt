@@ -1,17 +1,13 @@
 -- Laws of lists of bits and their numbers: lengths, both ways between them, concatenations and parts.
 use Rattle.std.proofs.Common.{◌≡◌, ℕ, zero, suc, ◌+◌, ◌-◌, ◌*◌, ◌/◌, ◌%◌, ◌^◌, ◌<◌, ◌≤◌, List, [], ◌∷◌, ◌++◌, length, take, drop, replicate, refl, sym, ap, ◌∙◌, arith, zero-add}
 use Rattle.std.proofs.Math.Nat.{pow-suc, pow-le-pow_right}
-use Rattle.std.proofs.lemmas.Nat.{mod-pow-add, shr-shr, pow_pos, mod_below, mod_low, shr_high}
+use Rattle.std.proofs.lemmas.Nat.{shr-shr, pow_pos, mod_below, mod_low, shr_high}
 use Rattle.std.proofs.lemmas.List.{take_at, drop_at, length-take}
 use Rattle.vg_base.specs.Bits.{bits, num}
+use Rattle.vg_base.proofs.Bits.{length-bits, num-bits}
 use Rattle.vg_bits.specs.BitList.{IsBits}
 use Rattle.vg_bits.specs.Range.{range}
 use Rattle.vg_bits.proofs.Ranges.{length-range, range-append, range-halves}
-
-pub length-bits : (w n : ℕ) → length (bits w n) ≡ w
-unfolding bits
-length-bits zero n = refl
-length-bits (suc w) n = ap suc (length-bits w (n / 2))
 
 pub IsBits-bits : (w n : ℕ) → IsBits (bits w n)
 unfolding bits
@@ -56,13 +52,6 @@ num-append [] ys = omega arith
 num-append (x ∷ xs) ys = omega (arith, num-append xs ys, ap (λ (p : ℕ). p * num ys) (pow-suc 2 (length xs)))
 
 -- ---- from numbers to bits and back
-
-pub num-bits : (w n : ℕ) → num (bits w n) ≡ n % 2 ^ w
-unfolding bits num
-num-bits zero n = omega arith
-num-bits (suc w) n =
-    let width : n % 2 ^ suc w ≡ n % 2 ^ (w + 1) = ap (λ (k : ℕ). n % 2 ^ k) (omega arith) in
-    omega (arith, num-bits w (n / 2), width, mod-pow-add n w 1)
 
 pub bits-num : (l : List ℕ) → IsBits l → bits (length l) (num l) ≡ l
 unfolding bits num

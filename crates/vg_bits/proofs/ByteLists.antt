@@ -4,7 +4,8 @@ use Rattle.std.proofs.lemmas.List.{take_at, drop_at, set_split, length-take-le, 
 use Rattle.vg_base.specs.Bits.{bits, num, bits_of_bytes, number, bytes}
 use Rattle.vg_bits.specs.BitList.{IsBits, IsBytes}
 use Rattle.vg_bits.specs.Range.{range, replaced}
-use Rattle.vg_bits.proofs.BitLists.{length-bits, IsBits-bits, IsBits-append, bits-append, num-append, num-bits, bits-num, bits-mod, bits-zero}
+use Rattle.vg_base.proofs.Bits.{length-bits, num-bits}
+use Rattle.vg_bits.proofs.BitLists.{IsBits-bits, IsBits-append, bits-append, num-append, bits-num, bits-mod, bits-zero}
 
 pub length-bits_of_bytes : (bs : List ℕ) → length (bits_of_bytes bs) ≡ 8 * length bs
 unfolding bits_of_bytes

@@ -3,4 +3,3 @@ pub mod ByteLists
 pub mod Pieces
 pub mod Ranges
 pub mod Registers
-pub mod SignedLaws

@@ -1,18 +1,12 @@
 -- Reading and writing bits byte by byte: each step of the two loops, and the bits of one byte.
-use Rattle.std.proofs.Common.{◌≡◌, ℕ, ◌+◌, ◌-◌, ◌*◌, ◌/◌, ◌%◌, ◌^◌, ◌<◌, ◌≤◌, List, ◌++◌, length, get_or, set, take, drop, sym, ap, ◌∙◌, arith, subst, bit_and, bit_or}
-use Rattle.std.proofs.lemmas.Nat.{pow_pos, pow-add, and_mask, or_comm, or_shifted, shl_whole, shr_below, shr_high, mod_low, mod_below, mul-add-lt}
-use Rattle.std.proofs.lemmas.Nat.Bits.{ones_shr}
+use Rattle.std.proofs.Common.{◌≡◌, ℕ, ◌+◌, ◌-◌, ◌*◌, ◌/◌, ◌%◌, ◌^◌, ◌<◌, ◌≤◌, List, ◌++◌, length, get_or, set, take, drop, sym, ap, ◌∙◌, arith, subst, bit_or}
+use Rattle.std.proofs.lemmas.Nat.{pow_pos, pow-add, or_comm, or_shifted, shl_whole, shr_below, shr_high, mod_low, mod_below, mul-add-lt}
 use Rattle.vg_base.specs.Bits.{bits, num, bits_of_bytes}
 use Rattle.vg_bits.specs.Range.{range, replaced}
 use Rattle.vg_bits.proofs.Ranges.{length-range, range-range, range-append, replaced-append, replaced-within}
-use Rattle.vg_bits.proofs.BitLists.{length-bits, bits-append, bits-mod, take-bits, drop-bits, num-range-bits, num-range-append, num_below, IsBits-range, bits-num-range}
+use Rattle.vg_base.proofs.Bits.{length-bits}
+use Rattle.vg_bits.proofs.BitLists.{bits-append, bits-mod, take-bits, drop-bits, num-range-bits, num-range-append, num_below, IsBits-range, bits-num-range}
 use Rattle.vg_bits.proofs.ByteLists.{length-bits_of_bytes, IsBits-bits_of_bytes, range-byte, set-byte, range-bits_of_bytes, replaced-bits_of_bytes}
-
--- the mask of the lowest bits
-pub masked : (value width : ℕ) → width ≤ 128 → bit_and value ((2 ^ 128 - 1) / 2 ^ (128 - width)) ≡ value % 2 ^ width
-masked value width narrow =
-    let back : 128 - (128 - width) ≡ width = omega arith in
-    ap (bit_and value) (ones_shr 128 (128 - width) (omega arith) ∙ ap (λ (k : ℕ). 2 ^ k - 1) back) ∙ and_mask value width
 
 -- ---- numbers put together from an upper and a lower part
 

@@ -5,7 +5,8 @@ use Rattle.vg_base.specs.Bits.{bits, num}
 use Rattle.vg_bits.specs.BitList.{IsBits}
 use Rattle.vg_bits.specs.Range.{range, replaced}
 use Rattle.vg_bits.proofs.Ranges.{length-replaced, range-replaced_inside, range-replaced_same, range-replaced_beside, replaced-range, replaced-append, replaced-replaced, replaced_apart}
-use Rattle.vg_bits.proofs.BitLists.{length-bits, num-bits, num-range-bits, num-range-append, bits-num-range, bits-concatenation}
+use Rattle.vg_base.proofs.Bits.{length-bits, num-bits}
+use Rattle.vg_bits.proofs.BitLists.{num-range-bits, num-range-append, bits-num-range, bits-concatenation}
 
 module _ (low w v : ℕ) (l : List ℕ) (fits : low + w ≤ length l) where
   room : low + length (bits w v) ≤ length l

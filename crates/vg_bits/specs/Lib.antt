@@ -1,4 +1,3 @@
 pub mod BitIndex
 pub mod BitList
 pub mod Range
-pub mod Signed

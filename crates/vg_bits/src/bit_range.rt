@@ -5,24 +5,14 @@ ghost use Rattle.vg_bits.specs.BitIndex.{place_of};
 ghost use Rattle.vg_bits.specs.Range.{range, replaced};
 
 use crate::bit_index::BitIndex;
-
-/// The lowest bits of a number, as many as the width.
-pub fn low_bits(value: u128, width: usize) -> u128
-    requires { width ≤ 128 }
-    ensures { result ≡ value % 2 ^ width }
-{
-    if width == 0 {
-        return 0;
-    }
-    value & (u128::MAX >> (128 - width))
-}
+use vg_base::number::low_bits;
 
 // The bits of a byte from `shift` on, as many as `count`.
 fn bits_in(byte: u8, shift: usize, count: usize) -> u128
     requires { shift + count ≤ 8 }
     ensures { result ≡ byte / 2 ^ shift % 2 ^ count }
 {
-    low_bits(u128::from(byte) >> shift, count)
+    low_bits(u128::from(byte) >> shift, count as u32)
 }
 
 // The byte with the lowest bits of `new`, as many as `count`, from `shift` on.
@@ -35,8 +25,8 @@ fn with_bits(byte: u8, shift: usize, count: usize, new: u8) -> u8
     }
     let byte = u128::from(byte);
     let upper = byte >> (shift + count);
-    let middle = (upper << count) | low_bits(u128::from(new), count);
-    ((middle << shift) | low_bits(byte, shift)) as u8
+    let middle = (upper << count) | low_bits(u128::from(new), count as u32);
+    ((middle << shift) | low_bits(byte, shift as u32)) as u8
 }
 
 /// The number of the bits from `start` on, as many as the width.

@@ -6,11 +6,10 @@ mod bit_index;
 mod bit_range;
 mod outcome;
 mod register;
-mod whole_number;
 
 pub use outcome::Outcome;
 pub use register::Reg;
-pub use whole_number::{signed, unsigned};
+pub use vg_base::number::{signed, unsigned};
 
 #[cfg(test)]
 mod tests;

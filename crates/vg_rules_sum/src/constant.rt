@@ -1,12 +1,13 @@
 //! Constants: terms over them, and those that are neutral or absorb.
 
-ghost use Rattle.std.specs.Prelude.{◌≡◌, ◌≤◌, ◌-◌, ◌^◌};
+ghost use Rattle.std.specs.Prelude.{◌≡◌};
 ghost use Rattle.vg_rules_sum.specs.Constant.{absorbing, folded, is_absorbing, is_constant, is_neutral, is_over_constants};
 ghost use Rattle.vg_terms.specs.Chain.{neutral};
 ghost use Rattle.vg_terms.specs.Term.{IsWidth, WellFormed, tree};
 
 use std::alloc::Global;
 use vg_base::Items;
+use vg_base::number::greatest;
 use vg_terms::{Env, Term, TwoOp, make_const};
 
 /// Whether the term is a constant.
@@ -67,10 +68,10 @@ fn neutral(op: TwoOp, width: u32) -> u128
 {
     match op {
         TwoOp::Mul => 1,
-        TwoOp::And => ones(width),
-        TwoOp::Smin => ones(width - 1),
+        TwoOp::And => greatest(width),
+        TwoOp::Smin => greatest(width - 1),
         TwoOp::Smax => 1 << (width - 1),
-        TwoOp::Umin => ones(width),
+        TwoOp::Umin => greatest(width),
         _ => 0,
     }
 }
@@ -82,23 +83,11 @@ fn absorbing(op: TwoOp, width: u32) -> Option<u128>
     match op {
         TwoOp::Mul => Some(0),
         TwoOp::And => Some(0),
-        TwoOp::Or => Some(ones(width)),
+        TwoOp::Or => Some(greatest(width)),
         TwoOp::Smin => Some(1 << (width - 1)),
-        TwoOp::Smax => Some(ones(width - 1)),
+        TwoOp::Smax => Some(greatest(width - 1)),
         TwoOp::Umin => Some(0),
-        TwoOp::Umax => Some(ones(width)),
+        TwoOp::Umax => Some(greatest(width)),
         _ => None,
-    }
-}
-
-// As many ones, read as a number: the greatest of that many bits.
-fn ones(count: u32) -> u128
-    requires { count ≤ 128 }
-    ensures { result ≡ 2 ^ count - 1 }
-{
-    if count == 0 {
-        0
-    } else {
-        u128::MAX >> (128 - count)
     }
 }

@@ -1,7 +1,7 @@
 -- What operations make of numbers of a width: the low bits of what they are given count, and results wrap around.
-use Rattle.std.specs.Prelude.{ℕ, ◌+◌, ◌-◌, ◌*◌, ◌/◌, ◌%◌, ◌^◌, ℤ, pos, negsuc, min, max, nat_lt, nat_eq, int_lt, if◌then◌else◌, bit_and, bit_or, bit_xor}
+use Rattle.std.specs.Prelude.{ℕ, ◌+◌, ◌-◌, ◌*◌, ◌/◌, ◌%◌, ◌^◌, ℤ, min, max, nat_lt, nat_eq, int_lt, if◌then◌else◌, bit_and, bit_or, bit_xor}
 use Rattle.vg_base.specs.Bits.{signed_at}
-use Rattle.vg_bits.specs.Signed.{unsigned_at}
+use Rattle.vg_base.specs.Number.{residue, floor_shift}
 use Rattle.vg_scalar.specs.declared.two_op.TwoOp.{TwoOp}
 use Rattle.vg_scalar.specs.declared.two_op.TwoOp.TheVariants.{Add, Sub, Mul, And, Or, Xor, Smin, Smax, Umin, Umax}
 use Rattle.vg_scalar.specs.declared.shift.Shift.{Shift}
@@ -17,11 +17,6 @@ low w a = a % 2 ^ w
 
 abbrev pub low_signed : ℕ → ℕ → ℤ
 low_signed w a = signed_at w (low w a)
-
--- a whole number over 2 ^ k, rounded down
-abbrev pub floor_shift : ℤ → ℕ → ℤ
-floor_shift (pos n) k = pos (n / 2 ^ k)
-floor_shift (negsuc n) k = negsuc (n / 2 ^ k)
 
 -- an operation on two numbers of w bits
 abbrev pub two_result : TwoOp → ℕ → ℕ → ℕ → ℕ
@@ -40,11 +35,11 @@ two_result Umax w a b = max (low w a) (low w b)
 abbrev pub shift_result : Shift → ℕ → ℕ → ℕ → ℕ
 shift_result Shl w k a = low w (a * 2 ^ k)
 shift_result Lshr w k a = low w a / 2 ^ k
-shift_result Ashr w k a = unsigned_at w (floor_shift (low_signed w a) k)
+shift_result Ashr w k a = residue w (floor_shift (low_signed w a) k)
 
 -- a number of m bits at w bits
 abbrev pub resize_result : Resize → ℕ → ℕ → ℕ → ℕ
-resize_result Sext w m a = unsigned_at w (low_signed m a)
+resize_result Sext w m a = residue w (low_signed m a)
 resize_result Zext w m a = low m a
 resize_result Trunc w m a = low w a
 

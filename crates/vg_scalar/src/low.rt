@@ -2,11 +2,11 @@
 
 ghost use Rattle.std.specs.Prelude.{◌≡◌, ◌≤◌, ◌<◌, ◌^◌, int_lt, nat_lt};
 ghost use Rattle.vg_base.specs.Width.{bits_of};
-ghost use Rattle.vg_bits.specs.Signed.{unsigned_at};
+ghost use Rattle.vg_base.specs.Number.{residue};
 ghost use Rattle.vg_scalar.specs.Scalar.{low, low_signed};
 
+use vg_base::number::{signed, unsigned};
 use vg_base::width::Width;
-use vg_bits::{signed, unsigned};
 
 /// The low bits of a number.
 pub(crate) fn low(width: Width, number: u64) -> u64
@@ -30,7 +30,7 @@ pub(crate) fn low_signed(width: Width, number: u64) -> i128
 
 /// The low bits of a whole number.
 pub(crate) fn low_of_whole(width: Width, number: i128) -> u64
-    ensures is { result ≡ unsigned_at (bits_of width) number }
+    ensures is { result ≡ residue (bits_of width) number }
     ensures below { result < 2 ^ bits_of width }
 {
     unsigned(number, width.bits()) as u64

@@ -6,9 +6,9 @@ use Rattle.std.proofs.lemmas.Bool.{cases_lt}
 use Rattle.std.proofs.lemmas.Nat.{pow_pos, mod_below, shr_below, shr_high, shr-shr, pow-add, div-add-mod', and_shr, or_shr, xor_shr, and_mask, and_comm}
 use Rattle.std.proofs.Math.Nat.{mod-eq_of_lt, div-eq_of_lt}
 use Rattle.vg_base.specs.Bits.{signed_at}
-use Rattle.vg_terms.specs.Known.{magnitude}
-use Rattle.vg_terms.proofs.Widths.{pow-le, pow-half, below_wider, signed-low, signed-high}
-use Rattle.vg_terms.proofs.Signed.{signed-within}
+use Rattle.vg_base.specs.Number.{magnitude}
+use Rattle.vg_base.proofs.LowBits.{pow-le, pow-half, below_wider, signed-low, signed-high}
+use Rattle.vg_base.proofs.Signed.{signed-within}
 
 -- a bound by the lesser of two powers
 pub below-min : (v a b : ℕ) → v < 2 ^ a → v < 2 ^ b → v < 2 ^ min a b

@@ -9,7 +9,7 @@ use Rattle.vg_terms.specs.declared.term.TwoOp.{TwoOp}
 use Rattle.vg_terms.specs.declared.term.TwoOp.TheVariants.{Smin, Smax}
 use Rattle.vg_terms.specs.Value.{two_value}
 use Rattle.vg_terms.specs.Chain.{makes_chains, neutral}
-use Rattle.vg_terms.proofs.Widths.{pow-half}
+use Rattle.vg_base.proofs.LowBits.{pow-half}
 use Rattle.vg_terms.proofs.Signs.{lifted, lifted-low, lifted-high, lifted-same, signed_less}
 use Rattle.vg_terms.proofs.Totals.{chain_op}
 

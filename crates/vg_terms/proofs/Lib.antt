@@ -1,4 +1,3 @@
-pub mod Widths
 pub mod Values
 pub mod Bounds
 pub mod Chains
@@ -9,7 +8,6 @@ pub mod Narrow
 pub mod Orders
 pub mod Resizing
 pub mod Shifts
-pub mod Signed
 pub mod Signs
 pub mod Totals
 pub mod SortChain

@@ -7,10 +7,10 @@ use Rattle.std.proofs.Math.Nat.{add-mod-mod, mod-add-mod}
 use Rattle.vg_base.specs.Bits.{signed_at}
 use Rattle.vg_terms.specs.declared.term.TwoOp.{TwoOp}
 use Rattle.vg_terms.specs.declared.term.TwoOp.TheVariants.{Add, Mul, And, Or, Xor, Smin, Smax, Umin, Umax, Eq, Slt, Ult, Cat}
-use Rattle.vg_terms.specs.Value.{residue, two_value}
-use Rattle.vg_terms.specs.Known.{magnitude}
-use Rattle.vg_terms.proofs.Widths.{low-low, low-below}
-use Rattle.vg_terms.proofs.Signed.{residue-low, residue-signed, signed-residue}
+use Rattle.vg_base.specs.Number.{residue, magnitude}
+use Rattle.vg_terms.specs.Value.{two_value}
+use Rattle.vg_base.proofs.LowBits.{low-low, low-below}
+use Rattle.vg_base.proofs.Signed.{residue-low, residue-signed, signed-residue}
 
 pub low-add : (w n a b : ℕ) → n ≤ w → (a + b) % 2 ^ w % 2 ^ n ≡ (a % 2 ^ n + b % 2 ^ n) % 2 ^ n
 low-add w n a b h = low-low (a + b) w n h ∙ sym (mod-add-mod a (2 ^ n) b) ∙ sym (add-mod-mod (a % 2 ^ n) b (2 ^ n))

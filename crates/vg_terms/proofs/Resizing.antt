@@ -9,7 +9,7 @@ use Rattle.vg_terms.specs.Term.{Tree, one, width_of, IsWidth, TwoFits, WellForme
 use Rattle.vg_terms.specs.Value.{two_value, value}
 use Rattle.vg_terms.specs.Measure.{two_weight, weight}
 use Rattle.vg_terms.specs.Resize.{low, low_two}
-use Rattle.vg_terms.proofs.Widths.{low-below}
+use Rattle.vg_base.proofs.LowBits.{low-below}
 use Rattle.vg_terms.proofs.Values.{value-below}
 use Rattle.vg_terms.proofs.Soundness.{width_some}
 

@@ -5,10 +5,9 @@ use Rattle.std.proofs.lemmas.Bool.{cases_lt}
 use Rattle.std.proofs.lemmas.Nat.{pow_pos, mod_below, shr_le, shr_below, shr_high, shr-shr, mod_low, pow-add, div-add-mod', field_of, mod-pow-add}
 use Rattle.std.proofs.Math.Nat.{div-eq_of_lt, add-mul-mod_self_right}
 use Rattle.vg_base.specs.Bits.{signed_at}
-use Rattle.vg_terms.specs.Value.{residue, floor_shift}
-use Rattle.vg_terms.specs.Known.{magnitude}
-use Rattle.vg_terms.proofs.Widths.{below_wider, low-below, shift-low, shift-high}
-use Rattle.vg_terms.proofs.Signed.{low_of_negative, signed-residue, signed-within}
+use Rattle.vg_base.specs.Number.{residue, floor_shift, magnitude}
+use Rattle.vg_base.proofs.LowBits.{below_wider, low-below, shift-low, shift-high}
+use Rattle.vg_base.proofs.Signed.{low_of_negative, signed-residue, signed-within}
 
 -- the complement of m bits, shifted
 ones_over : (m k x : ℕ) → k ≤ m → x < 2 ^ m → (2 ^ m - 1 - x) / 2 ^ k ≡ 2 ^ (m - k) - 1 - x / 2 ^ k

@@ -3,7 +3,7 @@ use Rattle.std.proofs.Common.{◌≡◌, ℕ, ◌+◌, ◌-◌, ◌^◌, ◌<◌
 use Rattle.std.specs.Prelude.{pos, negsuc, int_lt, nat_lt, if◌then◌else◌, min, max}
 use Rattle.std.proofs.lemmas.Bool.{cases_lt, lt-ltb, le-ltb, cond-true, cond-false}
 use Rattle.vg_base.specs.Bits.{signed_at}
-use Rattle.vg_terms.proofs.Widths.{pow-half, signed-low, signed-high}
+use Rattle.vg_base.proofs.LowBits.{pow-half, signed-low, signed-high}
 
 -- the signed reading keeps the order of this number
 abbrev pub lifted : ℕ → ℕ → ℕ

@@ -12,11 +12,12 @@ use Rattle.vg_terms.specs.declared.term.TwoOp.TheVariants.{Add, Mul, And, Or, Xo
 use Rattle.vg_terms.specs.declared.known.Known.{Known}
 use Rattle.vg_terms.specs.declared.value.Env.{Env}
 use Rattle.vg_terms.specs.Term.{Tree, leaf, constant, one, two, sel, width_of, IsWidth, OneFits, TwoFits, WellFormed}
-use Rattle.vg_terms.specs.Value.{residue, floor_shift, one_value, two_value, value}
-use Rattle.vg_terms.specs.Known.{magnitude, IsKnown, digits, known_at, cut_to, one_known, product_signed, two_known, known}
-use Rattle.vg_terms.proofs.Widths.{below_wider, above_below, extend-low, shift-low}
-use Rattle.vg_terms.proofs.Values.{residue-below, one-below, two-below, value-below}
-use Rattle.vg_terms.proofs.Signed.{residue-add, residue-mul, residue-low, residue-signed, signed-within, residue-within, magnitude-add, magnitude-mul, magnitude-mul_pos}
+use Rattle.vg_base.specs.Number.{residue, floor_shift, magnitude}
+use Rattle.vg_terms.specs.Value.{one_value, two_value, value}
+use Rattle.vg_terms.specs.Known.{IsKnown, digits, known_at, cut_to, one_known, product_signed, two_known, known}
+use Rattle.vg_base.proofs.LowBits.{below_wider, above_below, extend-low, shift-low}
+use Rattle.vg_terms.proofs.Values.{one-below, two-below, value-below}
+use Rattle.vg_base.proofs.Signed.{residue_below, residue-add, residue-mul, residue-low, residue-signed, signed-within, residue-within, magnitude-add, magnitude-mul, magnitude-mul_pos}
 use Rattle.vg_terms.proofs.Bounds.{below-min, within-min, within_wider, unsigned-within, shifted-below, shifted-within, IsBitwise, and_bitwise, or_bitwise, xor_bitwise, bits-within, above-within}
 
 -- greater widths are true too
@@ -62,7 +63,7 @@ sext_known w m v x h l b t =
     record {
       some_unsigned = cond_both (nat_lt x.unsigned m) x.unsigned w (λ n. 0 < n) (λ _. t.some_unsigned) (λ _. h);
       some_signed = t.some_signed;
-      below = cond_both (nat_lt x.unsigned m) x.unsigned w (λ n. r < 2 ^ n) (λ c. let few : x.unsigned ≤ m - 1 = omega (arith, ltb-true x.unsigned m c) in let low = below_wider v x.unsigned (m - 1) t.below few in subst (λ n. n < 2 ^ x.unsigned) (sym (extend-low w m v low l)) t.below) (λ _. residue-below w (signed_at m v));
+      below = cond_both (nat_lt x.unsigned m) x.unsigned w (λ n. r < 2 ^ n) (λ c. let few : x.unsigned ≤ m - 1 = omega (arith, ltb-true x.unsigned m c) in let low = below_wider v x.unsigned (m - 1) t.below few in subst (λ n. n < 2 ^ x.unsigned) (sym (extend-low w m v low l)) t.below) (λ _. residue_below w (signed_at m v));
       within = residue-within w x.signed (signed_at m v) h t.within;
     }
 
@@ -96,7 +97,7 @@ ashr_known w k v x h b t =
     record {
       some_unsigned = cond_both (nat_lt x.unsigned w) m w (λ n. 0 < n) (λ _. omega arith) (λ _. h);
       some_signed = omega arith;
-      below = cond_both (nat_lt x.unsigned w) m w (λ n. residue w z < 2 ^ n) (λ c. let few : x.unsigned ≤ w - 1 = omega (arith, ltb-true x.unsigned w c) in let low = below_wider v x.unsigned (w - 1) t.below few in subst (λ n. n < 2 ^ m) (sym (shift-low w k v low)) (shifted-below v x.unsigned k t.below)) (λ _. residue-below w z);
+      below = cond_both (nat_lt x.unsigned w) m w (λ n. residue w z < 2 ^ n) (λ c. let few : x.unsigned ≤ w - 1 = omega (arith, ltb-true x.unsigned w c) in let low = below_wider v x.unsigned (w - 1) t.below few in subst (λ n. n < 2 ^ m) (sym (shift-low w k v low)) (shifted-below v x.unsigned k t.below)) (λ _. residue_below w z);
       within = residue-within w (max 1 (x.signed - k)) z h (subst (λ n. n < 2 ^ (max 1 (x.signed - k) - 1)) (sym (magnitude-shift (signed_at w v) k)) (shifted-within _ x.signed k t.some_signed t.within));
     }
 

@@ -11,7 +11,7 @@ use Rattle.vg_terms.specs.declared.term.TwoOp.{TwoOp}
 use Rattle.vg_terms.specs.declared.term.TwoOp.TheVariants.{Add, Mul, And, Or, Xor, Smin, Smax, Umin, Umax, Eq, Slt, Ult, Cat}
 use Rattle.vg_terms.specs.Value.{two_value}
 use Rattle.vg_terms.specs.Chain.{makes_chains, neutral}
-use Rattle.vg_terms.proofs.Widths.{pow-half, pow-le}
+use Rattle.vg_base.proofs.LowBits.{pow-half, pow-le}
 use Rattle.vg_terms.proofs.Signs.{lifted, lifted-low, lifted-high, lifted-same, signed_less}
 
 -- on the numbers below n

@@ -10,12 +10,10 @@ use Rattle.vg_terms.specs.declared.term.TwoOp.{TwoOp}
 use Rattle.vg_terms.specs.declared.term.TwoOp.TheVariants.{Add, Mul, And, Or, Xor, Smin, Smax, Umin, Umax, Eq, Slt, Ult, Cat}
 use Rattle.vg_terms.specs.declared.value.Env.{Env}
 use Rattle.vg_terms.specs.Term.{Tree, leaf, constant, one, two, sel, width_of, OneFits, TwoFits, WellFormed}
-use Rattle.vg_terms.specs.Value.{residue, floor_shift, one_value, two_value, value}
-use Rattle.vg_terms.proofs.Widths.{below_wider, above_below, above-whole}
-
-pub residue-below : (w : ℕ) (z : ℤ) → residue w z < 2 ^ w
-residue-below w (pos n) = mod_below n (2 ^ w) (pow_pos w)
-residue-below w (negsuc n) = omega (arith, pow_pos w)
+use Rattle.vg_base.specs.Number.{residue, floor_shift}
+use Rattle.vg_terms.specs.Value.{one_value, two_value, value}
+use Rattle.vg_base.proofs.LowBits.{below_wider, above_below, above-whole}
+use Rattle.vg_base.proofs.Signed.{residue_below}
 
 -- either of two numbers below a bound
 either_below : (b : Bool) (x y n : ℕ) → x < n → y < n → (if b then x else y) < n
@@ -26,10 +24,10 @@ bit_below b w e = subst (λ v. (if b then 1 else 0) < 2 ^ v) (sym e) (either_bel
 
 pub one-below : (op : OneOp) (w k m v : ℕ) → OneFits op w k m → v < 2 ^ m → one_value op w k m v < 2 ^ w
 one-below Zext w k m v f h = let l : m ≤ w = omega (arith, f.0) in below_wider v m w h l
-one-below Sext w k m v f h = residue-below w (signed_at m v)
+one-below Sext w k m v f h = residue_below w (signed_at m v)
 one-below Trunc w k m v f h = mod_below v (2 ^ w) (pow_pos w)
 one-below Lshr w k m v f h = let l : m ≤ w = omega (arith, f.0) in omega (arith, shr_le v k, below_wider v m w h l)
-one-below Ashr w k m v f h = residue-below w (floor_shift (signed_at m v) k)
+one-below Ashr w k m v f h = residue_below w (floor_shift (signed_at m v) k)
 
 -- the numbers of two terms of width w, where the operation keeps the width
 same_width : (w n x : ℕ) → n ≡ w → x < 2 ^ n → x < 2 ^ w

@@ -1,18 +1,14 @@
 -- Known widths: how many bits the number of a term needs, in whatever environment.
-use Rattle.std.specs.Prelude.{ℕ, ◌+◌, ◌-◌, ◌^◌, ◌<◌, ℤ, pos, negsuc, min, max, nat_lt, if◌then◌else◌}
+use Rattle.std.specs.Prelude.{ℕ, ◌+◌, ◌-◌, ◌^◌, ◌<◌, min, max, nat_lt, if◌then◌else◌}
 use Rattle.std.specs.Int.Count.{count_leading_zeros}
 use Rattle.vg_base.specs.Bits.{signed_at}
+use Rattle.vg_base.specs.Number.{magnitude}
 use Rattle.vg_terms.specs.declared.term.OneOp.{OneOp}
 use Rattle.vg_terms.specs.declared.term.OneOp.TheVariants.{Zext, Sext, Trunc, Lshr, Ashr}
 use Rattle.vg_terms.specs.declared.term.TwoOp.{TwoOp}
 use Rattle.vg_terms.specs.declared.term.TwoOp.TheVariants.{Add, Mul, And, Or, Xor, Smin, Smax, Umin, Umax, Eq, Slt, Ult, Cat}
 use Rattle.vg_terms.specs.declared.known.Known.{Known}
 use Rattle.vg_terms.specs.Term.{Tree, leaf, constant, one, two, sel, width_of}
-
--- beside its sign bit, a whole number in two's complement needs the bits of this number
-abbrev pub magnitude : ℤ → ℕ
-magnitude (pos n) = n
-magnitude (negsuc n) = n
 
 -- true widths of the number v of w bits: read unsigned it is below 2 ^ unsigned, and read signed it
 -- lies in the range of `signed` bits

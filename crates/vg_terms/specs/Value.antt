@@ -1,7 +1,8 @@
 -- The value of a term: a number below 2 ^ width.
-use Rattle.std.specs.Prelude.{ℕ, ◌+◌, ◌-◌, ◌*◌, ◌/◌, ◌%◌, ◌^◌, ℤ, pos, negsuc, Bool, List, [], ◌∷◌, min, max, nat_lt, nat_eq, if◌then◌else◌, bit_and, bit_or, bit_xor, ◌&&◌, int_lt}
+use Rattle.std.specs.Prelude.{ℕ, ◌+◌, ◌*◌, ◌/◌, ◌%◌, ◌^◌, Bool, List, [], ◌∷◌, min, max, nat_lt, nat_eq, if◌then◌else◌, bit_and, bit_or, bit_xor, ◌&&◌, int_lt}
 use Rattle.std.specs.Ordering.{int_eq}
 use Rattle.vg_base.specs.Bits.{signed_at}
+use Rattle.vg_base.specs.Number.{residue, floor_shift}
 use Rattle.vg_terms.specs.declared.term.LeafKey.{LeafKey}
 use Rattle.vg_terms.specs.declared.term.OneOp.{OneOp}
 use Rattle.vg_terms.specs.declared.term.OneOp.TheVariants.{Zext, Sext, Trunc, Lshr, Ashr}
@@ -17,16 +18,6 @@ same_key a b = nat_eq a.kind b.kind && nat_eq a.first b.first && int_eq a.second
 abbrev pub number_at : List (LeafKey × ℕ) → LeafKey → ℕ
 number_at [] key = 0
 number_at (pair ∷ pairs) key = if same_key pair.0 key then pair.1 else number_at pairs key
-
--- the number below 2 ^ w that is z modulo 2 ^ w
-abbrev pub residue : ℕ → ℤ → ℕ
-residue w (pos n) = n % 2 ^ w
-residue w (negsuc n) = 2 ^ w - 1 - n % 2 ^ w
-
--- z over 2 ^ k, rounded down
-abbrev pub floor_shift : ℤ → ℕ → ℤ
-floor_shift (pos n) k = pos (n / 2 ^ k)
-floor_shift (negsuc n) k = negsuc (n / 2 ^ k)
 
 -- an operation of width w and amount k on the number v of a term of width m
 abbrev pub one_value : OneOp → ℕ → ℕ → ℕ → ℕ → ℕ

@@ -4,7 +4,7 @@ ghost use Rattle.std.specs.Prelude.{◌≡◌, ◌↔◌, ◌^◌, IsTrue, nat_l
 ghost use Rattle.vg_terms.specs.Term.{IsWidth, WellFormed, is_width, one_fits, sel_fits, tree, two_fits, well_formed};
 
 use crate::term::{OneOp, Term, TwoOp};
-use crate::value::greatest;
+use vg_base::number::greatest;
 
 impl Term {
     /// Whether the term and all its subterms keep the widths and bounds of their operations: a width of

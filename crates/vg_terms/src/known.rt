@@ -6,7 +6,8 @@ ghost use Rattle.vg_terms.specs.Term.{constant, IsWidth, WellFormed, tree, width
 ghost use Rattle.vg_terms.specs.Value.{value};
 
 use crate::term::{OneOp, Term, TwoOp};
-use crate::value::{Env, signed};
+use crate::value::Env;
+use vg_base::number::signed;
 
 /// Widths that hold the number of a term in every environment, each at least 1 and at most its width.
 #[derive(Clone, Copy, Debug, PartialEq, Eq)]
@@ -91,7 +92,7 @@ fn known_const(w: u32, v: u128) -> Known
     requires number { v < 2 ^ w }
     ensures { result ≡ known (constant w v) }
 {
-    let number = signed(w, v);
+    let number = signed(v, w);
     let beside_sign = if number < 0 { !number } else { number };
     cut(w, digits_of(v).max(1), digits_of(beside_sign as u128) + 1)
 }

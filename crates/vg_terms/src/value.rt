@@ -1,12 +1,13 @@
 //! The value of a term in an environment.
 
-ghost use Rattle.std.specs.Prelude.{◌≡◌, ◌<◌, ◌%◌, ◌^◌, ◌-◌, nat_le, if◌then◌else◌};
+ghost use Rattle.std.specs.Prelude.{◌≡◌, ◌<◌, ◌%◌, ◌^◌, int_lt, if◌then◌else◌};
 ghost use Rattle.vg_base.specs.Bits.{signed_at};
 ghost use Rattle.vg_terms.specs.Term.{IsWidth, OneFits, TwoFits, WellFormed, tree, width_of};
-ghost use Rattle.vg_terms.specs.Value.{floor_shift, number_at, one_value, residue, same_key, two_value, value};
+ghost use Rattle.vg_terms.specs.Value.{number_at, one_value, same_key, two_value, value};
 
 use crate::term::{LeafKey, OneOp, Term, TwoOp};
 use vg_base::Items;
+use vg_base::number::{low_bits, signed, unsigned};
 
 /// What the leaves stand for: pairs of a key and a number. Of two pairs with one key the first
 /// counts, and a key that is missing means 0.
@@ -39,7 +40,7 @@ impl Term {
         ensures below { result < 2 ^ width_of (tree self.now) }
     {
         match self {
-            Term::Leaf { width, key } => low_bits(*width, env.number(*key)),
+            Term::Leaf { width, key } => low_bits(env.number(*key), *width),
             Term::Const { value, .. } => *value,
             Term::One {
                 op,
@@ -77,10 +78,10 @@ pub fn value_of_one(op: OneOp, width: u32, amount: u32, child_width: u32, number
 {
     match op {
         OneOp::Zext => number,
-        OneOp::Sext => sign_extended(width, child_width, number),
-        OneOp::Trunc => low_bits(width, number),
+        OneOp::Sext => unsigned(signed(number, child_width), width),
+        OneOp::Trunc => low_bits(number, width),
         OneOp::Lshr => number >> amount,
-        OneOp::Ashr => shifted_with_sign(width, amount, number),
+        OneOp::Ashr => unsigned(signed(number, width) >> amount, width),
     }
 }
 
@@ -103,17 +104,17 @@ pub fn value_of_two(
     ensures below { result < 2 ^ width }
 {
     match op {
-        TwoOp::Add => low_bits(width, first.wrapping_add(second)),
-        TwoOp::Mul => low_bits(width, first.wrapping_mul(second)),
+        TwoOp::Add => low_bits(first.wrapping_add(second), width),
+        TwoOp::Mul => low_bits(first.wrapping_mul(second), width),
         TwoOp::And => first & second,
         TwoOp::Or => first | second,
         TwoOp::Xor => first ^ second,
-        TwoOp::Smin => if signed(second_width, first) < signed(second_width, second) {
+        TwoOp::Smin => if is_less_signed(second_width, first, second) {
             first
         } else {
             second
         },
-        TwoOp::Smax => if signed(second_width, first) < signed(second_width, second) {
+        TwoOp::Smax => if is_less_signed(second_width, first, second) {
             second
         } else {
             first
@@ -121,7 +122,7 @@ pub fn value_of_two(
         TwoOp::Umin => first.min(second),
         TwoOp::Umax => first.max(second),
         TwoOp::Eq => bit(first == second),
-        TwoOp::Slt => bit(signed(second_width, first) < signed(second_width, second)),
+        TwoOp::Slt => bit(is_less_signed(second_width, first, second)),
         TwoOp::Ult => bit(first < second),
         TwoOp::Cat => (first << second_width) + second,
     }
@@ -134,73 +135,14 @@ fn bit(holds: bool) -> u128
     if holds { 1 } else { 0 }
 }
 
-// The greatest number of this width.
-pub(crate) fn greatest(width: u32) -> u128
-    requires { IsWidth width }
-    ensures { result ≡ 2 ^ width - 1 }
-{
-    u128::MAX >> (128 - width)
-}
-
-/// The low bits of a number.
-pub fn low_bits(width: u32, number: u128) -> u128
-    requires { IsWidth width }
-    ensures is { result ≡ number % 2 ^ width }
-    ensures below { result < 2 ^ width }
-{
-    number & greatest(width)
-}
-
-/// A number of this width, read in two's complement.
-pub fn signed(width: u32, number: u128) -> i128
+// Whether the first is less, both read in two's complement.
+fn is_less_signed(width: u32, first: u128, second: u128) -> bool
     requires width { IsWidth width }
-    requires number { number < 2 ^ width }
-    ensures { result ≡ signed_at width number }
+    requires first { first < 2 ^ width }
+    requires second { second < 2 ^ width }
+    ensures { result ≡ int_lt (signed_at width first) (signed_at width second) }
 {
-    if is_negative(width, number) {
-        -1 - (greatest(width) - number) as i128
-    } else {
-        number as i128
-    }
-}
-
-// Whether a number of this width has its sign bit set.
-fn is_negative(width: u32, number: u128) -> bool
-    requires { IsWidth width }
-    ensures { result ≡ nat_le (2 ^ (width - 1)) number }
-{
-    number > greatest(width) >> 1
-}
-
-// A number of the child, its sign bit repeated up to the width.
-fn sign_extended(width: u32, child_width: u32, number: u128) -> u128
-    requires width { IsWidth width }
-    requires child { IsWidth child_width }
-    requires wider { child_width < width }
-    requires number { number < 2 ^ child_width }
-    ensures is { result ≡ residue width (signed_at child_width number) }
-    ensures below { result < 2 ^ width }
-{
-    if is_negative(child_width, number) {
-        greatest(width) - (greatest(child_width) - number)
-    } else {
-        number
-    }
-}
-
-// A number of this width over 2 ^ amount, rounded down, its sign bit repeated.
-fn shifted_with_sign(width: u32, amount: u32, number: u128) -> u128
-    requires width { IsWidth width }
-    requires amount { amount < width }
-    requires number { number < 2 ^ width }
-    ensures is { result ≡ residue width (floor_shift (signed_at width number) amount) }
-    ensures below { result < 2 ^ width }
-{
-    if is_negative(width, number) {
-        greatest(width) - ((greatest(width) - number) >> amount)
-    } else {
-        number >> amount
-    }
+    signed(first, width) < signed(second, width)
 }
 
 fn is_same(first: LeafKey, second: LeafKey) -> bool

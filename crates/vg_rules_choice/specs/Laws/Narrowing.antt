@@ -7,18 +7,19 @@ use Rattle.vg_terms.specs.declared.term.TwoOp.{TwoOp}
 use Rattle.vg_terms.specs.declared.term.TwoOp.TheVariants.{Smin, Smax, Umin, Umax, Eq, Slt, Ult}
 use Rattle.vg_terms.specs.declared.value.Env.{Env}
 use Rattle.vg_terms.specs.Chain.{makes_chains}
-use Rattle.vg_terms.specs.Known.{magnitude, known}
+use Rattle.vg_base.specs.Number.{magnitude, residue}
+use Rattle.vg_terms.specs.Known.{known}
 use Rattle.vg_terms.specs.Measure.{two_weight, weight}
 use Rattle.vg_terms.specs.Resize.{low_two}
 use Rattle.vg_terms.specs.Term.{Tree, two, width_of, IsWidth, TwoFits, WellFormed}
-use Rattle.vg_terms.specs.Value.{residue, two_value, value}
+use Rattle.vg_terms.specs.Value.{two_value, value}
 use Rattle.vg_terms.proofs.Chains.{chain_fits, fits_chain, chain_weight}
 use Rattle.vg_terms.proofs.Narrow.{FitsSigned, narrow-ult, narrow-eq, narrow-umin, narrow-umax, narrow-slt, narrow-eq_signed, narrow-smin, narrow-smax}
 use Rattle.vg_terms.proofs.Resizing.{low_two-formed, low_two-value, low_two-weight}
 use Rattle.vg_terms.proofs.Signs.{signed_less-low, least-low, greatest-low}
 use Rattle.vg_terms.proofs.Soundness.{known-holds, known_some, width_some}
 use Rattle.vg_terms.proofs.Values.{value-below}
-use Rattle.vg_terms.proofs.Widths.{below_wider}
+use Rattle.vg_base.proofs.LowBits.{below_wider}
 use Rattle.vg_rules_choice.specs.Rules.{both_known, is_choice, is_comparison, read_unsigned, may_read_signed, narrowed_choice, narrowed_comparison, narrow_least_or_greatest, narrow_comparison}
 use Rattle.vg_terms.specs.Table.{Promises, IsSound}
 use Rattle.vg_terms.proofs.Tables.{given_else, tested}

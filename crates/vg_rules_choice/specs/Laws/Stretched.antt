@@ -8,11 +8,12 @@ use Rattle.vg_terms.specs.declared.term.OneOp.TheVariants.{Zext, Sext, Trunc, Ls
 use Rattle.vg_terms.specs.declared.value.Env.{Env}
 use Rattle.vg_terms.specs.Measure.{one_weight, weight}
 use Rattle.vg_terms.specs.Term.{Tree, constant, one, width_of, IsWidth, OneFits, WellFormed}
-use Rattle.vg_terms.specs.Value.{residue, one_value, value}
-use Rattle.vg_terms.proofs.Signed.{residue-signed, extend-extend}
+use Rattle.vg_base.specs.Number.{residue}
+use Rattle.vg_terms.specs.Value.{one_value, value}
+use Rattle.vg_base.proofs.Signed.{residue-signed, extend-extend}
 use Rattle.vg_terms.proofs.Soundness.{width_some}
 use Rattle.vg_terms.proofs.Values.{value-below}
-use Rattle.vg_terms.proofs.Widths.{below_wider, extend-low}
+use Rattle.vg_base.proofs.LowBits.{below_wider, extend-low}
 use Rattle.vg_rules_choice.specs.Rules.{extended, stretch, widened}
 
 abbrev pub is_extension : OneOp → Bool

@@ -6,9 +6,9 @@ use Rattle.vg_terms.specs.declared.term.OneOp.TheVariants.{Zext, Sext}
 use Rattle.vg_terms.specs.Term.{Tree, one, width_of, WellFormed}
 use Rattle.vg_terms.specs.Value.{value}
 use Rattle.vg_terms.specs.Known.{known}
-use Rattle.vg_terms.proofs.Widths.{below_wider, extend-low}
+use Rattle.vg_base.proofs.LowBits.{below_wider, extend-low}
 use Rattle.vg_terms.proofs.Values.{value-below}
-use Rattle.vg_terms.proofs.Signed.{extend-extend}
+use Rattle.vg_base.proofs.Signed.{extend-extend}
 use Rattle.vg_terms.proofs.Soundness.{width_some, known-holds}
 use Rattle.vg_rules_width.specs.Rules.{extend_extend, sign_of_nonnegative}
 use Rattle.vg_terms.specs.Table.{Promises, IsSound}

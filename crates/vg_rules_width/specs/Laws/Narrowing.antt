@@ -8,13 +8,14 @@ use Rattle.vg_terms.specs.declared.term.TwoOp.{TwoOp}
 use Rattle.vg_terms.specs.declared.term.TwoOp.TheVariants.{Add, Mul}
 use Rattle.vg_terms.specs.declared.value.Env.{Env}
 use Rattle.vg_terms.specs.Term.{Tree, one, two, width_of, IsWidth, TwoFits, WellFormed}
-use Rattle.vg_terms.specs.Value.{residue, two_value, value}
-use Rattle.vg_terms.specs.Known.{magnitude, known}
+use Rattle.vg_base.specs.Number.{residue, magnitude}
+use Rattle.vg_terms.specs.Value.{two_value, value}
+use Rattle.vg_terms.specs.Known.{known}
 use Rattle.vg_terms.specs.Resize.{low_two}
 use Rattle.vg_terms.specs.Measure.{two_weight, weight}
-use Rattle.vg_terms.proofs.Widths.{below_wider, low-below, signed-low}
+use Rattle.vg_base.proofs.LowBits.{below_wider, low-below, signed-low}
 use Rattle.vg_terms.proofs.Values.{value-below}
-use Rattle.vg_terms.proofs.Signed.{residue-signed}
+use Rattle.vg_base.proofs.Signed.{residue-signed}
 use Rattle.vg_terms.proofs.Narrow.{keeps_low, narrow-unsigned, narrow-signed}
 use Rattle.vg_terms.proofs.Soundness.{known-holds, known_some}
 use Rattle.vg_terms.proofs.Resizing.{low_two-formed, low_two-value, low_two-weight}

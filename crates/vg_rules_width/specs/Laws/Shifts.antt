@@ -8,11 +8,12 @@ use Rattle.vg_terms.specs.declared.term.OneOp.{OneOp}
 use Rattle.vg_terms.specs.declared.term.OneOp.TheVariants.{Zext, Sext, Lshr, Ashr}
 use Rattle.vg_terms.specs.declared.value.Env.{Env}
 use Rattle.vg_terms.specs.Term.{Tree, one, constant, width_of, IsWidth, WellFormed}
-use Rattle.vg_terms.specs.Value.{residue, floor_shift, one_value, value}
+use Rattle.vg_base.specs.Number.{residue, floor_shift}
+use Rattle.vg_terms.specs.Value.{one_value, value}
 use Rattle.vg_terms.specs.Measure.{one_weight}
 use Rattle.vg_terms.proofs.Measures.{weight_some}
 use Rattle.vg_terms.proofs.Values.{value-below}
-use Rattle.vg_terms.proofs.Signed.{residue-signed}
+use Rattle.vg_base.proofs.Signed.{residue-signed}
 use Rattle.vg_terms.proofs.Shifts.{shifted_out, signed_shift-zext, signed_shift-sext, signed_shift-shift}
 use Rattle.vg_terms.proofs.Soundness.{width_some}
 use Rattle.vg_rules_width.specs.Rules.{shift_by_zero, shifted_zext, shifted_sext, shift_of_extension, shifted_far, shift_of_shift}

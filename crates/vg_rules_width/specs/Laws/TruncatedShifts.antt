@@ -5,9 +5,10 @@ use Rattle.std.proofs.lemmas.Bool.{leb-true, ltb-true}
 use Rattle.vg_base.specs.Bits.{signed_at}
 use Rattle.vg_terms.specs.declared.term.OneOp.TheVariants.{Trunc, Lshr, Ashr}
 use Rattle.vg_terms.specs.Term.{Tree, one, width_of, WellFormed}
-use Rattle.vg_terms.specs.Value.{residue, floor_shift, value}
+use Rattle.vg_base.specs.Number.{residue, floor_shift}
+use Rattle.vg_terms.specs.Value.{value}
 use Rattle.vg_terms.specs.Resize.{low}
-use Rattle.vg_terms.proofs.Widths.{low-low}
+use Rattle.vg_base.proofs.LowBits.{low-low}
 use Rattle.vg_terms.proofs.Values.{value-below}
 use Rattle.vg_terms.proofs.Shifts.{low_of_signed_shift, low_of_shift}
 use Rattle.vg_terms.proofs.Resizing.{low-width, low-formed, low-value, low-weight}

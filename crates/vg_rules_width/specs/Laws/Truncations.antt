@@ -9,13 +9,14 @@ use Rattle.vg_terms.specs.declared.term.TwoOp.{TwoOp}
 use Rattle.vg_terms.specs.declared.term.TwoOp.TheVariants.{Add, Mul, And, Or, Xor}
 use Rattle.vg_terms.specs.declared.value.Env.{Env}
 use Rattle.vg_terms.specs.Term.{Tree, one, two, sel, width_of, TwoFits, WellFormed}
-use Rattle.vg_terms.specs.Value.{residue, one_value, two_value, value}
+use Rattle.vg_base.specs.Number.{residue}
+use Rattle.vg_terms.specs.Value.{one_value, two_value, value}
 use Rattle.vg_terms.specs.Measure.{one_weight, two_weight}
 use Rattle.vg_terms.specs.Resize.{low, low_two}
 use Rattle.vg_terms.proofs.Measures.{one_weight_some}
-use Rattle.vg_terms.proofs.Widths.{low-low, low-below}
+use Rattle.vg_base.proofs.LowBits.{low-low, low-below}
 use Rattle.vg_terms.proofs.Values.{value-below}
-use Rattle.vg_terms.proofs.Signed.{residue-low, residue-signed}
+use Rattle.vg_base.proofs.Signed.{residue-low, residue-signed}
 use Rattle.vg_terms.proofs.Narrow.{keeps_low, low-two}
 use Rattle.vg_terms.proofs.Resizing.{low-width, low-formed, low-value, low-weight, low_two-formed, low_two-value, low_two-weight}
 use Rattle.vg_rules_width.specs.Rules.{truncate_truncate, resized, truncate_extension, truncate_operation, truncate_selection}

@@ -19,5 +19,5 @@ pieces-preserved c =
       in_byte = omega arith;
       at = λ lt. omega (arith, at);
       written = write_step c.args.bytes.now c.pieces.bytes (place_of c.args.start) c.args.value c.pieces.done c.pieces.byte c.pieces.bit c.min-count.result c.with_bits.result
-          (omega arith) at here inside c.pieces.invariant.written (rw (← c.low_bits-piece.ensures) c.with_bits.ensures);
+          (omega arith) at here inside c.pieces.invariant.written (rw (← c.low_bits-piece.ensures.is) c.with_bits.ensures);
     }

@@ -1,7 +1,7 @@
 use Rattle.std.proofs.Common.{arith, ◌≤◌, subst}
 use Rattle.vg_terms.specs.Term.{OneFits}
 use Rattle.vg_terms.proofs.value.value_of_one.Goals as goal
-use Rattle.vg_terms.proofs.Widths.{below_wider}
+use Rattle.vg_base.proofs.LowBits.{below_wider}
 
 pub returns-in-Zext-clause-below : goal.returns-in-Zext-clause-below
 returns-in-Zext-clause-below c =

@@ -2,7 +2,7 @@ use Rattle.std.proofs.Common.{arith, ◌+◌, ◌*◌, ◌∙◌, ap}
 use Rattle.vg_terms.specs.declared.term.TwoOp.TheVariants.{Or, Xor, Cat}
 use Rattle.vg_terms.proofs.value.value_of_two.Goals as goal
 use Rattle.vg_terms.proofs.Values.{two-below_at, cat-whole}
-use Rattle.vg_terms.proofs.Widths.{low-low, pow-le}
+use Rattle.vg_base.proofs.LowBits.{low-low, pow-le}
 
 pub overflow_add-result : goal.overflow_add-result
 overflow_add-result c =

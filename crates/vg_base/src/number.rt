@@ -1,10 +1,29 @@
-//! Whole numbers as bits in two's complement.
+//! Numbers of a width: their low bits, and whole numbers in two's complement.
 
-ghost use Rattle.std.specs.Prelude.{◌≡◌, ◌*◌, ◌-◌, ◌%◌, ◌^◌, ◌≤◌};
+ghost use Rattle.std.specs.Prelude.{◌≡◌, ◌*◌, ◌-◌, ◌%◌, ◌^◌, ◌<◌, ◌≤◌, ◌≤ℤ◌};
 ghost use Rattle.vg_base.specs.Bits.{bits, signed as signed_number, signed_at};
-ghost use Rattle.vg_bits.specs.Signed.{unsigned_at};
+ghost use Rattle.vg_base.specs.Number.{greatest_signed, least_signed, residue};
 
-use crate::bit_range::low_bits;
+/// The greatest number of as many bits, for a width of up to 128 bits.
+pub fn greatest(width: u32) -> u128
+    requires { width ≤ 128 }
+    ensures { result ≡ 2 ^ width - 1 }
+{
+    if width == 0 {
+        0
+    } else {
+        u128::MAX >> (128 - width)
+    }
+}
+
+/// The number of the lowest bits of the value, for a width of up to 128 bits.
+pub fn low_bits(value: u128, width: u32) -> u128
+    requires { width ≤ 128 }
+    ensures is { result ≡ value % 2 ^ width }
+    ensures below { result < 2 ^ width }
+{
+    value & greatest(width)
+}
 
 // The weight of the highest of the bits.
 fn half(width: u32) -> u128
@@ -24,8 +43,11 @@ pub fn signed(value: u128, width: u32) -> i128
     requires most { width ≤ 128 }
     ensures bits { result ≡ signed_number (bits width value) }
     ensures number { result ≡ signed_at width (value % 2 ^ width) }
+    ensures within { value < 2 ^ width → result ≡ signed_at width value }
+    ensures at_least { least_signed width ≤ℤ result }
+    ensures at_most { result ≤ℤ greatest_signed width }
 {
-    let low = low_bits(value, width as usize);
+    let low = low_bits(value, width);
     let half = half(width);
     if low < half {
         low as i128
@@ -39,11 +61,12 @@ pub fn signed(value: u128, width: u32) -> i128
 pub fn unsigned(value: i128, width: u32) -> u128
     requires least { 1 ≤ width }
     requires most { width ≤ 128 }
-    ensures { result ≡ unsigned_at width value }
+    ensures is { result ≡ residue width value }
+    ensures below { result < 2 ^ width }
 {
     if value >= 0 {
-        return low_bits(value as u128, width as usize);
+        return low_bits(value as u128, width);
     }
     let half = half(width);
-    half - 1 + half - low_bits((-1 - value) as u128, width as usize)
+    half - 1 + half - low_bits((-1 - value) as u128, width)
 }

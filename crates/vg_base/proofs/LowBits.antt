@@ -1,12 +1,11 @@
 -- Powers of two, low bits and sign bits of numbers of w bits.
-use Rattle.std.proofs.Common.{◌≡◌, ℕ, ◌+◌, ◌-◌, ◌*◌, ◌/◌, ◌%◌, ◌^◌, ◌<◌, ◌≤◌, pos, negsuc, sym, ap, ◌∙◌, subst, arith, inl, inr}
-use Rattle.std.specs.Prelude.{nat_lt, nat_le}
-use Rattle.std.proofs.lemmas.Bool.{cases_lt, lt-ltb, le-ltb, lt-leb, le-leb, cond-true, cond-false}
+use Rattle.std.proofs.Common.{◌≡◌, ℕ, ◌+◌, ◌-◌, ◌*◌, ◌/◌, ◌%◌, ◌^◌, ◌<◌, ◌≤◌, pos, negsuc, ap, ◌∙◌, subst, arith}
+use Rattle.std.proofs.lemmas.Bool.{lt-ltb, le-ltb, cond-true, cond-false}
 use Rattle.std.proofs.lemmas.Nat.{pow_pos, shr_le, mul-add-lt, shl_whole}
 use Rattle.std.proofs.Math.Nat.{pow-le-pow_right, mod-eq_of_lt}
 use Rattle.std.proofs.Math.Pow.{pow-add, mod-mod-pow, ones_split, high, ones_lt}
 use Rattle.vg_base.specs.Bits.{signed_at}
-use Rattle.vg_terms.specs.Value.{residue, floor_shift}
+use Rattle.vg_base.specs.Number.{residue, floor_shift}
 
 pub pow-le : (m n : ℕ) → m ≤ n → 2 ^ m ≤ 2 ^ n
 pow-le m n h = let p : 0 < 2 = omega arith in pow-le-pow_right p h
@@ -39,35 +38,17 @@ ones_of w h =
     let e : w + (128 - w) ≡ 128 = omega arith in
     subst (λ m. (2 ^ m - 1) / 2 ^ (128 - w) ≡ 2 ^ w - 1) e (ones-shr w (128 - w))
 
-pub half_of : (w : ℕ) → 0 < w → (2 ^ w - 1) / 2 ≡ 2 ^ (w - 1) - 1
-half_of w h =
-    let e : (w - 1) + 1 ≡ w = omega arith in
-    subst (λ m. (2 ^ m - 1) / 2 ^ 1 ≡ 2 ^ (w - 1) - 1) e (ones-shr (w - 1) 1)
-
--- above the greatest half is at least half
-pub above_half : (w v : ℕ) → 0 < w → nat_lt ((2 ^ w - 1) / 2) v ≡ nat_le (2 ^ (w - 1)) v
-above_half w v h =
-    let e = half_of w h in
-    let p = pow_pos (w - 1) in
-    elim (cases_lt v (2 ^ (w - 1))) [ inl l ↦ (let a : v ≤ (2 ^ w - 1) / 2 = omega arith in le-ltb _ _ a ∙ sym (lt-leb _ _ l)) | inr g ↦ (let a : (2 ^ w - 1) / 2 < v = omega arith in lt-ltb _ _ a ∙ sym (le-leb _ _ g)) ]
-
 pub signed-low : (w v : ℕ) → v < 2 ^ (w - 1) → signed_at w v ≡ pos v
 signed-low w v h = cond-true _ _ _ (lt-ltb _ _ h)
 
 pub signed-high : (w v : ℕ) → 2 ^ (w - 1) ≤ v → signed_at w v ≡ negsuc (2 ^ w - 1 - v)
 signed-high w v h = cond-false _ _ _ (le-ltb _ _ h)
 
--- an extension by the sign, of a number below half and of one above
+-- a number below half, extended by the sign
 pub extend-low : (w m v : ℕ) → v < 2 ^ (m - 1) → m < w → residue w (signed_at m v) ≡ v
 extend-low w m v h l =
     let k : m - 1 ≤ w = omega arith in
     ap (residue w) (signed-low m v h) ∙ low-below v (m - 1) w h k
-
-pub extend-high : (w m v : ℕ) → 0 < m → v < 2 ^ m → 2 ^ (m - 1) ≤ v → m < w → residue w (signed_at m v) ≡ (2 ^ w - 1) - ((2 ^ m - 1) - v)
-extend-high w m v z b h l =
-    let k : m ≤ w = omega arith in
-    let s : (2 ^ m - 1) - v < 2 ^ m = omega (arith, pow_pos m) in
-    ap (residue w) (signed-high m v h) ∙ ap (λ n. (2 ^ w - 1) - n) (low-below _ m w s k)
 
 pub shift-low : (w k v : ℕ) → v < 2 ^ (w - 1) → residue w (floor_shift (signed_at w v) k) ≡ v / 2 ^ k
 shift-low w k v h =
@@ -80,10 +61,6 @@ shift-high w k v b h =
     let l : w ≤ w = omega arith in
     let s : ((2 ^ w - 1) - v) / 2 ^ k < 2 ^ w = omega (arith, shr_le ((2 ^ w - 1) - v) k, pow_pos w) in
     ap (λ z. residue w (floor_shift z k)) (signed-high w v h) ∙ ap (λ n. (2 ^ w - 1) - n) (low-below _ w w s l)
-
--- a sum or a product of the low 128 bits, and then of fewer
-pub low-of-sum : (a b w : ℕ) → w ≤ 128 → (a + b) % 2 ^ 128 % 2 ^ w ≡ (a + b) % 2 ^ w
-low-of-sum a b w h = low-low (a + b) 128 w h
 
 -- one number above another of n bits fits their widths together
 pub above_below : (a b m n : ℕ) → a < 2 ^ m → b < 2 ^ n → a * 2 ^ n + b < 2 ^ (m + n)

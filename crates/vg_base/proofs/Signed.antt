@@ -6,9 +6,8 @@ use Rattle.std.proofs.lemmas.Nat.{pow_pos, mod_below, mod-mul-add, div-add-mod',
 use Rattle.std.proofs.Math.Nat.{mul-le-mul_left, mod-one, add-mul-mod_self_right, add-mod-mod, mod-add-mod}
 use Rattle.std.proofs.Math.IntN.{sub_ℕ, neg_ℤ}
 use Rattle.vg_base.specs.Bits.{signed_at}
-use Rattle.vg_terms.specs.Value.{residue}
-use Rattle.vg_terms.specs.Known.{magnitude}
-use Rattle.vg_terms.proofs.Widths.{pow-half, below_wider, low-low, low-below, signed-low, signed-high}
+use Rattle.vg_base.specs.Number.{residue, magnitude}
+use Rattle.vg_base.proofs.LowBits.{pow-half, below_wider, low-low, low-below, signed-low, signed-high}
 
 -- a natural number that is z modulo p
 abbrev rep : ℕ → ℤ → ℕ
@@ -152,10 +151,6 @@ residue_below w (negsuc n) = omega (arith, pow_pos w)
 pub residue-within : (w s : ℕ) (z : ℤ) → 0 < w → magnitude z < 2 ^ (s - 1) → magnitude (signed_at w (residue w z)) < 2 ^ (s - 1)
 residue-within w s z h l =
     elim (cases_lt w s) [ inl g ↦ (let k : w - 1 ≤ s - 1 = omega arith in below_wider _ (w - 1) (s - 1) (signed-within w (residue w z) h (residue_below w z)) k) | inr g ↦ (let k : s - 1 ≤ w - 1 = omega arith in subst (λ y. magnitude y < 2 ^ (s - 1)) (sym (signed-residue w z h (below_wider (magnitude z) (s - 1) (w - 1) l k))) l) ]
-
--- a number below half is read as it is
-pub unsigned-within : (w s v : ℕ) → 0 < w → v < 2 ^ (s - 1) → magnitude (signed_at w (v % 2 ^ w)) < 2 ^ (s - 1)
-unsigned-within w s v h l = residue-within w s (pos v) h l
 
 magnitude-sub : (a b n : ℕ) → a < n → b ≤ n → 0 < n → magnitude (sub_ℕ a b) < n
 magnitude-sub a b n p q z =

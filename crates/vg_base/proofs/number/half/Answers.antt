@@ -1,7 +1,7 @@
 use Rattle.std.proofs.Common.{◌-◌, ◌^◌, ◌≤◌, arith}
 use Rattle.std.proofs.Math.Nat.{pow-le-pow_right}
 use Rattle.std.proofs.lemmas.Nat.{one_shl}
-use Rattle.vg_bits.proofs.whole_number.half.Goals as goal
+use Rattle.vg_base.proofs.number.half.Goals as goal
 
 pub returns-clause-small : goal.returns-clause-small
 returns-clause-small c =
