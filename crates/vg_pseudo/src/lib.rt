@@ -1,0 +1,20 @@
+//! The operation pseudocode of vector instructions: how it is written, and what it means.
+//!
+//! [`parse_operation`] reads the text of an operation up to the `END` that closes it. What a text
+//! must be is in `specs/Grammar.antt`. What its names mean is in `specs/Names.antt`, and what it does in
+//! `specs/Value.antt`, `specs/Run.antt` and `specs/Instance.antt`.
+#![tactic(auto)]
+
+pub mod expression;
+pub mod header;
+pub mod operation;
+pub mod operators;
+pub mod spot;
+pub mod statement;
+
+pub use expression::{Arguments, Expr};
+pub use header::{Header, ImmRange, Param};
+pub use operation::{Define, DefineParam, Operation};
+pub use operators::{BinaryOp, UnaryOp};
+pub use spot::Spot;
+pub use statement::Stmt;
