@@ -12,7 +12,8 @@ use Rattle.vg_terms.specs.Order.{is_same_term}
 use Rattle.vg_terms.specs.Term.{Tree, leaf, constant, one, two, sel}
 use Rattle.vg_terms.proofs.Chains.{same_op-same, disordered-chain}
 use Rattle.vg_terms.proofs.Orders.{same_term}
-use Rattle.vg_rules_sum.specs.Constant.{is_constant, is_known_twice}
+use Rattle.vg_terms.specs.Root.{is_constant}
+use Rattle.vg_rules_sum.specs.Constant.{is_known_twice}
 use Rattle.vg_rules_sum.specs.Rules.{first_row as first_sum_row, fold_constants, sort_chain, merge_constants, neutral_or_absorbing, same_operands}
 use Rattle.vg_rules_width.specs.Rules.{first_row as first_width_row, truncate_truncate, truncate_extension, extend_extend, truncate_operation, truncate_selection, truncate_arithmetic_shift, truncate_logical_shift, shift_by_zero, shift_of_extension, shift_of_shift, narrow_product, narrow_extended_sum, sign_of_nonnegative, part_of_concatenation, zero_on_top}
 use Rattle.vg_rules_choice.specs.Rules.{first_row as first_choice_row, both_known, may_read_signed, narrowed_choice, known_selection, negated_selection, selection_is_least_or_greatest, narrow_least_or_greatest, narrow_comparison}

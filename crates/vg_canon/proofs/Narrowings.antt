@@ -11,7 +11,7 @@ use Rattle.vg_terms.specs.declared.term.TwoOp.TheVariants.{Add, Mul, And, Or, Xo
 use Rattle.vg_terms.specs.Known.{known}
 use Rattle.vg_terms.specs.Resize.{low, low_two}
 use Rattle.vg_terms.specs.Term.{Tree, constant, one, two, sel, width_of}
-use Rattle.vg_rules_width.specs.Rules.{first_row, resized, shifted_zext, shifted_far, extended, narrowed, low_of_pair, shifted_pair, truncate_truncate, truncate_extension, extend_extend, truncate_operation, truncate_selection, truncate_arithmetic_shift, truncate_logical_shift, shift_by_zero, shift_of_extension, shift_of_shift, narrow_product, narrow_extended_sum, sign_of_nonnegative, part_of_concatenation, zero_on_top}
+use Rattle.vg_rules_width.specs.Rules.{first_row, resized, shifted_zext, shifted_far, extended_operation, narrowed, low_of_pair, shifted_pair, truncate_truncate, truncate_extension, extend_extend, truncate_operation, truncate_selection, truncate_arithmetic_shift, truncate_logical_shift, shift_by_zero, shift_of_extension, shift_of_shift, narrow_product, narrow_extended_sum, sign_of_nonnegative, part_of_concatenation, zero_on_top}
 use Rattle.vg_canon.specs.Canonical.{IsCanonical, HasCanonicalChildren}
 use Rattle.vg_canon.specs.Walk.{CanonicalFrom}
 use Rattle.vg_terms.proofs.Tables.{either}
@@ -121,7 +121,7 @@ shift_of_shift-shallow _ new h e = absurd (cc)
 
 narrowed-from : (k : Known) (w m : ℕ) (op : TwoOp) (x y new : Tree) → IsCanonical x → IsCanonical y → narrowed k w m op x y ≡ Some new → CanonicalFrom 3 new
 narrowed-from k w m op x y new c d e =
-    given_either (nat_lt k.unsigned w) (nat_lt k.signed w) (extended Zext m op k.unsigned x y) (extended Sext m op k.signed x y) new e (low_two-from 0 op k.unsigned k.unsigned x y c d) (low_two-from 0 op k.signed k.signed x y c d)
+    given_either (nat_lt k.unsigned w) (nat_lt k.signed w) (extended_operation Zext m op k.unsigned x y) (extended_operation Sext m op k.signed x y) new e (low_two-from 0 op k.unsigned k.unsigned x y c d) (low_two-from 0 op k.signed k.signed x y c d)
 
 narrow_product-shallow : IsShallow narrow_product
 unfolding narrow_product
@@ -132,7 +132,7 @@ narrow_extended_sum-shallow : IsShallow narrow_extended_sum
 unfolding narrow_extended_sum
 narrow_extended_sum-shallow (one Sext m z (two Add w x y)) new h e = narrowed-from (known (two Add w x y)) w m Add x y new h.1 h.2 e
 narrow_extended_sum-shallow (one Zext m z (two Add w x y)) new h e =
-    let n = (known (two Add w x y)).unsigned in given_if (nat_lt n w) (extended Zext m Add n x y) new e (low_two-from 0 Add n n x y h.1 h.2)
+    let n = (known (two Add w x y)).unsigned in given_if (nat_lt n w) (extended_operation Zext m Add n x y) new e (low_two-from 0 Add n n x y h.1 h.2)
 narrow_extended_sum-shallow _ new h e = absurd (cc)
 
 sign_of_nonnegative-shallow : IsShallow sign_of_nonnegative

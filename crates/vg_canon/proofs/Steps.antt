@@ -5,7 +5,8 @@ use Rattle.std.specs.Option.{option_or}
 use Rattle.std.proofs.lemmas.Bool.{cond-true}
 use Rattle.vg_terms.specs.Chain.{is_disordered}
 use Rattle.vg_terms.specs.Table.{IsSound}
-use Rattle.vg_terms.specs.Term.{Tree, constant, WellFormed}
+use Rattle.vg_terms.specs.declared.term.LeafKey.{LeafKey}
+use Rattle.vg_terms.specs.Term.{Tree, leaf, constant, WellFormed}
 use Rattle.vg_terms.proofs.Measures.{weight_some}
 use Rattle.vg_terms.proofs.Tables.{either}
 use Rattle.vg_rules_sum.specs.Rules.{first_row as first_sum_row, put_in_order, sort_chain}
@@ -53,6 +54,14 @@ pub constant-finished : (w v : ℕ) → WellFormed (constant w v) → first_rule
 constant-finished w v g =
     elim (either_rule (first_rule (constant w v))) [
       | inl p ↦ absurd (let f = (rule-sound (constant w v) p.0 g p.1).falls in elim f [ inl l ↦ omega (arith, weight_some p.0) | inr q ↦ omega (arith, q.1) ])
+      | inr e ↦ e
+    ]
+
+-- nor at a leaf
+pub leaf-finished : (w : ℕ) (key : LeafKey) → WellFormed (leaf w key) → first_rule (leaf w key) ≡ None
+leaf-finished w key g =
+    elim (either_rule (first_rule (leaf w key))) [
+      | inl p ↦ absurd (let f = (rule-sound (leaf w key) p.0 g p.1).falls in elim f [ inl l ↦ omega (arith, weight_some p.0) | inr q ↦ omega (arith, q.1) ])
       | inr e ↦ e
     ]
 

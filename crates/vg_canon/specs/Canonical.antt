@@ -1,7 +1,8 @@
 -- The canonical form of a term: its children are canonical, and no rule applies at its root.
 use Rattle.std.specs.Prelude.{◌≡◌, ℕ, zero, suc, Option, None}
 use Rattle.std.specs.Option.{option_or, option_map_or}
-use Rattle.vg_terms.specs.Term.{Tree, leaf, constant, one, two, sel}
+use Rattle.vg_terms.specs.declared.term.LeafKey.{LeafKey}
+use Rattle.vg_terms.specs.Term.{Tree, leaf, constant, one, two, sel, WellFormed}
 use Rattle.vg_terms.specs.Measure.{Settles, measure}
 use Rattle.vg_terms.specs.Rule.{Keeps}
 use Rattle.vg_rules_sum.specs.Rules.{first_row as first_sum_row}
@@ -54,3 +55,13 @@ pub record Settled (old new : Tree) : Type 0 where
   pub keeps : Keeps old new
   pub settles : Settles old new
   pub is_canonical : IsCanonical new
+
+-- what the canonical form is: children first, then the first rule that applies at the root and the canonical
+-- form of what it gives; where none applies, the term over those children
+abbrev pub IsChildrenFirst : Type 0
+IsChildrenFirst = (t : Tree) → WellFormed t → canonical t ≡ at_root canonical (over_children canonical t)
+
+-- no rule applies at a leaf or a constant
+pub record LeavesAreCanonical : Type 0 where
+  pub leaves : (w : ℕ) (key : LeafKey) → WellFormed (leaf w key) → IsCanonical (leaf w key)
+  pub constants : (w v : ℕ) → WellFormed (constant w v) → IsCanonical (constant w v)

@@ -5,7 +5,7 @@ use Rattle.vg_terms.specs.declared.term.TwoOp.TheVariants.{Add, And, Or, Xor}
 use Rattle.vg_terms.specs.Chain.{makes_chains, same_op, opens, not_after}
 use Rattle.vg_terms.specs.Known.{known}
 use Rattle.vg_terms.specs.Term.{Tree, two, tree}
-use Rattle.vg_rules_sum.specs.Constant.{is_constant}
+use Rattle.vg_terms.specs.Root.{is_constant}
 use Rattle.vg_canon.specs.declared.step.Step.{Step}
 use Rattle.vg_canon.specs.declared.step.Step.TheVariants.{Rewritten, Finished}
 use Rattle.vg_canon.specs.Canonical.{first_rule}

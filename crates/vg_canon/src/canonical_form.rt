@@ -1,7 +1,7 @@
 //! The canonical form of a term.
 
 ghost use Rattle.std.specs.Prelude.{◌≡◌, IfOk};
-ghost use Rattle.vg_canon.specs.Canonical.{HasCanonicalChildren, Settled, canonical, over_children};
+ghost use Rattle.vg_canon.specs.Canonical.{HasCanonicalChildren, IsChildrenFirst, LeavesAreCanonical, Settled, canonical, over_children};
 ghost use Rattle.vg_canon.specs.Walk.{CanonicalBeyond};
 ghost use Rattle.vg_terms.specs.Term.{WellFormed, tree};
 
@@ -34,6 +34,19 @@ pub fn canon_root(alloc: Global, t: Term) -> Result<Term, AllocError>
 {
     settle_root(alloc, t)
 }
+
+/// What the canonical form is, a law that costs nothing to call: that of a term is made of the canonical
+/// forms of its children; where a rule applies at the root over those, the first that does gives a term
+/// whose canonical form it is, else it is the term over those children.
+pub fn canonical_is_children_first()
+    ensures { IsChildrenFirst }
+{}
+
+/// A law that costs nothing to call: leaves and constants are canonical, so that `canon_root` may take an
+/// operation on them.
+pub fn leaves_are_canonical()
+    ensures { LeavesAreCanonical }
+{}
 
 #[cycle(canon)]
 fn settle(alloc: Global, walk: Walk, t: Term) -> Result<Term, AllocError>

@@ -8,4 +8,4 @@ mod step;
 mod tests;
 mod walk;
 
-pub use canonical_form::{canon, canon_root};
+pub use canonical_form::{canon, canon_root, canonical_is_children_first, leaves_are_canonical};

@@ -3,13 +3,10 @@
 ghost use Rattle.std.specs.Prelude.{◌≡◌, IfOk};
 ghost use Rattle.vg_canon.specs.Canonical.{HasCanonicalChildren};
 ghost use Rattle.vg_canon.specs.Step.{Stepped, fills, is_at_rest};
-ghost use Rattle.vg_rules_sum.specs.Constant.{is_constant};
-ghost use Rattle.vg_terms.specs.Chain.{not_after};
 ghost use Rattle.vg_terms.specs.Term.{WellFormed, tree};
 
 use crate::walk::Walk;
 use std::alloc::{AllocError, Global};
-use std::cmp::Ordering;
 use vg_rules_choice::ChoiceRules;
 use vg_rules_sum::SumRules;
 use vg_rules_width::WidthRules;
@@ -57,9 +54,9 @@ fn is_at_rest(t: &Term) -> bool
             Term::Two { op: own, y: b, .. } => {
                 op.makes_chains()
                     && op.is(*own)
-                    && !is_constant(y)
+                    && !y.is_constant()
                     && !y.opens(*op)
-                    && is_not_after(b, y)
+                    && b.is_not_after(y)
                     && does_fill(*op, *width, y)
             }
             _ => false,
@@ -82,23 +79,5 @@ fn does_fill(op: TwoOp, width: u32, y: &Term) -> bool
             let (unsigned, signed) = y.known();
             width <= unsigned && width <= signed
         }
-    }
-}
-
-fn is_constant(t: &Term) -> bool
-    ensures { result ≡ is_constant (tree t.now) }
-{
-    match t {
-        Term::Const { .. } => true,
-        _ => false,
-    }
-}
-
-fn is_not_after(x: &Term, y: &Term) -> bool
-    ensures { result ≡ not_after (tree x.now) (tree y.now) }
-{
-    match x.key_cmp(y) {
-        Ordering::Greater => false,
-        _ => true,
     }
 }

@@ -4,12 +4,9 @@ use Rattle.vg_terms.specs.declared.term.TwoOp.{TwoOp}
 use Rattle.vg_terms.specs.declared.term.TwoOp.TheVariants.{Mul, And, Or, Xor, Smin, Smax, Umin, Umax}
 use Rattle.vg_terms.specs.declared.value.Env.{Env}
 use Rattle.vg_terms.specs.Chain.{makes_chains, neutral}
+use Rattle.vg_terms.specs.Root.{is_constant}
 use Rattle.vg_terms.specs.Term.{Tree, constant, one, two, sel, width_of}
 use Rattle.vg_terms.specs.Value.{value}
-
-abbrev pub is_constant : Tree → Bool
-is_constant (constant w v) = true
-is_constant _ = false
 
 -- the term has children, and all of them are constants
 abbrev pub is_over_constants : Tree → Bool

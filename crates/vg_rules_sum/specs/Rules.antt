@@ -5,7 +5,8 @@ use Rattle.vg_terms.specs.Chain.{makes_chains, same_op, parts, sorted, chain_of,
 use Rattle.vg_terms.specs.Order.{is_same_term}
 use Rattle.vg_terms.specs.Table.{first}
 use Rattle.vg_terms.specs.Term.{Tree, constant, two}
-use Rattle.vg_rules_sum.specs.Constant.{is_constant, is_over_constants, folded, is_neutral, is_absorbing, is_known_twice, twice}
+use Rattle.vg_terms.specs.Root.{is_constant}
+use Rattle.vg_rules_sum.specs.Constant.{is_over_constants, folded, is_neutral, is_absorbing, is_known_twice, twice}
 
 -- a term over constants alone: its value
 unfoldable pub fold_constants : Tree → Option Tree

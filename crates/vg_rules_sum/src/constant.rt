@@ -1,7 +1,7 @@
 //! Constants: terms over them, and those that are neutral or absorb.
 
 ghost use Rattle.std.specs.Prelude.{◌≡◌};
-ghost use Rattle.vg_rules_sum.specs.Constant.{absorbing, folded, is_absorbing, is_constant, is_neutral, is_over_constants};
+ghost use Rattle.vg_rules_sum.specs.Constant.{absorbing, folded, is_absorbing, is_neutral, is_over_constants};
 ghost use Rattle.vg_terms.specs.Chain.{neutral};
 ghost use Rattle.vg_terms.specs.Term.{IsWidth, WellFormed, tree};
 
@@ -10,24 +10,14 @@ use vg_base::Items;
 use vg_base::number::greatest;
 use vg_terms::{Env, Term, TwoOp, make_const};
 
-/// Whether the term is a constant.
-pub fn is_constant(t: &Term) -> bool
-    ensures { result ≡ is_constant (tree t.now) }
-{
-    match t {
-        Term::Const { .. } => true,
-        _ => false,
-    }
-}
-
 /// Whether the term has children, all of them constants.
 pub fn is_over_constants(t: &Term) -> bool
     ensures { result ≡ is_over_constants (tree t.now) }
 {
     match t {
-        Term::One { x, .. } => is_constant(x),
-        Term::Two { x, y, .. } => is_constant(x) && is_constant(y),
-        Term::Sel { c, x, y, .. } => is_constant(c) && is_constant(x) && is_constant(y),
+        Term::One { x, .. } => x.is_constant(),
+        Term::Two { x, y, .. } => x.is_constant() && y.is_constant(),
+        Term::Sel { c, x, y, .. } => c.is_constant() && x.is_constant() && y.is_constant(),
         _ => false,
     }
 }

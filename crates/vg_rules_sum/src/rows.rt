@@ -8,7 +8,7 @@ ghost use Rattle.vg_terms.specs.Table.{Applies};
 ghost use Rattle.vg_terms.specs.Term.{WellFormed, tree};
 
 use crate::chain::put_in_order;
-use crate::constant::{fold, is_absorbing, is_constant, is_neutral, is_over_constants};
+use crate::constant::{fold, is_absorbing, is_neutral, is_over_constants};
 use std::alloc::{AllocError, Global};
 use vg_terms::{Term, TwoOp, make_const, make_two};
 
@@ -51,7 +51,7 @@ pub fn is_merge_constants(t: &Term) -> bool
     match t {
         Term::Two { op, x, y, .. } => match &**x {
             Term::Two { op: own, y: c, .. } => {
-                op.makes_chains() && op.is(*own) && is_constant(c) && is_constant(y)
+                op.makes_chains() && op.is(*own) && c.is_constant() && y.is_constant()
             }
             _ => false,
         },

@@ -52,10 +52,14 @@ truncate_arithmetic_shift (one Trunc n z (one Ashr m k x)) =
     if nat_le (n + k) m then Some (one Trunc n 0 (one Lshr m k x)) else None
 truncate_arithmetic_shift _ = None
 
--- n bits from the place k on: only n + k bits are shifted
+-- n bits of x from the place k on: only n + k bits are shifted
+abbrev pub low_of_shift : ℕ → ℕ → Tree → Tree
+low_of_shift n k x = low n (one Lshr (n + k) k (low (n + k) x))
+
+-- low bits of a shift of more bits
 unfoldable pub truncate_logical_shift : Tree → Option Tree
 truncate_logical_shift (one Trunc n z (one Lshr m k x)) =
-    if nat_lt (n + k) m then Some (low n (one Lshr (n + k) k (low (n + k) x))) else None
+    if nat_lt (n + k) m then Some (low_of_shift n k x) else None
 truncate_logical_shift _ = None
 
 -- a shift by 0: the term that is shifted
@@ -91,15 +95,15 @@ shift_of_shift (one Ashr w k (one Ashr m j x)) = Some (shifted_far Ashr w (j + k
 shift_of_shift _ = None
 
 -- an operation at n bits on the low bits of two terms, extended to m bits
-abbrev pub extended : OneOp → ℕ → TwoOp → ℕ → Tree → Tree → Tree
-extended ext m op n x y = one ext m 0 (low_two op n n x y)
+abbrev pub extended_operation : OneOp → ℕ → TwoOp → ℕ → Tree → Tree → Tree
+extended_operation ext m op n x y = one ext m 0 (low_two op n n x y)
 
 -- an operation in w bits whose number has these known widths, extended to m bits by its sign: in as many
 -- bits as hold the number read unsigned where they are fewer than w, else in those that hold it read signed
 abbrev pub narrowed : Known → ℕ → ℕ → TwoOp → Tree → Tree → Option Tree
 narrowed k w m op x y =
-    if nat_lt k.unsigned w then Some (extended Zext m op k.unsigned x y)
-    else if nat_lt k.signed w then Some (extended Sext m op k.signed x y)
+    if nat_lt k.unsigned w then Some (extended_operation Zext m op k.unsigned x y)
+    else if nat_lt k.signed w then Some (extended_operation Sext m op k.signed x y)
     else None
 
 -- a product whose number is known to need fewer bits: the product in those, extended
@@ -111,7 +115,7 @@ narrow_product _ = None
 unfoldable pub narrow_extended_sum : Tree → Option Tree
 narrow_extended_sum (one Sext m z (two Add w x y)) = narrowed (known (two Add w x y)) w m Add x y
 narrow_extended_sum (one Zext m z (two Add w x y)) =
-    let n = (known (two Add w x y)).unsigned in if nat_lt n w then Some (extended Zext m Add n x y) else None
+    let n = (known (two Add w x y)).unsigned in if nat_lt n w then Some (extended_operation Zext m Add n x y) else None
 narrow_extended_sum _ = None
 
 -- an extension by the sign of a number that is not negative: by zeros

@@ -2,7 +2,7 @@
 #![tactic(auto, unfolding(crate::specs::Rules::narrow_product, crate::specs::Rules::narrow_extended_sum, crate::specs::Rules::sign_of_nonnegative))]
 
 ghost use Rattle.std.specs.Prelude.{◌≡◌, ◌||◌, nat_lt, IfOk, IsSome, Some, is_some};
-ghost use Rattle.vg_rules_width.specs.Rules.{extended, narrow_extended_sum, narrow_product, narrowed, sign_of_nonnegative};
+ghost use Rattle.vg_rules_width.specs.Rules.{extended_operation, narrow_extended_sum, narrow_product, narrowed, sign_of_nonnegative};
 ghost use Rattle.vg_terms.specs.Known.{known, known_at};
 ghost use Rattle.vg_terms.specs.Term.{WellFormed, tree};
 
@@ -14,14 +14,7 @@ pub fn is_narrow_product(t: &Term) -> bool
     requires { WellFormed (tree t.now) }
     ensures { result ≡ is_some (narrow_product (tree t.now)) }
 {
-    match t {
-        Term::Two {
-            op: TwoOp::Mul,
-            width,
-            ..
-        } => is_narrower(t.known(), *width),
-        _ => false,
-    }
+    t.opens(TwoOp::Mul) && is_narrower(t.known(), t.width())
 }
 
 /// A product whose number needs fewer bits is the extension of a product in those.
@@ -31,27 +24,9 @@ pub fn narrow_product(alloc: Global, t: Term) -> Result<Term, AllocError>
     ensures { IfOk result (λ new. narrow_product (tree t) ≡ Some (tree new)) }
 {
     let widths = t.known();
-    narrow_known_product(alloc, widths, t)
-}
-
-// A product of these known widths.
-fn narrow_known_product(alloc: Global, widths: (u32, u32), t: Term) -> Result<Term, AllocError>
-    requires known { known_at widths.0 widths.1 ≡ known (tree t) }
-    requires applies { IsSome (narrow_product (tree t)) }
-    ensures { IfOk result (λ new. narrow_product (tree t) ≡ Some (tree new)) }
-{
-    match t {
-        Term::Two { op, width, x, y } => narrowed(
-            alloc,
-            widths,
-            width,
-            width,
-            op,
-            Box::into_inner(x),
-            Box::into_inner(y),
-        ),
-        other => Ok(other),
-    }
+    let width = t.width();
+    let (x, y) = t.into_pair();
+    narrowed(alloc, widths, width, width, TwoOp::Mul, x, y)
 }
 
 /// Whether the term is an extension of a sum whose number is known to need fewer bits.
@@ -59,59 +34,30 @@ pub fn is_narrow_extended_sum(t: &Term) -> bool
     requires { WellFormed (tree t.now) }
     ensures { result ≡ is_some (narrow_extended_sum (tree t.now)) }
 {
-    match t {
-        Term::One {
-            op: OneOp::Sext,
-            x,
-            ..
-        } => match &**x {
-            Term::Two {
-                op: TwoOp::Add,
-                width,
-                ..
-            } => is_narrower(x.known(), *width),
-            _ => false,
-        },
-        Term::One {
-            op: OneOp::Zext,
-            x,
-            ..
-        } => match &**x {
-            Term::Two {
-                op: TwoOp::Add,
-                width,
-                ..
-            } => x.known().0 < *width,
-            _ => false,
-        },
+    let sum = t.below();
+    if !sum.opens(TwoOp::Add) {
+        return false;
+    }
+    match t.one_op_or(OneOp::Trunc) {
+        OneOp::Sext => is_narrower(sum.known(), sum.width()),
+        OneOp::Zext => sum.known().0 < sum.width(),
         _ => false,
     }
 }
 
 /// An extension of a sum whose number needs fewer bits is one of a sum in those.
+#[tactic(auto, unfolding(crate::specs::Rules::narrow_extended_sum), using(crate::proofs::Rows::narrow_extended_sum_is))]
 pub fn narrow_extended_sum(alloc: Global, t: Term) -> Result<Term, AllocError>
     requires well_formed { WellFormed (tree t) }
     requires applies { IsSome (narrow_extended_sum (tree t)) }
     ensures { IfOk result (λ new. narrow_extended_sum (tree t) ≡ Some (tree new)) }
 {
-    match t {
-        Term::One { width: to, x, .. } => {
-            let widths = x.known();
-            match Box::into_inner(x) {
-                Term::Two { op, width, x, y } => narrowed(
-                    alloc,
-                    widths,
-                    width,
-                    to,
-                    op,
-                    Box::into_inner(x),
-                    Box::into_inner(y),
-                ),
-                other => Ok(other),
-            }
-        }
-        other => Ok(other),
-    }
+    let to = t.width();
+    let sum = t.into_below();
+    let widths = sum.known();
+    let width = sum.width();
+    let (x, y) = sum.into_pair();
+    narrowed(alloc, widths, width, to, TwoOp::Add, x, y)
 }
 
 /// Whether the term is an extension by the sign of a number that is known not to be negative.
@@ -119,14 +65,8 @@ pub fn is_sign_of_nonnegative(t: &Term) -> bool
     requires { WellFormed (tree t.now) }
     ensures { result ≡ is_some (sign_of_nonnegative (tree t.now)) }
 {
-    match t {
-        Term::One {
-            op: OneOp::Sext,
-            x,
-            ..
-        } => x.known().0 < x.width(),
-        _ => false,
-    }
+    let x = t.below();
+    t.is_one(OneOp::Sext) && x.known().0 < x.width()
 }
 
 /// An extension by the sign of a number that is not negative is one by zeros.
@@ -135,10 +75,8 @@ pub fn sign_of_nonnegative(alloc: Global, t: Term) -> Result<Term, AllocError>
     requires applies { IsSome (sign_of_nonnegative (tree t)) }
     ensures { IfOk result (λ new. sign_of_nonnegative (tree t) ≡ Some (tree new)) }
 {
-    match t {
-        Term::One { width, x, .. } => make_one(alloc, OneOp::Zext, width, 0, Box::into_inner(x)),
-        other => Ok(other),
-    }
+    let width = t.width();
+    make_one(alloc, OneOp::Zext, width, 0, t.into_below())
 }
 
 // Whether fewer than `width` bits hold a number of these known widths.

@@ -17,7 +17,7 @@ pub fn is_part_of_concatenation(t: &Term) -> bool
             op: OneOp::Trunc,
             x,
             ..
-        } => matches!(&**x, Term::Two { op: TwoOp::Cat, .. }),
+        } => x.opens(TwoOp::Cat),
         Term::One {
             op: OneOp::Lshr,
             amount,
@@ -37,41 +37,18 @@ pub fn is_part_of_concatenation(t: &Term) -> bool
 
 /// Low bits of a pair are low bits of its lower part, or all of that below low bits of the upper part;
 /// a shift past the lower part moves the upper part alone.
+#[tactic(auto, unfolding(crate::specs::Rules::part_of_concatenation), using(crate::proofs::Rows::part_of_concatenation_cut))]
 pub fn part_of_concatenation(alloc: Global, t: Term) -> Result<Term, AllocError>
     requires { IsSome (part_of_concatenation (tree t)) }
     ensures { IfOk result (λ new. part_of_concatenation (tree t) ≡ Some (tree new)) }
 {
-    match t {
-        Term::One {
-            op: OneOp::Trunc,
-            width,
-            x,
-            ..
-        } => match Box::into_inner(x) {
-            Term::Two { x, y, .. } => low_of_pair(
-                alloc,
-                width,
-                Box::into_inner(x),
-                Box::into_inner(y),
-            ),
-            other => Ok(other),
-        },
-        Term::One {
-            width,
-            amount,
-            x,
-            ..
-        } => match Box::into_inner(x) {
-            Term::Two { x, y, .. } => shifted_pair(
-                alloc,
-                width,
-                amount,
-                Box::into_inner(x),
-                Box::into_inner(y),
-            ),
-            other => Ok(other),
-        },
-        other => Ok(other),
+    let is_cut = t.is_one(OneOp::Trunc);
+    let (width, amount) = (t.width(), t.amount());
+    let (high, low) = t.into_below().into_pair();
+    if is_cut {
+        low_of_pair(alloc, width, high, low)
+    } else {
+        shifted_pair(alloc, width, amount, high, low)
     }
 }
 
@@ -126,8 +103,7 @@ pub fn zero_on_top(alloc: Global, t: Term) -> Result<Term, AllocError>
     requires { IsSome (zero_on_top (tree t)) }
     ensures { IfOk result (λ new. zero_on_top (tree t) ≡ Some (tree new)) }
 {
-    match t {
-        Term::Two { width, y, .. } => make_one(alloc, OneOp::Zext, width, 0, Box::into_inner(y)),
-        other => Ok(other),
-    }
+    let width = t.width();
+    let (_, low) = t.into_pair();
+    make_one(alloc, OneOp::Zext, width, 0, low)
 }

@@ -12,29 +12,10 @@ use vg_terms::{OneOp, Term, make_const, make_one};
 pub fn is_extend_extend(t: &Term) -> bool
     ensures { result ≡ is_some (extend_extend (tree t.now)) }
 {
-    match t {
-        Term::One {
-            op: OneOp::Zext,
-            x,
-            ..
-        } => matches!(
-            &**x,
-            Term::One {
-                op: OneOp::Zext,
-                ..
-            }
-        ),
-        Term::One {
-            op: OneOp::Sext,
-            x,
-            ..
-        } => matches!(
-            &**x,
-            Term::One {
-                op: OneOp::Zext | OneOp::Sext,
-                ..
-            }
-        ),
+    let inner = t.below();
+    match t.one_op_or(OneOp::Trunc) {
+        OneOp::Zext => inner.is_one(OneOp::Zext),
+        OneOp::Sext => inner.is_one(OneOp::Zext) || inner.is_one(OneOp::Sext),
         _ => false,
     }
 }
@@ -44,27 +25,16 @@ pub fn extend_extend(alloc: Global, t: Term) -> Result<Term, AllocError>
     requires { IsSome (extend_extend (tree t)) }
     ensures { IfOk result (λ new. extend_extend (tree t) ≡ Some (tree new)) }
 {
-    match t {
-        Term::One { width, x, .. } => match Box::into_inner(x) {
-            Term::One { op, x, .. } => make_one(alloc, op, width, 0, Box::into_inner(x)),
-            other => Ok(other),
-        },
-        other => Ok(other),
-    }
+    let width = t.width();
+    let inner = t.into_below();
+    make_one(alloc, inner.one_op_or(OneOp::Zext), width, 0, inner.into_below())
 }
 
 /// Whether the term is a shift by 0.
 pub fn is_shift_by_zero(t: &Term) -> bool
     ensures { result ≡ is_some (shift_by_zero (tree t.now)) }
 {
-    match t {
-        Term::One {
-            op: OneOp::Lshr | OneOp::Ashr,
-            amount,
-            ..
-        } => *amount == 0,
-        _ => false,
-    }
+    (t.is_one(OneOp::Lshr) || t.is_one(OneOp::Ashr)) && t.amount() == 0
 }
 
 /// A shift by 0 is the term below.
@@ -72,39 +42,17 @@ pub fn shift_by_zero(_alloc: Global, t: Term) -> Result<Term, AllocError>
     requires { IsSome (shift_by_zero (tree t)) }
     ensures { IfOk result (λ new. shift_by_zero (tree t) ≡ Some (tree new)) }
 {
-    match t {
-        Term::One { x, .. } => Ok(Box::into_inner(x)),
-        other => Ok(other),
-    }
+    Ok(t.into_below())
 }
 
 /// Whether the term is a shift of an extension that fills as the shift does, or with zeros.
 pub fn is_shift_of_extension(t: &Term) -> bool
     ensures { result ≡ is_some (shift_of_extension (tree t.now)) }
 {
-    match t {
-        Term::One {
-            op: OneOp::Lshr,
-            x,
-            ..
-        } => matches!(
-            &**x,
-            Term::One {
-                op: OneOp::Zext,
-                ..
-            }
-        ),
-        Term::One {
-            op: OneOp::Ashr,
-            x,
-            ..
-        } => matches!(
-            &**x,
-            Term::One {
-                op: OneOp::Zext | OneOp::Sext,
-                ..
-            }
-        ),
+    let inner = t.below();
+    match t.one_op_or(OneOp::Trunc) {
+        OneOp::Lshr => inner.is_one(OneOp::Zext),
+        OneOp::Ashr => inner.is_one(OneOp::Zext) || inner.is_one(OneOp::Sext),
         _ => false,
     }
 }
@@ -114,22 +62,12 @@ pub fn shift_of_extension(alloc: Global, t: Term) -> Result<Term, AllocError>
     requires { IsSome (shift_of_extension (tree t)) }
     ensures { IfOk result (λ new. shift_of_extension (tree t) ≡ Some (tree new)) }
 {
-    match t {
-        Term::One {
-            width,
-            amount,
-            x,
-            ..
-        } => match Box::into_inner(x) {
-            Term::One {
-                op: OneOp::Sext,
-                x,
-                ..
-            } => shifted_sext(alloc, width, amount, Box::into_inner(x)),
-            Term::One { x, .. } => shifted_zext(alloc, width, amount, Box::into_inner(x)),
-            other => Ok(other),
-        },
-        other => Ok(other),
+    let (width, amount) = (t.width(), t.amount());
+    let extension = t.into_below();
+    if extension.is_one(OneOp::Sext) {
+        shifted_sext(alloc, width, amount, extension.into_below())
+    } else {
+        shifted_zext(alloc, width, amount, extension.into_below())
     }
 }
 
@@ -160,55 +98,21 @@ fn shifted_sext(alloc: Global, width: u32, amount: u32, x: Term) -> Result<Term,
 pub fn is_shift_of_shift(t: &Term) -> bool
     ensures { result ≡ is_some (shift_of_shift (tree t.now)) }
 {
-    match t {
-        Term::One {
-            op: OneOp::Lshr,
-            x,
-            ..
-        } => matches!(
-            &**x,
-            Term::One {
-                op: OneOp::Lshr,
-                ..
-            }
-        ),
-        Term::One {
-            op: OneOp::Ashr,
-            x,
-            ..
-        } => matches!(
-            &**x,
-            Term::One {
-                op: OneOp::Ashr,
-                ..
-            }
-        ),
-        _ => false,
-    }
+    let inner = t.below();
+    (t.is_one(OneOp::Lshr) && inner.is_one(OneOp::Lshr))
+        || (t.is_one(OneOp::Ashr) && inner.is_one(OneOp::Ashr))
 }
 
 /// A shift of a shift is one shift by the sum; at or past the width 0 is left, or the sign.
+#[tactic(auto, unfolding(crate::specs::Rules::shift_of_shift), using(crate::proofs::Rows::shift_of_shift_is))]
 pub fn shift_of_shift(alloc: Global, t: Term) -> Result<Term, AllocError>
     requires { IsSome (shift_of_shift (tree t)) }
     ensures { IfOk result (λ new. shift_of_shift (tree t) ≡ Some (tree new)) }
 {
-    match t {
-        Term::One {
-            width,
-            amount,
-            x,
-            ..
-        } => match Box::into_inner(x) {
-            Term::One {
-                op,
-                amount: first,
-                x,
-                ..
-            } => shifted_twice(alloc, op, width, first, amount, Box::into_inner(x)),
-            other => Ok(other),
-        },
-        other => Ok(other),
-    }
+    let (op, width, amount) = (t.one_op_or(OneOp::Lshr), t.width(), t.amount());
+    let inner = t.into_below();
+    let first = inner.amount();
+    shifted_twice(alloc, op, width, first, amount, inner.into_below())
 }
 
 // A shift by the sum of two amounts.

@@ -11,21 +11,13 @@ use Rattle.vg_base.specs.Number.{residue, magnitude}
 use Rattle.vg_terms.specs.Value.{two_value}
 use Rattle.vg_base.proofs.LowBits.{low-low, low-below}
 use Rattle.vg_base.proofs.Signed.{residue-low, residue-signed, signed-residue}
+use Rattle.vg_terms.specs.Resize.{keeps_low}
 
 pub low-add : (w n a b : ℕ) → n ≤ w → (a + b) % 2 ^ w % 2 ^ n ≡ (a % 2 ^ n + b % 2 ^ n) % 2 ^ n
 low-add w n a b h = low-low (a + b) w n h ∙ sym (mod-add-mod a (2 ^ n) b) ∙ sym (add-mod-mod (a % 2 ^ n) b (2 ^ n))
 
 pub low-mul : (w n a b : ℕ) → n ≤ w → (a * b) % 2 ^ w % 2 ^ n ≡ (a % 2 ^ n * (b % 2 ^ n)) % 2 ^ n
 low-mul w n a b h = low-low (a * b) w n h ∙ mul-mod a b (2 ^ n)
-
--- the operations whose low bits come from the low bits
-abbrev pub keeps_low : TwoOp → Bool
-keeps_low Add = true
-keeps_low Mul = true
-keeps_low And = true
-keeps_low Or = true
-keeps_low Xor = true
-keeps_low _ = false
 
 pub low-two : (op : TwoOp) (w n a b : ℕ) → keeps_low op ≡ true → n ≤ w → two_value op w w a b % 2 ^ n ≡ two_value op n n (a % 2 ^ n) (b % 2 ^ n)
 low-two Add w n a b t h = low-add w n a b h

@@ -3,6 +3,7 @@ pub mod Known
 pub mod Measure
 pub mod Order
 pub mod Resize
+pub mod Root
 pub mod Rule
 pub mod Table
 pub mod Term

@@ -42,6 +42,16 @@ impl Term {
         can_be_sorted(self)
     }
 
+    /// Whether the term is not after the other in the order of terms.
+    pub fn is_not_after(&self, other: &Term) -> bool
+        ensures { result ≡ not_after (tree self.now) (tree other.now) }
+    {
+        match self.key_cmp(other) {
+            Ordering::Greater => false,
+            _ => true,
+        }
+    }
+
     /// Whether the term is this operation.
     pub fn opens(&self, op: TwoOp) -> bool
         ensures { result ≡ opens op (tree self.now) }
@@ -58,22 +68,13 @@ fn can_be_sorted(t: &Term) -> bool
 {
     match t {
         Term::Two { op, x, y, .. } => match op {
-            TwoOp::Eq => !is_not_after(x, y),
+            TwoOp::Eq => !x.is_not_after(y),
             TwoOp::Slt => false,
             TwoOp::Ult => false,
             TwoOp::Cat => false,
             _ => !is_in_order(*op, x, y),
         },
         _ => false,
-    }
-}
-
-fn is_not_after(x: &Term, y: &Term) -> bool
-    ensures { result ≡ not_after (tree x.now) (tree y.now) }
-{
-    match x.key_cmp(y) {
-        Ordering::Greater => false,
-        _ => true,
     }
 }
 
@@ -95,11 +96,11 @@ fn is_leading_to(op: TwoOp, x: &Term, y: &Term) -> bool
             ..
         } => {
             if op.is(*own) {
-                is_not_after(b, y) && !b.opens(op) && is_leading_to(op, a, b)
+                b.is_not_after(y) && !b.opens(op) && is_leading_to(op, a, b)
             } else {
-                is_not_after(x, y)
+                x.is_not_after(y)
             }
         }
-        _ => is_not_after(x, y),
+        _ => x.is_not_after(y),
     }
 }

@@ -11,6 +11,7 @@ pub mod measure;
 pub mod order;
 pub mod print;
 pub mod resize;
+pub mod root;
 pub mod rule;
 pub mod term;
 #[cfg(test)]

@@ -1,11 +1,27 @@
 //! Terms cut to fewer bits.
 
 ghost use Rattle.std.specs.Prelude.{◌≡◌, IfOk};
-ghost use Rattle.vg_terms.specs.Resize.{low, low_two};
+ghost use Rattle.vg_terms.specs.Resize.{keeps_low, low, low_two};
 ghost use Rattle.vg_terms.specs.Term.{tree};
 
 use crate::term::{OneOp, Term, TwoOp, make_one, make_two};
 use std::alloc::{AllocError, Global};
+
+impl TwoOp {
+    /// Whether the low bits of the operation are those of the operation on low bits.
+    pub fn keeps_low(self) -> bool
+        ensures { result ≡ keeps_low self }
+    {
+        match self {
+            TwoOp::Add => true,
+            TwoOp::Mul => true,
+            TwoOp::And => true,
+            TwoOp::Or => true,
+            TwoOp::Xor => true,
+            _ => false,
+        }
+    }
+}
 
 /// The low `width` bits of a term: the term itself where that is its width, else its truncation, which
 /// is well-formed where `width` is from 1 to less than the width of the term.

@@ -9,7 +9,8 @@ use Rattle.vg_terms.specs.Value.{one_value, two_value, value}
 use Rattle.vg_terms.proofs.Chains.{width_range}
 use Rattle.vg_terms.proofs.Measures.{one_weight_some, weight_some}
 use Rattle.vg_terms.proofs.Values.{value-below}
-use Rattle.vg_rules_sum.specs.Constant.{is_constant, is_over_constants, nothing, folded}
+use Rattle.vg_terms.specs.Root.{is_constant}
+use Rattle.vg_rules_sum.specs.Constant.{is_over_constants, nothing, folded}
 use Rattle.vg_rules_sum.specs.Rules.{fold_constants}
 use Rattle.vg_terms.specs.Table.{IsSound}
 use Rattle.vg_terms.proofs.Tables.{given_if}

@@ -12,7 +12,8 @@ use Rattle.vg_terms.proofs.Chains.{same_op-same, chain_fits, fits_chain, chain_w
 use Rattle.vg_terms.proofs.Measures.{weight_some}
 use Rattle.vg_terms.proofs.Totals.{chain_op}
 use Rattle.vg_terms.proofs.Values.{value-below}
-use Rattle.vg_rules_sum.specs.Constant.{is_constant, nothing, folded}
+use Rattle.vg_terms.specs.Root.{is_constant}
+use Rattle.vg_rules_sum.specs.Constant.{nothing, folded}
 use Rattle.vg_rules_sum.specs.Rules.{merge_constants}
 use Rattle.vg_terms.specs.Table.{Promises, IsSound}
 use Rattle.vg_terms.proofs.Tables.{given, tested}

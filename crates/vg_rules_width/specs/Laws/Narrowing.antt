@@ -16,10 +16,11 @@ use Rattle.vg_terms.specs.Measure.{two_weight, weight}
 use Rattle.vg_base.proofs.LowBits.{below_wider, low-below, signed-low}
 use Rattle.vg_terms.proofs.Values.{value-below}
 use Rattle.vg_base.proofs.Signed.{residue-signed}
-use Rattle.vg_terms.proofs.Narrow.{keeps_low, narrow-unsigned, narrow-signed}
+use Rattle.vg_terms.specs.Resize.{keeps_low}
+use Rattle.vg_terms.proofs.Narrow.{narrow-unsigned, narrow-signed}
 use Rattle.vg_terms.proofs.Soundness.{known-holds, known_some}
 use Rattle.vg_terms.proofs.Resizing.{low_two-formed, low_two-value, low_two-weight}
-use Rattle.vg_rules_width.specs.Rules.{extended, narrowed, narrow_product, narrow_extended_sum}
+use Rattle.vg_rules_width.specs.Rules.{extended_operation, narrowed, narrow_product, narrow_extended_sum}
 use Rattle.vg_terms.specs.Table.{Promises, IsSound}
 use Rattle.vg_terms.proofs.Tables.{given_if, given_else}
 
@@ -71,7 +72,7 @@ module _ (old : Tree) (op : TwoOp) (w m : ℕ) (x y : Tree) (h : Narrows old op 
       let below = subst (λ v. v < 2 ^ w) (at_w env) (value-below env (two op w x y) h.formed) in
       ap (signed_at n) (part-value env n less) ∙ narrow-signed op w n (value env x) (value env y) h.low some l below (subst (λ v. magnitude (signed_at w v) < 2 ^ (n - 1)) (at_w env) b) ∙ sym (ap (signed_at w) (at_w env))
 
-  unsigned-promises : (n : ℕ) → 0 < n → n < w → ((env : Env) → value env old ≡ value env (two op w x y)) → ((env : Env) → value env (two op w x y) < 2 ^ n) → Promises old (extended Zext m op n x y)
+  unsigned-promises : (n : ℕ) → 0 < n → n < w → ((env : Env) → value env old ≡ value env (two op w x y)) → ((env : Env) → value env (two op w x y) < 2 ^ n) → Promises old (extended_operation Zext m op n x y)
   unsigned-promises n some less same b =
       let wider : n < m = omega (arith, h.wide) in
       record {
@@ -83,7 +84,7 @@ module _ (old : Tree) (op : TwoOp) (w m : ℕ) (x y : Tree) (h : Narrows old op 
         falls = inl (omega (arith, low_two-weight op n n x y, h.own n, h.heavy));
       }
 
-  signed-promises : (n : ℕ) → 0 < n → n < w → ((env : Env) → value env old ≡ residue m (signed_at w (value env (two op w x y)))) → ((env : Env) → magnitude (signed_at w (value env (two op w x y))) < 2 ^ (n - 1)) → Promises old (extended Sext m op n x y)
+  signed-promises : (n : ℕ) → 0 < n → n < w → ((env : Env) → value env old ≡ residue m (signed_at w (value env (two op w x y)))) → ((env : Env) → magnitude (signed_at w (value env (two op w x y))) < 2 ^ (n - 1)) → Promises old (extended_operation Sext m op n x y)
   signed-promises n some less same b =
       let wider : n < m = omega (arith, h.wide) in
       record {

@@ -17,7 +17,8 @@ use Rattle.vg_terms.proofs.Measures.{one_weight_some}
 use Rattle.vg_base.proofs.LowBits.{low-low, low-below}
 use Rattle.vg_terms.proofs.Values.{value-below}
 use Rattle.vg_base.proofs.Signed.{residue-low, residue-signed}
-use Rattle.vg_terms.proofs.Narrow.{keeps_low, low-two}
+use Rattle.vg_terms.specs.Resize.{keeps_low}
+use Rattle.vg_terms.proofs.Narrow.{low-two}
 use Rattle.vg_terms.proofs.Resizing.{low-width, low-formed, low-value, low-weight, low_two-formed, low_two-value, low_two-weight}
 use Rattle.vg_rules_width.specs.Rules.{truncate_truncate, resized, truncate_extension, truncate_operation, truncate_selection}
 use Rattle.vg_terms.specs.Table.{Promises, IsSound}
