@@ -10,6 +10,3 @@ mod register;
 pub use outcome::Outcome;
 pub use register::Reg;
 pub use vg_base::number::{signed, unsigned};
-
-#[cfg(test)]
-mod tests;

@@ -4,8 +4,6 @@
 
 mod canonical_form;
 mod step;
-#[cfg(test)]
-mod tests;
 mod walk;
 
 pub use canonical_form::{canon, canon_root, canonical_is_children_first, leaves_are_canonical};

@@ -6,7 +6,5 @@ mod choice_rules;
 mod narrowing;
 mod selections;
 mod stretch;
-#[cfg(test)]
-mod tests;
 
 pub use choice_rules::ChoiceRules;

@@ -6,7 +6,5 @@ mod chain;
 mod constant;
 mod rows;
 mod sum_rules;
-#[cfg(test)]
-mod tests;
 
 pub use sum_rules::SumRules;

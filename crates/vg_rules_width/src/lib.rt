@@ -5,8 +5,6 @@
 mod narrowing;
 mod pairs;
 mod shifts;
-#[cfg(test)]
-mod tests;
 mod truncations;
 mod width_rules;
 

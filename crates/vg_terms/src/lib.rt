@@ -5,8 +5,6 @@
 pub mod chain;
 pub mod form;
 pub mod known;
-#[cfg(test)]
-mod known_tests;
 pub mod measure;
 pub mod order;
 pub mod print;
@@ -14,8 +12,6 @@ pub mod resize;
 pub mod root;
 pub mod rule;
 pub mod term;
-#[cfg(test)]
-mod tests;
 pub mod text;
 pub mod value;
 

@@ -1,0 +1,112 @@
+//! Large terms, of up to 1,024 nodes: each has a canonical form, a copy and a text.
+
+use crate::tables::{assert_settles, spell};
+use std::alloc::{AllocError, Global};
+use std::process::Abort;
+use std::test::Fail;
+use vg_terms::{LeafKey, OneOp, Term, TwoOp, make_const, make_leaf, make_one, make_sel, make_two};
+
+// Bits of the first parameter, from this one on.
+fn leaf(width: u32, low: u32) -> Term {
+    let key = LeafKey {
+        kind: 0,
+        first: 0,
+        second: low as i64,
+        third: 0,
+    };
+    make_leaf(width, key)
+}
+
+// The term has this many nodes, and its canonical form no more than so many.
+fn assert_large(
+    rt: &impl Abort,
+    alloc: Global,
+    t: &Term,
+    nodes: u64,
+    most: u64,
+) -> Result<(), Fail> {
+    assert!(rt; t.is_well_formed());
+    assert_eq!(rt; t.node_count(), nodes);
+    assert!(rt; spell(alloc, t)?.len() as u64 > nodes);
+    let form = assert_settles(rt, alloc, t)?;
+    assert!(rt; !form.is_disordered());
+    assert!(rt; form.node_count() <= most);
+    Ok(())
+}
+
+// Leaves in falling order, one more than `most`.
+fn falling_chain(alloc: Global, op: TwoOp, most: u32) -> Result<Term, AllocError> {
+    let mut chain = leaf(8, most);
+    for i in 0..most {
+        chain = make_two(alloc, op, 8, chain, leaf(8, most - 1 - i))?;
+    }
+    Ok(chain)
+}
+
+#[test]
+fn falling_chains(rt: HostRuntime) -> Result<(), Fail> {
+    let alloc = rt.alloc();
+    let sum = falling_chain(alloc, TwoOp::Add, 511)?;
+    assert_large(&rt, alloc, &sum, 1023, 1023)?;
+    let ops = [
+        TwoOp::Mul,
+        TwoOp::And,
+        TwoOp::Or,
+        TwoOp::Xor,
+        TwoOp::Smin,
+        TwoOp::Smax,
+        TwoOp::Umin,
+        TwoOp::Umax,
+    ];
+    for op in ops {
+        let t = falling_chain(alloc, op, 63)?;
+        assert_large(&rt, alloc, &t, 127, 127)?;
+    }
+    Ok(())
+}
+
+// One operation over the other, 1,023 times over a leaf.
+fn tower(alloc: Global, ops: &[(OneOp, u32, u32)], start: u32) -> Result<Term, AllocError> {
+    let mut t = leaf(start, 0);
+    for (op, width, amount) in ops.iter().cycle().take(1023) {
+        t = make_one(alloc, *op, *width, *amount, t)?;
+    }
+    Ok(t)
+}
+
+#[test]
+fn towers_of_operations_on_one_term(rt: HostRuntime) -> Result<(), Fail> {
+    let alloc = rt.alloc();
+    let zeros = tower(alloc, &[(OneOp::Zext, 64, 0), (OneOp::Trunc, 8, 0)], 8)?;
+    assert_large(&rt, alloc, &zeros, 1024, 2)?;
+    let signs = tower(alloc, &[(OneOp::Sext, 128, 0), (OneOp::Trunc, 1, 0)], 1)?;
+    assert_large(&rt, alloc, &signs, 1024, 2)?;
+    let shifts = tower(alloc, &[(OneOp::Lshr, 64, 1)], 64)?;
+    assert_large(&rt, alloc, &shifts, 1024, 1)?;
+    let signed_shifts = tower(alloc, &[(OneOp::Ashr, 32, 1)], 32)?;
+    assert_large(&rt, alloc, &signed_shifts, 1024, 2)?;
+    Ok(())
+}
+
+#[test]
+fn nested_selections_and_pairs(rt: HostRuntime) -> Result<(), Fail> {
+    let alloc = rt.alloc();
+    let mut choice = leaf(8, 0);
+    for i in 0..341u32 {
+        choice = make_sel(alloc, 8, leaf(1, i), leaf(8, i), choice)?;
+    }
+    assert_large(&rt, alloc, &choice, 1024, 1024)?;
+    let mut pairs = leaf(1, 0);
+    for i in 0..127u32 {
+        let width = 2 + i;
+        pairs = make_two(alloc, TwoOp::Cat, width, leaf(1, i), pairs)?;
+    }
+    assert_large(&rt, alloc, &pairs, 255, 255)?;
+    let mut sums = leaf(8, 0);
+    for i in 0..255u32 {
+        let product = make_two(alloc, TwoOp::Mul, 8, sums, make_const(8, 3))?;
+        sums = make_two(alloc, TwoOp::Add, 8, leaf(8, i), product)?;
+    }
+    assert_large(&rt, alloc, &sums, 1021, 1021)?;
+    Ok(())
+}
