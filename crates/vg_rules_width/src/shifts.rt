@@ -27,7 +27,13 @@ pub fn extend_extend(alloc: Global, t: Term) -> Result<Term, AllocError>
 {
     let width = t.width();
     let inner = t.into_below();
-    make_one(alloc, inner.one_op_or(OneOp::Zext), width, 0, inner.into_below())
+    make_one(
+        alloc,
+        inner.one_op_or(OneOp::Zext),
+        width,
+        0,
+        inner.into_below(),
+    )
 }
 
 /// Whether the term is a shift by 0.
