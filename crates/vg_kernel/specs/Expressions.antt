@@ -146,12 +146,24 @@ select_at inner place r used = do
   both ← pair_at inner comma condition.scan.used
   select_end place condition both.0 both.1
 
+-- the two operands of a function
+abbrev pub two_at : Inner → Function → Place → Reading → ℕ → Result Part KernelFault
+two_at inner function place r used = pair_at inner r used >>= λ both. pair_end function place both.0 both.1
+
+-- the operand of a shift, and by how many places
+abbrev pub shift_at : Inner → Shift → Place → Reading → ℕ → Result Part KernelFault
+shift_at inner op place r used = whole_at inner r used >>= λ operand. shift_end op place operand
+
+-- the operand of a resize
+abbrev pub resize_at : Inner → Resize → Width → Place → Reading → ℕ → Result Part KernelFault
+resize_at inner op to place r used = whole_at inner r used >>= λ operand. resize_end op to place operand
+
 -- what stands behind the name of a function and `(`
 abbrev pub arguments_at : Inner → Function → Place → Reading → ℕ → Result Part KernelFault
-arguments_at inner (functions.Two op) place r used = pair_at inner r used >>= λ both. pair_end (functions.Two op) place both.0 both.1
-arguments_at inner (functions.Compare op) place r used = pair_at inner r used >>= λ both. pair_end (functions.Compare op) place both.0 both.1
-arguments_at inner (functions.Shift op) place r used = whole_at inner r used >>= λ operand. shift_end op place operand
-arguments_at inner (functions.Resize op to) place r used = whole_at inner r used >>= λ operand. resize_end op to place operand
+arguments_at inner (functions.Two op) place r used = two_at inner (functions.Two op) place r used
+arguments_at inner (functions.Compare op) place r used = two_at inner (functions.Compare op) place r used
+arguments_at inner (functions.Shift op) place r used = shift_at inner op place r used
+arguments_at inner (functions.Resize op to) place r used = resize_at inner op to place r used
 arguments_at inner functions.Select place r used = select_at inner place r used
 
 -- a call behind the name of its function

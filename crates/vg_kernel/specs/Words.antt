@@ -11,6 +11,7 @@ use Rattle.vg_scalar.specs.declared.shift.Shift.TheVariants.{Shl, Lshr, Ashr}
 use Rattle.vg_scalar.specs.declared.resize.Resize.TheVariants.{Sext, Zext, Trunc}
 use Rattle.vg_scalar.specs.declared.comparison.Comparison.TheVariants.{Eq, Slt, Ult}
 use Rattle.vg_text.specs.Byte.{is_name_text, is_digit}
+use Rattle.vg_text.specs.Number.{is_decimal}
 use Rattle.vg_text.specs.Words.{Spelled}
 use Rattle.vg_kernel.specs.declared.function.Function.{Function}
 use Rattle.vg_kernel.specs.declared.function.Function.TheVariants as functions
@@ -118,10 +119,10 @@ abbrev pub begins_digit : List ℕ → Bool
 begins_digit [] = false
 begins_digit (b ∷ bs) = is_digit b
 
--- a word with which an operand begins
+-- a word with which an operand begins; a hexadecimal number is none
 abbrev pub begins_operand : List ℕ → Bool
 begins_operand bytes =
-    bytes_eq bytes (codes "(") || bytes_eq bytes (codes "-") || begins_digit bytes || is_free bytes
+    bytes_eq bytes (codes "(") || bytes_eq bytes (codes "-") || is_decimal bytes || is_free bytes
     || is_some (function_named bytes) || is_some (width_behind (codes "load") bytes)
 
 -- a word with which a statement begins

@@ -1,10 +1,14 @@
-//! Reads an expression. A level says how tight the operators bind that may stand outside of calls and parentheses: 0 for
-//! none, 1 for `*` alone, and so on up to 5 for all. The room says how many nodes may stand below the root.
+//! Reads an expression. A level says how tight the operators bind that may stand outside of calls and
+//! parentheses: 0 for none, 1 for `*` alone, and so on up to 5 for all. The room says how many nodes may
+//! stand below the root.
+//!
+//! What reads an expression inside another is not inlined, since each depth would then hold the stack of all
+//! kinds of operands at once.
 
 ghost use Rattle.std.specs.Prelude.{◌≡◌, ◌≤◌, ◌+◌, IfOk};
 ghost use Rattle.std.specs.Option.{option_map};
 ghost use Rattle.vg_text.specs.Lexing.{reading, spelled_of};
-ghost use Rattle.vg_kernel.specs.Expressions.{operator_at, join_at, joined_at, level_at, expression_at, operand_at, named_at, call_at, pair_at};
+ghost use Rattle.vg_kernel.specs.Expressions.{operator_at, join_at, joined_at, level_at, expression_at, operand_at, named_at, call_at, pair_at, two_at, shift_at, resize_at, select_at};
 ghost use Rattle.vg_kernel.specs.Gives.{Gives};
 ghost use Rattle.vg_kernel.specs.Names.{AreFew};
 ghost use Rattle.vg_kernel.specs.Scanning.{scan_of, part_of, operator_view};
@@ -18,7 +22,8 @@ use crate::reading::{expect, next};
 use crate::scan::{Part, Scan};
 use crate::words::{begins_digit, function_named, is_free, level_of, operator_named, width_behind};
 use std::alloc::Global;
-use vg_scalar::TwoOp;
+use vg_base::Width;
+use vg_scalar::{Resize, Shift, TwoOp};
 use vg_text::byte::is_text;
 use vg_text::lexer::Word;
 use vg_text::{Lexer, Place};
@@ -35,6 +40,7 @@ pub(crate) struct Operator<'a> {
 }
 
 /// The next word, where it is an operator that binds as tight as this. A fault there is met when something takes the word.
+#[inline(never)]
 fn next_operator<'a>(level: u32, lexer: Lexer<'a>) -> Option<Operator<'a>>
     ensures { option_map operator_view result ≡ operator_at level (reading lexer.entry) }
 {
@@ -53,6 +59,7 @@ fn next_operator<'a>(level: u32, lexer: Lexer<'a>) -> Option<Operator<'a>>
 
 /// An expression of at most `room` nodes one below the other.
 #[cycle(expressions)]
+#[inline(never)]
 #[tactic(auto, unfolding(crate::specs::Expressions::expression_at))]
 pub(crate) fn expression<'a>(
     alloc: Global,
@@ -75,7 +82,6 @@ pub(crate) fn expression<'a>(
 
 /// An expression with `room` nodes below its root.
 #[cycle(expressions)]
-#[tactic(auto, unfolding(crate::specs::Expressions::level_at))]
 fn at_level<'a>(
     alloc: Global,
     names: &Names,
@@ -89,15 +95,21 @@ fn at_level<'a>(
     ensures read { Gives part_of result (level_at names.now (expression_at names.now room) room level (scan_of scan.entry)) }
     ensures deep { IfOk result (λ p. p.depth ≤ room + 1) }
 {
-    if level == 0 {
-        return operand(alloc, names, room, scan);
+    let mut left = operand(alloc, names, room, scan)?;
+    let mut done = 0;
+    'levels: while done < level {
+        match joined(alloc, names, room, done, left) {
+            Ok(next) => left = next,
+            Err(fault) => return Err(fault),
+        }
+        done += 1;
     }
-    let left = at_level(alloc, names, room, level - 1, scan)?;
-    joined(alloc, names, room, level - 1, left)
+    Ok(left)
 }
 
 /// Operators one level looser than this, and their right operands, as long as they follow.
 #[cycle(expressions)]
+#[inline(never)]
 #[tactic(auto, unfolding(crate::specs::Expressions::joined_at))]
 fn joined<'a>(
     alloc: Global,
@@ -140,6 +152,7 @@ fn joined<'a>(
 
 /// An operator and its right operand behind what stands on its left.
 #[cycle(expressions)]
+#[inline(never)]
 #[tactic(auto, unfolding(crate::specs::Expressions::join_at))]
 fn join<'a>(
     alloc: Global,
@@ -200,6 +213,7 @@ fn whole<'a>(
 
 /// An operand.
 #[cycle(expressions)]
+#[inline(never)]
 #[tactic(auto, unfolding(crate::specs::Expressions::operand_at, crate::specs::Expressions::parenthesised_at))]
 fn operand<'a>(
     alloc: Global,
@@ -237,6 +251,7 @@ fn operand<'a>(
 
 /// An operand that begins with this name.
 #[cycle(expressions)]
+#[inline(never)]
 #[tactic(auto, unfolding(crate::specs::Expressions::named_at))]
 fn named<'a>(
     alloc: Global,
@@ -267,6 +282,7 @@ fn named<'a>(
 
 /// Two expressions with a comma between.
 #[cycle(expressions)]
+#[inline(never)]
 #[tactic(auto, unfolding(crate::specs::Expressions::pair_at))]
 fn pair<'a>(
     alloc: Global,
@@ -287,9 +303,97 @@ fn pair<'a>(
     Ok((left, right))
 }
 
+/// The two operands of a function behind its name and `(`.
+#[cycle(expressions)]
+#[inline(never)]
+fn two<'a>(
+    alloc: Global,
+    names: &Names,
+    room: u32,
+    function: Function,
+    place: Place,
+    lexer: Lexer<'a>,
+    used: u32,
+) -> Result<Part<'a>, KernelFault>
+    requires few { AreFew names.now }
+    requires most { room ≤ 255 }
+    ensures read { Gives part_of result (two_at (expression_at names.now room) function place (reading lexer.entry) used) }
+    ensures deep { IfOk result (λ p. p.depth ≤ room + 1) }
+{
+    let (left, right) = pair(alloc, names, room, lexer, used)?;
+    pair_end(alloc, function, place, left, right)
+}
+
+/// The operand of a shift, and by how many places, behind its name and `(`.
+#[cycle(expressions)]
+#[inline(never)]
+fn shift<'a>(
+    alloc: Global,
+    names: &Names,
+    room: u32,
+    op: Shift,
+    place: Place,
+    lexer: Lexer<'a>,
+    used: u32,
+) -> Result<Part<'a>, KernelFault>
+    requires few { AreFew names.now }
+    requires most { room ≤ 255 }
+    ensures read { Gives part_of result (shift_at (expression_at names.now room) op place (reading lexer.entry) used) }
+    ensures deep { IfOk result (λ p. p.depth ≤ room + 1) }
+{
+    let operand = whole(alloc, names, room, lexer, used)?;
+    shift_end(alloc, op, place, operand)
+}
+
+/// The operand of a resize behind its name and `(`.
+#[cycle(expressions)]
+#[inline(never)]
+fn resize<'a>(
+    alloc: Global,
+    names: &Names,
+    room: u32,
+    op: Resize,
+    to: Width,
+    place: Place,
+    lexer: Lexer<'a>,
+    used: u32,
+) -> Result<Part<'a>, KernelFault>
+    requires few { AreFew names.now }
+    requires most { room ≤ 255 }
+    ensures read { Gives part_of result (resize_at (expression_at names.now room) op to place (reading lexer.entry) used) }
+    ensures deep { IfOk result (λ p. p.depth ≤ room + 1) }
+{
+    let operand = whole(alloc, names, room, lexer, used)?;
+    resize_end(alloc, op, to, place, operand)
+}
+
+/// The three operands of a choice behind its name and `(`.
+#[cycle(expressions)]
+#[inline(never)]
+#[tactic(auto, unfolding(crate::specs::Expressions::select_at))]
+fn select<'a>(
+    alloc: Global,
+    names: &Names,
+    room: u32,
+    place: Place,
+    lexer: Lexer<'a>,
+    used: u32,
+) -> Result<Part<'a>, KernelFault>
+    requires few { AreFew names.now }
+    requires most { room ≤ 255 }
+    ensures read { Gives part_of result (select_at (expression_at names.now room) place (reading lexer.entry) used) }
+    ensures deep { IfOk result (λ p. p.depth ≤ room + 1) }
+{
+    let condition = whole(alloc, names, room, lexer, used)?;
+    let comma = expect(b",", condition.scan.lexer)?;
+    let (left, right) = pair(alloc, names, room, comma, condition.scan.used)?;
+    select_end(alloc, place, condition, left, right)
+}
+
 /// A call behind the name of its function.
 #[cycle(expressions)]
-#[tactic(auto, unfolding(crate::specs::Expressions::call_at, crate::specs::Expressions::select_at))]
+#[inline(never)]
+#[tactic(auto, unfolding(crate::specs::Expressions::call_at))]
 fn call<'a>(
     alloc: Global,
     names: &Names,
@@ -306,27 +410,10 @@ fn call<'a>(
 {
     let opened = expect(b"(", lexer)?;
     match function {
-        Function::Two(_) => {
-            let (left, right) = pair(alloc, names, room, opened, used)?;
-            pair_end(alloc, function, place, left, right)
-        }
-        Function::Compare(_) => {
-            let (left, right) = pair(alloc, names, room, opened, used)?;
-            pair_end(alloc, function, place, left, right)
-        }
-        Function::Shift(op) => {
-            let operand = whole(alloc, names, room, opened, used)?;
-            shift_end(alloc, op, place, operand)
-        }
-        Function::Resize(op, to) => {
-            let operand = whole(alloc, names, room, opened, used)?;
-            resize_end(alloc, op, to, place, operand)
-        }
-        Function::Select => {
-            let condition = whole(alloc, names, room, opened, used)?;
-            let comma = expect(b",", condition.scan.lexer)?;
-            let (left, right) = pair(alloc, names, room, comma, condition.scan.used)?;
-            select_end(alloc, place, condition, left, right)
-        }
+        Function::Two(_) => two(alloc, names, room, function, place, opened, used),
+        Function::Compare(_) => two(alloc, names, room, function, place, opened, used),
+        Function::Shift(op) => shift(alloc, names, room, op, place, opened, used),
+        Function::Resize(op, to) => resize(alloc, names, room, op, to, place, opened, used),
+        Function::Select => select(alloc, names, room, place, opened, used),
     }
 }

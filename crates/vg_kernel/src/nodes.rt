@@ -54,6 +54,7 @@ fn common_width(left: &KExpr, right: &KExpr) -> Option<Width>
 }
 
 /// An operation or a comparison of two integers of one width.
+#[inline(never)]
 pub(crate) fn pair_node(
     alloc: Global,
     function: Function,
@@ -105,6 +106,7 @@ fn is_resize(op: Resize, to: Width, from: Width) -> bool
     }
 }
 
+#[inline(never)]
 fn resize_node(
     alloc: Global,
     op: Resize,
@@ -151,6 +153,7 @@ fn is_bit(expression: &KExpr) -> bool
     }
 }
 
+#[inline(never)]
 fn select_node(
     alloc: Global,
     place: Place,
@@ -181,6 +184,7 @@ fn select_node(
 }
 
 /// The parenthesis that closes a call, over operands of this depth.
+#[inline(never)]
 #[tactic(auto, unfolding(crate::specs::Expressions::closed_at))]
 fn closed<'a>(node: KExpr, depth: u32, lexer: Lexer<'a>, used: u32) -> Result<Part<'a>, KernelFault>
     requires { depth ≤ 256 }
@@ -196,6 +200,7 @@ fn closed<'a>(node: KExpr, depth: u32, lexer: Lexer<'a>, used: u32) -> Result<Pa
 }
 
 /// A function of two operands behind the second.
+#[inline(never)]
 #[tactic(auto, unfolding(crate::specs::Expressions::pair_end))]
 pub(crate) fn pair_end<'a>(
     alloc: Global,
@@ -223,6 +228,7 @@ pub(crate) fn pair_end<'a>(
 }
 
 /// A resize of an operand behind it.
+#[inline(never)]
 #[tactic(auto, unfolding(crate::specs::Expressions::resize_end))]
 pub(crate) fn resize_end<'a>(
     alloc: Global,
@@ -259,6 +265,7 @@ fn amount<'a>(width: Width, lexer: Lexer<'a>) -> Result<(u32, Lexer<'a>), Kernel
 }
 
 /// A shift of an operand behind it.
+#[inline(never)]
 #[tactic(auto, unfolding(crate::specs::Expressions::shift_end))]
 pub(crate) fn shift_end<'a>(
     alloc: Global,
@@ -286,6 +293,7 @@ pub(crate) fn shift_end<'a>(
 }
 
 /// A choice of three operands behind the last.
+#[inline(never)]
 #[tactic(auto, unfolding(crate::specs::Expressions::select_end))]
 pub(crate) fn select_end<'a>(
     alloc: Global,

@@ -57,6 +57,7 @@ fn type_behind(digits: &Word, word: &Word) -> Option<Width>
 }
 
 /// A literal: digits, which were read, and a type.
+#[inline(never)]
 #[tactic(auto, unfolding(crate::specs::Expressions::literal_at))]
 pub(crate) fn literal<'a>(
     negative: bool,
@@ -84,6 +85,7 @@ pub(crate) fn literal<'a>(
 }
 
 /// A literal behind `-`.
+#[inline(never)]
 pub(crate) fn negative<'a>(
     first: Place,
     lexer: Lexer<'a>,
@@ -97,6 +99,7 @@ pub(crate) fn negative<'a>(
 }
 
 /// A load behind its name.
+#[inline(never)]
 #[tactic(auto, unfolding(crate::specs::Expressions::load_at))]
 pub(crate) fn load<'a>(
     names: &Names,
@@ -117,6 +120,7 @@ pub(crate) fn load<'a>(
 }
 
 /// An operand where none may stand.
+#[inline(never)]
 pub(crate) fn too_deep<'a>(lexer: Lexer<'a>) -> Result<Part<'a>, KernelFault>
     ensures read { Gives part_of result (too_deep_at (reading lexer.entry)) }
     ensures never { IfOk result (λ p. p.depth ≤ 0) }

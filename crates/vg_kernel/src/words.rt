@@ -10,6 +10,7 @@ use vg_base::Width;
 use vg_scalar::{Comparison, Resize, Shift, TwoOp};
 use vg_text::byte::{is_digit, is_name_text, is_text};
 use vg_text::lexer::Word;
+use vg_text::number::is_decimal;
 
 /// The width that a word spells.
 fn width_of(bytes: &[u8]) -> Option<Width>
@@ -179,13 +180,13 @@ pub(crate) fn begins_digit(bytes: &[u8]) -> bool
     }
 }
 
-/// Whether an operand begins with this word.
+/// Whether an operand begins with this word. A hexadecimal number is none.
 pub(crate) fn begins_operand(bytes: &[u8]) -> bool
     ensures { result ≡ begins_operand bytes.now }
 {
     is_text(bytes, b"(")
         | is_text(bytes, b"-")
-        | begins_digit(bytes)
+        | is_decimal(bytes)
         | is_free(bytes)
         | is_function(bytes)
         | has_stem(b"load", bytes)

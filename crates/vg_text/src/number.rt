@@ -51,7 +51,8 @@ fn is_all_digits(text: &[u8]) -> bool
     text.iter().all(|byte| is_digit(*byte))
 }
 
-fn is_decimal(text: &[u8]) -> bool
+/// Whether a text is one or more decimal digits.
+pub fn is_decimal(text: &[u8]) -> bool
     ensures { result ≡ is_decimal text.now }
 {
     !text.is_empty() && is_all_digits(text)

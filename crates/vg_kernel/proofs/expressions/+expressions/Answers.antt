@@ -1,9 +1,10 @@
-use Rattle.std.proofs.Common.{◌≡◌, ℕ, suc, ◌+◌, Some, sym, ◌∙◌, ap, subst, arith, add-one}
+use Rattle.std.proofs.Common.{◌≡◌, ℕ, suc, ◌+◌, ◌-◌, Some, sym, ◌∙◌, ap, subst, arith, add-one}
+use Rattle.std.proofs.lemmas.Result.{err_from_is_err_and}
 use Rattle.vg_text.specs.Words.{Reading}
-use Rattle.vg_kernel.specs.Expressions.{Operator, operator_at, expression_at}
-use Rattle.vg_kernel.specs.Scanning.{part_of, operator_view}
+use Rattle.vg_kernel.specs.Expressions.{Inner, Operator, operator_at, level_at, expression_at}
+use Rattle.vg_kernel.specs.Scanning.{scan_of, part_of, operator_view}
 use Rattle.vg_kernel.specs.Gives.{Fails}
-use Rattle.vg_kernel.proofs.Joins.{joined-deep, joined-full, joined-more, joined-fails}
+use Rattle.vg_kernel.proofs.Joins.{joined-deep, joined-full, joined-more, joined-fails, level-more, level-fails, levels-fail, operand-fails, first_level}
 use Rattle.vg_kernel.proofs.expressions.+expressions.Goals as goal
 
 -- an operator that the code found one level looser
@@ -31,3 +32,30 @@ joined-returns-in-Some-next_operator-clause-read t c =
     let none : c.joins.joins ≡ 0 = omega arith in
     sym c.joins.invariant.read
     ∙ rw none (joined-full (expression_at c.args.names.now c.args.room) c.args.level c.args.room (part_of c.joins.left) (operator_view c.in-Some-next_operator.operator) (found c.args.level _ _ c.in-Some-next_operator.ensures))
+
+pub at_level-returns-in_err-left-clause-read : goal.at_level-returns-in_err-left-clause-read
+at_level-returns-in_err-left-clause-read t c =
+    let exit = err_from_is_err_and c.from_residual.result c.from_residual.ensures.1 in
+    rw (exit.1, exit.2) (operand-fails c.args.names.now (expression_at c.args.names.now c.args.room) c.args.room c.args.level (scan_of c.args.scan) c.in_err-left.field-0.0 c.in_err-left.ensures.read)
+
+pub at_level-levels-init : goal.at_level-levels-init
+at_level-levels-init t c = record {
+  some = omega arith;
+  read = first_level c.args.names.now (expression_at c.args.names.now c.args.room) c.args.room (scan_of c.args.scan) ∙ c.in_ok-left.ensures.read;
+  shallow = c.in_ok-left.ensures.deep;
+}
+
+pub at_level-returns-in-Err-clause-read : goal.at_level-returns-in-Err-clause-read
+at_level-returns-in-Err-clause-read t c =
+    let inner = expression_at c.args.names.now c.args.room in
+    let above = c.args.level - suc c.levels.done in
+    let all : above + suc c.levels.done ≡ c.args.level = omega (arith, c.levels-test.true) in
+    rw all at (levels-fail c.args.names.now inner c.args.room above (suc c.levels.done) (scan_of c.args.scan) c.in-Err.fault
+    (level-fails c.args.names.now inner c.args.room c.levels.done (scan_of c.args.scan) (part_of c.levels.left) c.in-Err.fault c.levels.invariant.read c.in-Err.ensures.read))
+
+pub at_level-levels-preserved : goal.at_level-levels-preserved
+at_level-levels-preserved t c = record {
+  some = omega (arith, c.levels-test.true);
+  read = rw (add-one c.levels.done) (level-more c.args.names.now (expression_at c.args.names.now c.args.room) c.args.room c.levels.done (scan_of c.args.scan) (part_of c.levels.left) (part_of c.in-Ok.next) c.levels.invariant.read c.in-Ok.ensures.read);
+  shallow = c.in-Ok.ensures.deep;
+}
