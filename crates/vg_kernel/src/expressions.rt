@@ -8,7 +8,7 @@
 ghost use Rattle.std.specs.Prelude.{◌≡◌, ◌≤◌, ◌+◌, IfOk};
 ghost use Rattle.std.specs.Option.{option_map};
 ghost use Rattle.vg_text.specs.Lexing.{reading, spelled_of};
-ghost use Rattle.vg_kernel.specs.Expressions.{operator_at, join_at, joined_at, level_at, expression_at, operand_at, named_at, call_at, pair_at, two_at, shift_at, resize_at, select_at};
+ghost use Rattle.vg_kernel.specs.Expressions.{operator_at, join_at, joined_at, level_at, expression_at, operand_at, named_at, call_at, two_at, shift_at, resize_at, select_at};
 ghost use Rattle.vg_kernel.specs.Gives.{Gives};
 ghost use Rattle.vg_kernel.specs.Names.{AreFew};
 ghost use Rattle.vg_kernel.specs.Scanning.{scan_of, part_of, operator_view};
@@ -98,10 +98,8 @@ fn at_level<'a>(
     let mut left = operand(alloc, names, room, scan)?;
     let mut done = 0;
     'levels: while done < level {
-        match joined(alloc, names, room, done, left) {
-            Ok(next) => left = next,
-            Err(fault) => return Err(fault),
-        }
+        let next = joined(alloc, names, room, done, left)?;
+        left = next;
         done += 1;
     }
     Ok(left)
@@ -196,6 +194,7 @@ fn join<'a>(
 
 /// A whole expression, which a parenthesis or a comma ends.
 #[cycle(expressions)]
+#[inline(always)]
 fn whole<'a>(
     alloc: Global,
     names: &Names,
@@ -280,32 +279,10 @@ fn named<'a>(
     }
 }
 
-/// Two expressions with a comma between.
-#[cycle(expressions)]
-#[inline(never)]
-#[tactic(auto, unfolding(crate::specs::Expressions::pair_at))]
-fn pair<'a>(
-    alloc: Global,
-    names: &Names,
-    room: u32,
-    lexer: Lexer<'a>,
-    used: u32,
-) -> Result<(Part<'a>, Part<'a>), KernelFault>
-    requires few { AreFew names.now }
-    requires most { room ≤ 255 }
-    ensures read { Gives (λ x. (part_of x.0, part_of x.1)) result (pair_at (expression_at names.now room) (reading lexer.entry) used) }
-    ensures left { IfOk result (λ x. x.0.depth ≤ room) }
-    ensures right { IfOk result (λ x. x.1.depth ≤ room) }
-{
-    let left = whole(alloc, names, room, lexer, used)?;
-    let comma = expect(b",", left.scan.lexer)?;
-    let right = whole(alloc, names, room, comma, left.scan.used)?;
-    Ok((left, right))
-}
-
 /// The two operands of a function behind its name and `(`.
 #[cycle(expressions)]
 #[inline(never)]
+#[tactic(auto, unfolding(crate::specs::Expressions::pair_at))]
 fn two<'a>(
     alloc: Global,
     names: &Names,
@@ -320,7 +297,9 @@ fn two<'a>(
     ensures read { Gives part_of result (two_at (expression_at names.now room) function place (reading lexer.entry) used) }
     ensures deep { IfOk result (λ p. p.depth ≤ room + 1) }
 {
-    let (left, right) = pair(alloc, names, room, lexer, used)?;
+    let left = whole(alloc, names, room, lexer, used)?;
+    let comma = expect(b",", left.scan.lexer)?;
+    let right = whole(alloc, names, room, comma, left.scan.used)?;
     pair_end(alloc, function, place, left, right)
 }
 
@@ -370,7 +349,7 @@ fn resize<'a>(
 /// The three operands of a choice behind its name and `(`.
 #[cycle(expressions)]
 #[inline(never)]
-#[tactic(auto, unfolding(crate::specs::Expressions::select_at))]
+#[tactic(auto, unfolding(crate::specs::Expressions::select_at, crate::specs::Expressions::pair_at))]
 fn select<'a>(
     alloc: Global,
     names: &Names,
@@ -386,7 +365,9 @@ fn select<'a>(
 {
     let condition = whole(alloc, names, room, lexer, used)?;
     let comma = expect(b",", condition.scan.lexer)?;
-    let (left, right) = pair(alloc, names, room, comma, condition.scan.used)?;
+    let left = whole(alloc, names, room, comma, condition.scan.used)?;
+    let comma = expect(b",", left.scan.lexer)?;
+    let right = whole(alloc, names, room, comma, left.scan.used)?;
     select_end(alloc, place, condition, left, right)
 }
 
@@ -410,8 +391,9 @@ fn call<'a>(
 {
     let opened = expect(b"(", lexer)?;
     match function {
-        Function::Two(_) => two(alloc, names, room, function, place, opened, used),
-        Function::Compare(_) => two(alloc, names, room, function, place, opened, used),
+        Function::Two(_) | Function::Compare(_) => {
+            two(alloc, names, room, function, place, opened, used)
+        }
         Function::Shift(op) => shift(alloc, names, room, op, place, opened, used),
         Function::Resize(op, to) => resize(alloc, names, room, op, to, place, opened, used),
         Function::Select => select(alloc, names, room, place, opened, used),

@@ -45,17 +45,18 @@ at_level-levels-init t c = record {
   shallow = c.in_ok-left.ensures.deep;
 }
 
-pub at_level-returns-in-Err-clause-read : goal.at_level-returns-in-Err-clause-read
-at_level-returns-in-Err-clause-read t c =
+pub at_level-returns-in_err-next-clause-read : goal.at_level-returns-in_err-next-clause-read
+at_level-returns-in_err-next-clause-read t c =
+    let exit = err_from_is_err_and c.from_residual-in_err-next.result c.from_residual-in_err-next.ensures.1 in
     let inner = expression_at c.args.names.now c.args.room in
     let above = c.args.level - suc c.levels.done in
     let all : above + suc c.levels.done ≡ c.args.level = omega (arith, c.levels-test.true) in
-    rw all at (levels-fail c.args.names.now inner c.args.room above (suc c.levels.done) (scan_of c.args.scan) c.in-Err.fault
-    (level-fails c.args.names.now inner c.args.room c.levels.done (scan_of c.args.scan) (part_of c.levels.left) c.in-Err.fault c.levels.invariant.read c.in-Err.ensures.read))
+    rw (exit.1, exit.2) (rw all at (levels-fail c.args.names.now inner c.args.room above (suc c.levels.done) (scan_of c.args.scan) c.in_err-next.field-0.0
+    (level-fails c.args.names.now inner c.args.room c.levels.done (scan_of c.args.scan) (part_of c.levels.left) c.in_err-next.field-0.0 c.levels.invariant.read c.in_err-next.ensures.read)))
 
 pub at_level-levels-preserved : goal.at_level-levels-preserved
 at_level-levels-preserved t c = record {
   some = omega (arith, c.levels-test.true);
-  read = rw (add-one c.levels.done) (level-more c.args.names.now (expression_at c.args.names.now c.args.room) c.args.room c.levels.done (scan_of c.args.scan) (part_of c.levels.left) (part_of c.in-Ok.next) c.levels.invariant.read c.in-Ok.ensures.read);
-  shallow = c.in-Ok.ensures.deep;
+  read = rw (add-one c.levels.done) (level-more c.args.names.now (expression_at c.args.names.now c.args.room) c.args.room c.levels.done (scan_of c.args.scan) (part_of c.levels.left) (part_of c.in_ok-next.next) c.levels.invariant.read c.in_ok-next.ensures.read);
+  shallow = c.in_ok-next.ensures.deep;
 }

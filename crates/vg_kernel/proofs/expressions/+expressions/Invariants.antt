@@ -27,9 +27,6 @@ decreases-named l = 16 * l.room + 6
 abbrev pub decreases-operand : goal.decreases-operand
 decreases-operand l = 16 * l.room + 7
 
-abbrev pub decreases-pair : goal.decreases-pair
-decreases-pair l = 16 * l.room + 3
-
 abbrev pub decreases-resize : goal.decreases-resize
 decreases-resize l = 16 * l.room + 4
 
