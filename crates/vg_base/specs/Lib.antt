@@ -3,6 +3,7 @@ pub mod Bind
 pub mod Bits
 pub mod Gives
 pub mod Memory
+pub mod Offset
 pub mod Number
 pub mod Trap
 pub mod Width

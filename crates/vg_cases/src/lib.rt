@@ -25,3 +25,5 @@ mod kernel_texts;
 mod program_cases;
 #[cfg(test)]
 mod run_cases;
+#[cfg(test)]
+mod token_cases;

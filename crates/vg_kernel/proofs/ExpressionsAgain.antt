@@ -16,6 +16,7 @@ use Rattle.vg_text.specs.declared.place.Place.{Place}
 use Rattle.vg_text.specs.Number.{decimal_value}
 use Rattle.vg_text.specs.Words.{Reading, Spelled}
 use Rattle.vg_text.specs.Token.{Lexemes, token, finish, fault}
+use Rattle.vg_text.specs.Byte.{begins_digit}
 use Rattle.vg_kernel.specs.declared.fault.KernelFault.{KernelFault}
 use Rattle.vg_kernel.specs.declared.function.Function.{Function}
 use Rattle.vg_kernel.specs.declared.function.Function.TheVariants as functions
@@ -23,12 +24,12 @@ use Rattle.vg_kernel.specs.declared.given.Given.{Given}
 use Rattle.vg_kernel.specs.declared.given.Given.TheVariants as given
 use Rattle.vg_kernel.specs.Cost.{expression_cost}
 use Rattle.vg_kernel.specs.Expressions.{Scan, Part, Inner, Operator, load_at, parenthesised_at, pair_at, pair_end, resize_end, amount_at, shift_end, select_end, select_at, arguments_at, call_at, named_at, operand_at, operator_word, operator_at, join_at, joined_at, level_at, expression_at}
-use Rattle.vg_kernel.specs.Grammar.{Is, IsValue, IsLiteral, IsAddress, IsExpression, name, number, negative, read, parenthesised, pair, moved, resized, chosen, tighter, joined, value_given}
+use Rattle.vg_kernel.specs.Grammar.{Is, IsValue, IsLiteral, SpellsAddress, IsExpression, name, number, negative, read, parenthesised, pair, moved, resized, chosen, tighter, joined, value_given}
 use Rattle.vg_kernel.specs.Names.{Names, given_as}
 use Rattle.vg_kernel.specs.Nodes.{width_in, pair_node, resize_node, select_node}
 use Rattle.vg_kernel.specs.Script.{Words, script_from, script_left}
 use Rattle.vg_kernel.specs.Tree.{Expression, argument, assigned, literal, load, shift}
-use Rattle.vg_kernel.specs.Words.{sized, level_of, operator_named, plain_named, function_named, is_reserved, is_free, begins_digit, width_behind}
+use Rattle.vg_kernel.specs.Words.{sized, level_of, operator_named, plain_named, function_named, is_reserved, is_free, width_behind}
 use Rattle.vg_kernel.proofs.Joins.{joined-none, joined-step}
 use Rattle.vg_kernel.proofs.OperandsFound.{at, pair-cost, resize-cost, select-cost}
 use Rattle.vg_kernel.proofs.OperandsAgain.{Gets, counted-again, judged-again, closed-again, free-no_digit, decimal-digit, load-named, value-again, literal-again, pair-arguments, named-again, call-again}
@@ -218,7 +219,7 @@ negative-opens names sign digits type w n is l room s behind deep left few loose
 no_sign : (v : Spelled) (text : List ℕ) → Is v text → bytes_eq text (codes "+") ≡ false → bytes_eq text (codes "-") ≡ false → IsNoSign v
 no_sign v text is a b = (ap (λ (t : List ℕ). bytes_eq t (codes "+")) is ∙ a, ap (λ (t : List ℕ). bytes_eq t (codes "-")) is ∙ b)
 
-load-reads : (names : Names) (opening closing : Spelled) (ws : Words) (w : Width) (a : Address) (place : Place) (r : Reading) (used : ℕ) (behind : Words) → Is opening (codes "(") → IsAddress names ws a → Is closing (codes ")")
+load-reads : (names : Names) (opening closing : Spelled) (ws : Words) (w : Width) (a : Address) (place : Place) (r : Reading) (used : ℕ) (behind : Words) → Is opening (codes "(") → SpellsAddress names ws a → Is closing (codes ")")
     → used < 8192 → script_left r ≡ Some (opening ∷ ((ws ++ closing ∷ []) ++ behind)) → Gets (load_at names w place r used) (load w a) 1 (used + 1) behind
 unfolding load_at
 load-reads names opening closing ws w a place r used behind i j k few left =
@@ -228,7 +229,7 @@ load-reads names opening closing ws w a place r used behind i j k few left =
     let c = expect-again (codes ")") f.0 closing behind k f.2 in
     (c.0, rw (m, o.1, f.1, c.1) refl, c.2)
 
-load-opens : (names : Names) (word opening closing : Spelled) (ws : Words) (w : Width) (a : Address) → Is word (sized (codes "load") w) → Is opening (codes "(") → IsAddress names ws a → Is closing (codes ")")
+load-opens : (names : Names) (word opening closing : Spelled) (ws : Words) (w : Width) (a : Address) → Is word (sized (codes "load") w) → Is opening (codes "(") → SpellsAddress names ws a → Is closing (codes ")")
     → Opens names 0 1 (word ∷ opening ∷ (ws ++ closing ∷ [])) (load w a)
 unfolding named_at is_reserved plain_named
 load-opens names word opening closing ws w a is i j k room s behind deep left few loose =

@@ -15,6 +15,7 @@ use Rattle.vg_scalar.specs.declared.resize.Resize.{Resize}
 use Rattle.vg_text.specs.declared.place.Place.{Place}
 use Rattle.vg_text.specs.Number.{decimal_value}
 use Rattle.vg_text.specs.Words.{Reading, Spelled, word_at}
+use Rattle.vg_text.specs.Byte.{begins_digit}
 use Rattle.vg_kernel.specs.declared.fault.KernelFault.TheVariants.{Shape, ShiftRange, NestingTooDeep}
 use Rattle.vg_kernel.specs.declared.function.Function.{Function}
 use Rattle.vg_kernel.specs.declared.function.Function.TheVariants as functions
@@ -27,7 +28,7 @@ use Rattle.vg_kernel.specs.Names.{Names, given_as}
 use Rattle.vg_kernel.specs.Nodes.{width_in, pair_node, resize_node, select_node}
 use Rattle.vg_kernel.specs.Reader.{next_at, expect_at}
 use Rattle.vg_kernel.specs.Tree.{Expression, argument, assigned, literal, shift}
-use Rattle.vg_kernel.specs.Words.{sized, width_behind, level_of, operator_named, plain_named, function_named, is_free, begins_digit}
+use Rattle.vg_kernel.specs.Words.{sized, width_behind, level_of, operator_named, plain_named, function_named, is_free}
 use Rattle.vg_kernel.proofs.Scripts.{Spells, Spells-append, same_text, ok_once, fault-some, next-found, tested-found, expect-found, true_fact}
 use Rattle.vg_kernel.proofs.Sizes.{width_behind-found}
 use Rattle.vg_kernel.proofs.PlacesFound.{decimal-some}

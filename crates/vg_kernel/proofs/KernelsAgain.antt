@@ -15,7 +15,7 @@ use Rattle.vg_kernel.specs.declared.parameter.KParamKind.{KParamKind}
 use Rattle.vg_kernel.specs.declared.parameter.KParamKind.TheVariants.{Pointer, Integer}
 use Rattle.vg_kernel.specs.Cost.{expression_cost, uses_of}
 use Rattle.vg_kernel.specs.Expressions.{Scan}
-use Rattle.vg_kernel.specs.Grammar.{Is, IsAddress, IsWhole, IsStatement, AreStatements, IsKind, IsParameter, AreMore, AreParameters, IsKernel, IsKernelText}
+use Rattle.vg_kernel.specs.Grammar.{Is, SpellsAddress, IsWhole, IsStatement, AreStatements, IsKind, IsParameter, AreMore, AreParameters, IsKernel, IsKernelText}
 use Rattle.vg_kernel.specs.Names.{Names, given_as, names_of, with_name}
 use Rattle.vg_kernel.specs.Nodes.{width_in}
 use Rattle.vg_kernel.specs.Reader.{next_at}
@@ -89,7 +89,7 @@ store_end-again w to e d used r closing end rest i j left =
     let f = expect-again (codes ";") c.0 end rest j c.2 in
     (f.0, rw (c.1, f.1) refl, f.2)
 
-store-again : (names : Names) (word opening comma closing end : Spelled) (to from : Words) (w : Width) (a : Address) (e : Expression) (r : Reading) (used : ℕ) (rest : Words) → Is word (sized (codes "store") w) → Is opening (codes "(") → IsAddress names to a
+store-again : (names : Names) (word opening comma closing end : Spelled) (to from : Words) (w : Width) (a : Address) (e : Expression) (r : Reading) (used : ℕ) (rest : Words) → Is word (sized (codes "store") w) → Is opening (codes "(") → SpellsAddress names to a
     → Is comma (codes ",") → IsWhole names from e → Is closing (codes ")") → Is end (codes ";") → width_in e ≡ Some w → script_left r ≡ Some (word ∷ opening ∷ (to ++ comma ∷ (from ++ closing ∷ end ∷ rest))) → used + expression_cost e ≤ 8192
     → StepRead names r used (store w a e) names rest
 unfolding statement_at store_at

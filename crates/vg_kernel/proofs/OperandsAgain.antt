@@ -12,7 +12,7 @@ use Rattle.vg_base.specs.declared.width.Width.{Width}
 use Rattle.vg_base.specs.declared.width.Width.TheVariants.{W8, W16, W32, W64}
 use Rattle.vg_scalar.specs.declared.resize.Resize.TheVariants.{Sext, Zext, Trunc}
 use Rattle.vg_text.specs.declared.place.Place.{Place}
-use Rattle.vg_text.specs.Byte.{is_name_text, is_letter, is_digit}
+use Rattle.vg_text.specs.Byte.{begins_digit, is_name_text, is_letter, is_digit}
 use Rattle.vg_text.specs.Number.{decimal_value, is_decimal}
 use Rattle.vg_text.specs.Words.{Reading, Spelled}
 use Rattle.vg_kernel.specs.declared.fault.KernelFault.{KernelFault}
@@ -27,7 +27,7 @@ use Rattle.vg_kernel.specs.Nodes.{pair_node}
 use Rattle.vg_kernel.specs.Reader.{next_at}
 use Rattle.vg_kernel.specs.Script.{Words, script_left}
 use Rattle.vg_kernel.specs.Tree.{Expression, argument, assigned, literal}
-use Rattle.vg_kernel.specs.Words.{sized, width_behind, is_reserved, is_free, first_of, plain_named, sized_named, function_named, begins_digit}
+use Rattle.vg_kernel.specs.Words.{sized, width_behind, is_reserved, is_free, first_of, plain_named, sized_named, function_named}
 use Rattle.vg_kernel.proofs.OperandsFound.{at}
 use Rattle.vg_kernel.proofs.Scripts.{same_text}
 use Rattle.vg_kernel.proofs.Sizes.{width_behind-again, width_behind-found}

@@ -11,7 +11,7 @@ use Rattle.vg_text.specs.Words.{Reading, Spelled}
 use Rattle.vg_kernel.specs.declared.fault.KernelFault.TheVariants.{Shape, LiteralRange}
 use Rattle.vg_kernel.specs.declared.given.Given.{Given}
 use Rattle.vg_kernel.specs.declared.given.Given.TheVariants as given
-use Rattle.vg_kernel.specs.Grammar.{IsPointer, IsDistance, IsOffset, IsAddress}
+use Rattle.vg_kernel.specs.Grammar.{IsPointer, IsDistance, SpellsOffset, SpellsAddress}
 use Rattle.vg_kernel.specs.Names.{Names, given_as}
 use Rattle.vg_kernel.specs.Reader.{next_at, name_at, pointer_of, offset_at, address_at}
 use Rattle.vg_kernel.specs.Script.{Words}
@@ -46,14 +46,14 @@ unfolding sign_of
 sign-some false e = cc
 sign-some true e = cc
 
-by_sign : (negative : Bool) (sign digits : Spelled) (offset : ℤ) → sign.bytes ≡ sign_of negative → IsDistance negative digits offset → IsOffset sign digits offset
+by_sign : (negative : Bool) (sign digits : Spelled) (offset : ℤ) → sign.bytes ≡ sign_of negative → IsDistance negative digits offset → SpellsOffset sign digits offset
 unfolding sign_of
 by_sign false sign digits offset s d = inl (s, d)
 by_sign true sign digits offset s d = inr (s, d)
 
 -- a pointer, a sign and a distance
 signed : (names : Names) (r : Reading) (x : Address × Reading) (n : Spelled × Reading) (k : ℕ) (s : Spelled × Reading) (negative : Bool)
-    → IsPointer names n.0 k → Spells r (n.0 ∷ []) n.1 → next_at n.1 ≡ Ok s → s.0.bytes ≡ sign_of negative → offset_at negative k s.1 ≡ Ok x → (ws : Words) × IsAddress names ws x.0 × Spells r ws x.1
+    → IsPointer names n.0 k → Spells r (n.0 ∷ []) n.1 → next_at n.1 ≡ Ok s → s.0.bytes ≡ sign_of negative → offset_at negative k s.1 ≡ Ok x → (ws : Words) × SpellsAddress names ws x.0 × Spells r ws x.1
 signed names r x n k s negative pointer name next same e =
     let sign = next-found n.1 s next (λ none. sign-some negative (sym same ∙ none)) in
     let o = offset-found negative k s.1 x e in (
@@ -70,7 +70,7 @@ pointer-found (Some (given.Assigned j t)) place k e = cc
 pointer-found None place k e = cc
 
 -- where an access begins
-pub address-found : (names : Names) (r : Reading) (x : Address × Reading) → address_at names r ≡ Ok x → (ws : Words) × IsAddress names ws x.0 × Spells r ws x.1
+pub address-found : (names : Names) (r : Reading) (x : Address × Reading) → address_at names r ≡ Ok x → (ws : Words) × SpellsAddress names ws x.0 × Spells r ws x.1
 unfolding address_at sign_of
 address-found names r x e =
     let n = bind_ok (name_at r) _ e in
@@ -82,7 +82,7 @@ address-found names r x e =
       | inl plus ↦ signed names r x n.0 k.0 s.0 false pointer name.1 s.1 (same_text s.0.0.bytes (codes "+") plus.0) plus.1
       | inr more ↦ elim (either_way (bytes_eq s.0.0.bytes (codes "-")) (offset_at true k.0 s.0.1) _ more.1) [
         | inl minus ↦ signed names r x n.0 k.0 s.0 true pointer name.1 s.1 (same_text s.0.0.bytes (codes "-") minus.0) minus.1
-        | inr plain ↦ subst (λ (q : Address × Reading). (ws : Words) × IsAddress names ws q.0 × Spells r ws q.1) (ok_once (record { pointer = k.0; offset = pos 0 }, n.0.1) x plain.1)
+        | inr plain ↦ subst (λ (q : Address × Reading). (ws : Words) × SpellsAddress names ws q.0 × Spells r ws q.1) (ok_once (record { pointer = k.0; offset = pos 0 }, n.0.1) x plain.1)
             (n.0.0 ∷ [], (pointer, refl), name.1)
       ]
     ]

@@ -17,7 +17,7 @@ use Rattle.vg_kernel.specs.declared.fault.KernelFault.TheVariants.{Shape, Duplic
 use Rattle.vg_kernel.specs.declared.given.Given.{Given}
 use Rattle.vg_kernel.specs.Cost.{uses_of}
 use Rattle.vg_kernel.specs.Expressions.{Scan, Part}
-use Rattle.vg_kernel.specs.Grammar.{Is, IsAddress, IsStatement, AreStatements}
+use Rattle.vg_kernel.specs.Grammar.{Is, SpellsAddress, IsStatement, AreStatements}
 use Rattle.vg_kernel.specs.Names.{Names, given_as, with_name}
 use Rattle.vg_kernel.specs.Nodes.{width_in, one_width}
 use Rattle.vg_kernel.specs.Reader.{next_at, expect_at, address_at}
@@ -116,7 +116,7 @@ store_end-found w to v x e =
 
 -- a store of parts that were found
 store-whole : (names : Names) (r0 r o t m : Reading) (word opening comma : Spelled) (w : Width) (to : Address) (ws : Words) (used : ℕ) (v : Part) (x : Statement × Scan) → Is word (sized (codes "store") w) → Spells r0 (word ∷ []) r
-    → Is opening (codes "(") → Spells r (opening ∷ []) o → IsAddress names ws to → Spells o ws t → Is comma (codes ",") → Spells t (comma ∷ []) m → Found names 256 5 (at m used) v → width_in v.expression ≡ Some w → StoreEnd w to v x
+    → Is opening (codes "(") → Spells r (opening ∷ []) o → SpellsAddress names ws to → Spells o ws t → Is comma (codes ",") → Spells t (comma ∷ []) m → Found names 256 5 (at m used) v → width_in v.expression ≡ Some w → StoreEnd w to v x
     → FoundStep names r0 used (record { statement = x.0; names = names; scan = x.1 })
 store-whole names r0 r o t m word opening comma w to ws used v x is first i si place sp l sl f width z =
     let tail = f.words ++ z.closing ∷ z.end ∷ [] in

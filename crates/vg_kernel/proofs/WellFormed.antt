@@ -7,6 +7,7 @@ use Rattle.std.specs.Str.{bytes_eq}
 use Rattle.std.proofs.lemmas.Bool.{ltb-true, eqb-true}
 use Rattle.std.proofs.lemmas.List.{map-append}
 use Rattle.std.proofs.lemmas.Nat.{pow_pos}
+use Rattle.vg_base.specs.Offset.{IsOffset, IsAddress}
 use Rattle.vg_base.specs.Trap.{◌>>=◌}
 use Rattle.vg_base.proofs.Bind.{either_way}
 use Rattle.vg_base.specs.declared.address.Address.{Address}
@@ -28,7 +29,7 @@ use Rattle.vg_kernel.specs.Names.{AssignedName, Names, is_pointer, given_of, par
 use Rattle.vg_kernel.specs.Nodes.{width_of_type, width_in, one_width, common_width, pair_node, is_resize, resize_node, is_bit, select_node}
 use Rattle.vg_kernel.specs.Script.{Words}
 use Rattle.vg_kernel.specs.Tree.{Expression, argument, assigned, two, resize, compare, select, Statement, assign, store, Tree, type_of, gives}
-use Rattle.vg_kernel.specs.WellFormed.{pointers, integer_widths, IsOffset, IsAddress, IsExpression, depth, IsStatement, AreStatements, IsWellFormed}
+use Rattle.vg_kernel.specs.WellFormed.{pointers, integer_widths, IsExpression, depth, IsStatement, AreStatements, IsWellFormed}
 use Rattle.vg_kernel.specs.Words.{is_free, first_of, offset_of, literal_of}
 use Rattle.vg_kernel.proofs.StatementsFound.{width-same}
 
@@ -140,7 +141,7 @@ offset_of-fits false n offset e = elim (either_way (nat_lt n (2 ^ 31)) (Some (po
 ]
 
 -- where an access begins
-address-well_formed : (names : Names) (ws : Words) (a : Address) → grammar.IsAddress names ws a → IsAddress names.params a
+address-well_formed : (names : Names) (ws : Words) (a : Address) → grammar.SpellsAddress names ws a → IsAddress (length (pointers names.params)) a
 unfolding IsThere
 address-well_formed names [] a is = absurd is
 address-well_formed names (p ∷ []) a is = record { pointer = given-there names p.bytes (given.Pointer a.pointer) is.0.1; offset = subst IsOffset (sym is.1) (omega arith) }

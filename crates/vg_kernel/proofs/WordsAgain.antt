@@ -8,7 +8,7 @@ use Rattle.vg_base.specs.declared.address.Address.{Address}
 use Rattle.vg_text.specs.Token.{Lexemes, token, finish, fault}
 use Rattle.vg_text.specs.Words.{Reading, Spelled, word_at, word_from}
 use Rattle.vg_kernel.specs.declared.fault.KernelFault.{KernelFault}
-use Rattle.vg_kernel.specs.Grammar.{IsPointer, IsDistance, IsOffset, IsAddress}
+use Rattle.vg_kernel.specs.Grammar.{IsPointer, IsDistance, SpellsOffset, SpellsAddress}
 use Rattle.vg_kernel.specs.Names.{Names}
 use Rattle.vg_kernel.specs.Reader.{next_at, expect_at, end_at, name_at, offset_at, address_at}
 use Rattle.vg_kernel.specs.Script.{Words, script_from, script_left}
@@ -81,7 +81,7 @@ abbrev pub IsNoSign : Spelled → Type 0
 IsNoSign v = (bytes_eq v.bytes (codes "+") ≡ false) × (bytes_eq v.bytes (codes "-") ≡ false)
 
 -- a pointer, a sign and a distance
-signed-again : (names : Names) (p sign digits : Spelled) (a : Address) (r : Reading) (ws : Words) → IsPointer names p a.pointer → IsOffset sign digits a.offset → script_left r ≡ Some (p ∷ sign ∷ digits ∷ ws) → Reads (address_at names r) a ws
+signed-again : (names : Names) (p sign digits : Spelled) (a : Address) (r : Reading) (ws : Words) → IsPointer names p a.pointer → SpellsOffset sign digits a.offset → script_left r ≡ Some (p ∷ sign ∷ digits ∷ ws) → Reads (address_at names r) a ws
 unfolding address_at
 signed-again names p sign digits a r ws pointer offset e =
     let n = name-again p r (sign ∷ digits ∷ ws) pointer.0 e in
@@ -107,7 +107,7 @@ plain-again names p a r v vs pointer offset none e =
     (n.0, rw (n.1, pointer.1, s.1, none.0, none.1, ← offset) refl, n.2)
 
 -- where an access begins
-pub address-again : (names : Names) (ws : Words) (a : Address) (r : Reading) (v : Spelled) (vs : Words) → IsAddress names ws a → IsNoSign v → script_left r ≡ Some (ws ++ v ∷ vs) → Reads (address_at names r) a (v ∷ vs)
+pub address-again : (names : Names) (ws : Words) (a : Address) (r : Reading) (v : Spelled) (vs : Words) → SpellsAddress names ws a → IsNoSign v → script_left r ≡ Some (ws ++ v ∷ vs) → Reads (address_at names r) a (v ∷ vs)
 address-again names [] a r v vs is none e = absurd is
 address-again names (p ∷ []) a r v vs is none e = plain-again names p a r v vs is.0 is.1 none e
 address-again names (p ∷ s ∷ []) a r v vs is none e = absurd is

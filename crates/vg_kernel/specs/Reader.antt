@@ -1,5 +1,6 @@
--- Reading a kernel from left to right, word by word: single words and places. Each function reads a part at the front of
--- what is left and gives it with what is left behind it, or the first fault that it meets.
+-- Reading a kernel from left to right, word by word: single words and places. Each function reads a
+-- part at the front of what is left and gives it with what is left behind it, or the first fault
+-- that it meets.
 use Rattle.std.specs.Prelude.{ℕ, Bool, true, false, List, Option, Some, None, Result, Ok, Err, pos, codes, if◌then◌else◌}
 use Rattle.std.specs.Str.{bytes_eq}
 use Rattle.vg_base.specs.Bind.{◌>>=◌, or_fault}
@@ -26,7 +27,8 @@ next_at r = or_token (word_at r)
 
 -- this very word
 abbrev pub expect_at : List ℕ → Reading → Result Reading KernelFault
-expect_at text r = next_at r >>= λ w. if bytes_eq w.0.bytes text then Ok w.1 else Err (Shape w.0.place)
+expect_at text r =
+    next_at r >>= λ w. if bytes_eq w.0.bytes text then Ok w.1 else Err (Shape w.0.place)
 
 -- the end
 abbrev pub end_at : Reading → Result Reading KernelFault
@@ -38,7 +40,9 @@ name_at r = next_at r >>= λ w. if is_free w.0.bytes then Ok w else Err (Shape w
 
 -- a stem and a width
 abbrev pub sized_at : List ℕ → Reading → Result (Width × Reading) KernelFault
-sized_at stem r = next_at r >>= λ w. or_fault (width_behind stem w.0.bytes) (Shape w.0.place) >>= λ width. Ok (width, w.1)
+sized_at stem r =
+    next_at r >>= λ w.
+    or_fault (width_behind stem w.0.bytes) (Shape w.0.place) >>= λ width. Ok (width, w.1)
 
 -- the pointer that a name at this place stands for
 abbrev pub pointer_of : Option Given → Place → Result ℕ KernelFault

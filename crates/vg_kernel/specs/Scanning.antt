@@ -13,7 +13,8 @@ abbrev pub scan_of : code_scan.Scan → Scan
 scan_of s = record { reading = reading s.lexer; used = s.used }
 
 abbrev pub part_of : code_part.Part → Part
-part_of p = record { expression = expression_of p.expression; depth = p.depth; scan = scan_of p.scan }
+part_of p =
+    record { expression = expression_of p.expression; depth = p.depth; scan = scan_of p.scan }
 
 abbrev pub operator_view : code_operator.Operator → Operator
 operator_view o = record { op = o.op; place = o.place; behind = reading o.lexer }

@@ -1,4 +1,5 @@
--- Reading the statements and parameters of a kernel, and the whole of it, with the first fault that is met.
+-- Reading the statements and parameters of a kernel, and the whole of it, with the first fault that
+-- is met.
 use Rattle.std.specs.Prelude.{ℕ, zero, suc, Bool, true, false, List, [], ◌∷◌, ◌++◌, length, None, is_some, Result, Ok, Err, nat_le, codes, if◌then◌else◌}
 use Rattle.std.specs.List.{list_any}
 use Rattle.std.specs.Option.{option_map_or}
@@ -36,7 +37,11 @@ assignment_at names name r used = do
   equals ← expect_at (codes "=") r
   value ← outer_at names equals used
   ended ← expect_at (codes ";") value.scan.reading
-  Ok (record { statement = assign value.expression; names = with_name names name (type_of value.expression); scan = record { reading = ended; used = value.scan.used } })
+  Ok (record {
+    statement = assign value.expression;
+    names = with_name names name (type_of value.expression);
+    scan = record { reading = ended; used = value.scan.used };
+  })
 
 -- an integer of this width
 abbrev pub has_width : Width → Expression → Bool
@@ -49,7 +54,8 @@ store_end width to value = do
   ended ← expect_at (codes ";") closed
   Ok (store width to value.expression, record { reading = ended; used = value.scan.used })
 
--- `storeW(place, expression);` behind its first word, where the expression has the width of the store
+-- `storeW(place, expression);` behind its first word, where the expression has the width of the
+-- store
 unfoldable pub store_at : Names → Spelled → Reading → ℕ → Result Step KernelFault
 store_at names word r used = do
   width ← or_fault (width_behind (codes "store") word.bytes) (Shape word.place)
@@ -57,34 +63,45 @@ store_at names word r used = do
   to ← address_at names opened
   comma ← expect_at (codes ",") to.1
   value ← outer_at names comma used
-  if has_width width value.expression then (store_end width to.0 value >>= λ s. Ok (record { statement = s.0; names = names; scan = s.1 })) else Err (WidthMismatch word.place)
+  if has_width width value.expression
+      then (store_end width to.0 value >>= λ s.
+      Ok (record { statement = s.0; names = names; scan = s.1 }))
+      else Err (WidthMismatch word.place)
 
 -- a statement that begins with this word
 unfoldable pub statement_at : Names → Spelled → Reading → ℕ → Result Step KernelFault
 statement_at names word r used =
-    if is_free word.bytes then (if is_some (given_as names word.bytes) then Err (DuplicateName word.place) else assignment_at names word.bytes r used)
+    if is_free word.bytes
+    then (if is_some (given_as names word.bytes) then Err (DuplicateName word.place)
+    else assignment_at names word.bytes r used)
     else store_at names word r used
 
 -- the end of the statements, where no more may stand
 abbrev pub closing_at : Reading → Result Reading KernelFault
-closing_at r = next_at r >>= λ word. if bytes_eq word.0.bytes (codes "}") then Ok word.1
+closing_at r =
+    next_at r >>= λ word.
+    if bytes_eq word.0.bytes (codes "}") then Ok word.1
     else Err (if begins_statement word.0.bytes then TooMany word.0.place else Shape word.0.place)
 
 -- statements up to `}`, behind those that are done, with room for so many more
-unfoldable pub statements_at : ℕ → Names → List Statement → Scan → Result (List Statement × Reading) KernelFault
+unfoldable pub statements_at : ℕ → Names → List Statement → Scan
+    → Result (List Statement × Reading) KernelFault
 statements_at zero names done s = closing_at s.reading >>= λ closed. Ok (done, closed)
 statements_at (suc room) names done s = do
   word ← next_at s.reading
   if bytes_eq word.0.bytes (codes "}") then Ok (done, word.1)
-      else statement_at names word.0 word.1 s.used >>= λ x. statements_at room x.names (done ++ x.statement ∷ []) x.scan
+      else statement_at names word.0 word.1 s.used >>= λ x.
+      statements_at room x.names (done ++ x.statement ∷ []) x.scan
 
 -- the kind of a parameter: `ptr`, `noalias ptr` or a type
 unfoldable pub kind_at : Reading → Result (KParamKind × Reading) KernelFault
 kind_at r = do
   word ← next_at r
   if bytes_eq word.0.bytes (codes "ptr") then Ok (Pointer false, word.1)
-      else if bytes_eq word.0.bytes (codes "noalias") then (expect_at (codes "ptr") word.1 >>= λ behind. Ok (Pointer true, behind))
-      else or_fault (width_behind (codes "i") word.0.bytes) (Shape word.0.place) >>= λ width. Ok (Integer width, word.1)
+      else if bytes_eq word.0.bytes (codes "noalias")
+      then (expect_at (codes "ptr") word.1 >>= λ behind. Ok (Pointer true, behind))
+      else or_fault (width_behind (codes "i") word.0.bytes) (Shape word.0.place) >>= λ width.
+      Ok (Integer width, word.1)
 
 -- some parameter has this name
 abbrev pub is_taken : List ℕ → List KParam → Bool
@@ -94,24 +111,34 @@ is_taken name ps = list_any (λ p. bytes_eq p.name name) ps
 unfoldable pub parameter_at : List KParam → Reading → Result (KParam × Reading) KernelFault
 parameter_at before r = do
   name ← name_at r
-  fresh ← if is_taken name.0.bytes before then Err (DuplicateName name.0.place) else Ok name.0.bytes
+  fresh ← if is_taken name.0.bytes before then Err (DuplicateName name.0.place)
+      else Ok name.0.bytes
   colon ← expect_at (codes ":") name.1
   kind ← kind_at colon
   Ok (record { name = fresh; kind = kind.0 }, kind.1)
 
 -- no parameter more: a name would begin one too many
 abbrev pub parameter_too_many : Reading → Result (List KParam × Reading) KernelFault
-parameter_too_many r = next_at r >>= λ w. Err (if is_free w.0.bytes then TooMany w.0.place else Shape w.0.place)
+parameter_too_many r =
+    next_at r >>= λ w. Err (if is_free w.0.bytes then TooMany w.0.place else Shape w.0.place)
 
 -- behind a parameter: whether a comma stands there, or `)`
 abbrev pub comma_at : Reading → Result (Bool × Reading) KernelFault
 comma_at r =
-    next_at r >>= λ w. if bytes_eq w.0.bytes (codes ")") then Ok (false, w.1) else if bytes_eq w.0.bytes (codes ",") then Ok (true, w.1) else Err (Shape w.0.place)
+    next_at r >>= λ w.
+    if bytes_eq w.0.bytes (codes ")") then Ok (false, w.1)
+    else if bytes_eq w.0.bytes (codes ",") then Ok (true, w.1)
+    else Err (Shape w.0.place)
 
 -- parameters behind commas up to `)`, behind those that are done, with room for so many more
-unfoldable pub parameters_behind : ℕ → List KParam → Reading → Result (List KParam × Reading) KernelFault
-parameters_behind zero done r = comma_at r >>= λ c. if c.0 then parameter_too_many c.1 else Ok (done, c.1)
-parameters_behind (suc room) done r = comma_at r >>= λ c. if c.0 then (parameter_at done c.1 >>= λ p. parameters_behind room (done ++ p.0 ∷ []) p.1) else Ok (done, c.1)
+unfoldable pub parameters_behind : ℕ → List KParam → Reading
+    → Result (List KParam × Reading) KernelFault
+parameters_behind zero done r =
+    comma_at r >>= λ c. if c.0 then parameter_too_many c.1 else Ok (done, c.1)
+parameters_behind (suc room) done r =
+    comma_at r >>= λ c.
+    if c.0 then (parameter_at done c.1 >>= λ p. parameters_behind room (done ++ p.0 ∷ []) p.1)
+    else Ok (done, c.1)
 
 -- no parameter, or one and those behind it, 16 at most
 unfoldable pub parameters_at : Reading → Result (List KParam × Reading) KernelFault
@@ -134,4 +161,5 @@ kernel_at r = do
 
 -- the kernel of a text of at most 262,144 bytes, or its first fault
 unfoldable pub kernel_of : List ℕ → Result Tree KernelFault
-kernel_of text = if nat_le (length text) 262144 then kernel_at (reading_of text) else Err (TooLarge first_place)
+kernel_of text =
+    if nat_le (length text) 262144 then kernel_at (reading_of text) else Err (TooLarge first_place)

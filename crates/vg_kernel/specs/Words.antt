@@ -10,7 +10,7 @@ use Rattle.vg_scalar.specs.declared.two_op.TwoOp.TheVariants.{Add, Sub, Mul, And
 use Rattle.vg_scalar.specs.declared.shift.Shift.TheVariants.{Shl, Lshr, Ashr}
 use Rattle.vg_scalar.specs.declared.resize.Resize.TheVariants.{Sext, Zext, Trunc}
 use Rattle.vg_scalar.specs.declared.comparison.Comparison.TheVariants.{Eq, Slt, Ult}
-use Rattle.vg_text.specs.Byte.{is_name_text, is_digit}
+use Rattle.vg_text.specs.Byte.{is_name_text}
 use Rattle.vg_text.specs.Number.{is_decimal}
 use Rattle.vg_text.specs.Words.{Spelled}
 use Rattle.vg_kernel.specs.declared.function.Function.{Function}
@@ -29,11 +29,17 @@ sized stem w = stem ++ width_text w
 
 -- the width that a word spells
 abbrev pub width_of : List ℕ → Option Width
-width_of bytes = if bytes_eq bytes (codes "8") then Some W8 else if bytes_eq bytes (codes "16") then Some W16 else if bytes_eq bytes (codes "32") then Some W32 else if bytes_eq bytes (codes "64") then Some W64 else None
+width_of bytes =
+    if bytes_eq bytes (codes "8") then Some W8
+    else if bytes_eq bytes (codes "16") then Some W16
+    else if bytes_eq bytes (codes "32") then Some W32
+    else if bytes_eq bytes (codes "64") then Some W64
+    else None
 
 -- the width behind this stem, where the word is the stem and a width
 abbrev pub width_behind : List ℕ → List ℕ → Option Width
-width_behind stem bytes = if bytes_eq (take (length stem) bytes) stem then width_of (drop (length stem) bytes) else None
+width_behind stem bytes =
+    if bytes_eq (take (length stem) bytes) stem then width_of (drop (length stem) bytes) else None
 
 -- how tight an operator binds: 1 the tightest, 5 the loosest; what is no operator has 0
 abbrev pub level_of : TwoOp → ℕ
@@ -61,9 +67,13 @@ two_text Umax = codes "umax"
 -- the operator of a sign
 unfoldable pub operator_named : List ℕ → Option TwoOp
 operator_named bytes =
-    if bytes_eq bytes (codes "*") then Some Mul else if bytes_eq bytes (codes "+") then Some Add
-    else if bytes_eq bytes (codes "-") then Some Sub else if bytes_eq bytes (codes "&") then Some And
-    else if bytes_eq bytes (codes "^") then Some Xor else if bytes_eq bytes (codes "|") then Some Or else None
+    if bytes_eq bytes (codes "*") then Some Mul
+    else if bytes_eq bytes (codes "+") then Some Add
+    else if bytes_eq bytes (codes "-") then Some Sub
+    else if bytes_eq bytes (codes "&") then Some And
+    else if bytes_eq bytes (codes "^") then Some Xor
+    else if bytes_eq bytes (codes "|") then Some Or
+    else None
 
 -- the name of a function
 abbrev pub function_text : Function → List ℕ
@@ -82,12 +92,18 @@ function_text functions.Select = codes "select"
 -- the functions whose names have no width
 unfoldable pub plain_named : List ℕ → Option Function
 plain_named bytes =
-    if bytes_eq bytes (codes "smin") then Some (functions.Two Smin) else if bytes_eq bytes (codes "smax") then Some (functions.Two Smax)
-    else if bytes_eq bytes (codes "umin") then Some (functions.Two Umin) else if bytes_eq bytes (codes "umax") then Some (functions.Two Umax)
-    else if bytes_eq bytes (codes "eq") then Some (functions.Compare Eq) else if bytes_eq bytes (codes "slt") then Some (functions.Compare Slt)
-    else if bytes_eq bytes (codes "ult") then Some (functions.Compare Ult) else if bytes_eq bytes (codes "shl") then Some (functions.Shift Shl)
-    else if bytes_eq bytes (codes "lshr") then Some (functions.Shift Lshr) else if bytes_eq bytes (codes "ashr") then Some (functions.Shift Ashr)
-    else if bytes_eq bytes (codes "select") then Some functions.Select else None
+    if bytes_eq bytes (codes "smin") then Some (functions.Two Smin)
+    else if bytes_eq bytes (codes "smax") then Some (functions.Two Smax)
+    else if bytes_eq bytes (codes "umin") then Some (functions.Two Umin)
+    else if bytes_eq bytes (codes "umax") then Some (functions.Two Umax)
+    else if bytes_eq bytes (codes "eq") then Some (functions.Compare Eq)
+    else if bytes_eq bytes (codes "slt") then Some (functions.Compare Slt)
+    else if bytes_eq bytes (codes "ult") then Some (functions.Compare Ult)
+    else if bytes_eq bytes (codes "shl") then Some (functions.Shift Shl)
+    else if bytes_eq bytes (codes "lshr") then Some (functions.Shift Lshr)
+    else if bytes_eq bytes (codes "ashr") then Some (functions.Shift Ashr)
+    else if bytes_eq bytes (codes "select") then Some functions.Select
+    else None
 
 -- the first that there is
 abbrev pub first_of : {A : Type 0} → Option A → Option A → Option A
@@ -98,7 +114,8 @@ first_of None more = more
 abbrev pub sized_named : List ℕ → Option Function
 sized_named bytes =
     first_of (option_map (functions.Resize Sext) (width_behind (codes "sext") bytes))
-    (first_of (option_map (functions.Resize Zext) (width_behind (codes "zext") bytes)) (option_map (functions.Resize Trunc) (width_behind (codes "trunc") bytes)))
+    (first_of (option_map (functions.Resize Zext) (width_behind (codes "zext") bytes))
+    (option_map (functions.Resize Trunc) (width_behind (codes "trunc") bytes)))
 
 -- the function of a name
 abbrev pub function_named : List ℕ → Option Function
@@ -107,17 +124,14 @@ function_named bytes = first_of (plain_named bytes) (sized_named bytes)
 -- the words that no name may be: `kernel`, `ptr`, `noalias`, the types and the functions
 unfoldable pub is_reserved : List ℕ → Bool
 is_reserved bytes =
-    bytes_eq bytes (codes "kernel") || bytes_eq bytes (codes "ptr") || bytes_eq bytes (codes "noalias") || is_some (function_named bytes)
-    || is_some (width_behind (codes "i") bytes) || is_some (width_behind (codes "load") bytes) || is_some (width_behind (codes "store") bytes)
+    bytes_eq bytes (codes "kernel") || bytes_eq bytes (codes "ptr")
+    || bytes_eq bytes (codes "noalias") || is_some (function_named bytes)
+    || is_some (width_behind (codes "i") bytes) || is_some (width_behind (codes "load") bytes)
+    || is_some (width_behind (codes "store") bytes)
 
 -- a name that may be given: one that is not reserved
 abbrev pub is_free : List ℕ → Bool
 is_free bytes = is_name_text bytes && not (is_reserved bytes)
-
--- a number
-abbrev pub begins_digit : List ℕ → Bool
-begins_digit [] = false
-begins_digit (b ∷ bs) = is_digit b
 
 -- a word with which an operand begins; a hexadecimal number is none
 abbrev pub begins_operand : List ℕ → Bool
@@ -131,7 +145,9 @@ begins_statement bytes = is_free bytes || is_some (width_behind (codes "store") 
 
 -- the second word stands right behind the first, which has no line end
 abbrev pub adjoins : Spelled → Spelled → Bool
-adjoins first second = nat_eq second.place.line first.place.line && nat_eq second.place.column (first.place.column + length first.bytes)
+adjoins first second =
+    nat_eq second.place.line first.place.line
+    && nat_eq second.place.column (first.place.column + length first.bytes)
 
 -- a distance above or below the place of a pointer as an offset of -2 ^ 31 to 2 ^ 31 - 1
 abbrev pub offset_of : Bool → ℕ → Option ℤ
@@ -139,8 +155,10 @@ offset_of true zero = Some (pos 0)
 offset_of true (suc n) = if nat_lt n (2 ^ 31) then Some (negsuc n) else None
 offset_of false n = if nat_lt n (2 ^ 31) then Some (pos n) else None
 
--- a number behind a sign at a width: from -2 ^ (width - 1) to 2 ^ width - 1, those below zero as their value modulo 2 ^ width
+-- a number behind a sign at a width: from -2 ^ (width - 1) to 2 ^ width - 1, those below zero as
+-- their value modulo 2 ^ width
 abbrev pub literal_of : Bool → Width → ℕ → Option ℕ
 literal_of true w zero = Some 0
-literal_of true w (suc n) = if nat_lt n (2 ^ (bits_of w - 1)) then Some (2 ^ bits_of w - suc n) else None
+literal_of true w (suc n) =
+    if nat_lt n (2 ^ (bits_of w - 1)) then Some (2 ^ bits_of w - suc n) else None
 literal_of false w n = if nat_lt n (2 ^ bits_of w) then Some n else None

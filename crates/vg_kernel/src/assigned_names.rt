@@ -9,7 +9,8 @@ use indexmap::IndexMap;
 use std::alloc::{AllocError, Global};
 use std::marker::Model;
 
-/// Names in the order in which statements gave them, and what they name. Contracts see the list of both.
+/// Names in the order in which statements gave them, and what they name. Contracts see the list of
+/// both.
 #[derive(Drop)]
 pub(crate) struct AssignedNames {
     types: IndexMap<Vec<u8>, ValueType>,
@@ -52,7 +53,8 @@ impl AssignedNames {
         value_type: ValueType,
     ) -> Result<(), AllocError>
         requires { assigned_named 0 self.old name.now ≡ None }
-        ensures ok { OnOk result (self.new ≡ self.old ++ record { name = name.now; value_type = value_type } ∷ []) }
+        ensures ok { OnOk result
+            (self.new ≡ self.old ++ record { name = name.now; value_type = value_type } ∷ []) }
         ensures err { OnErr result (self.new ≡ self.old) }
     {
         let name = Vec::from_slice(alloc, name)?;

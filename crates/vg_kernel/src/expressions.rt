@@ -1,9 +1,9 @@
-//! Reads an expression. A level says how tight the operators bind that may stand outside of calls and
-//! parentheses: 0 for none, 1 for `*` alone, and so on up to 5 for all. The room says how many nodes may
-//! stand below the root.
+//! Reads an expression. A level says how tight the operators bind that may stand outside of calls
+//! and parentheses: 0 for none, 1 for `*` alone, and so on up to 5 for all. The room says how many
+//! nodes may stand below the root.
 //!
-//! What reads an expression inside another is not inlined, since each depth would then hold the stack of all
-//! kinds of operands at once.
+//! What reads an expression inside another is not inlined, since each depth would then hold the
+//! stack of all kinds of operands at once.
 
 ghost use Rattle.std.specs.Prelude.{◌≡◌, ◌≤◌, ◌+◌, IfOk};
 ghost use Rattle.std.specs.Option.{option_map};
@@ -20,11 +20,11 @@ use crate::nodes::{pair_end, pair_node, resize_end, select_end, shift_end};
 use crate::operands::{leaf, literal, load, negative, too_deep, value_of};
 use crate::reading::{expect, next};
 use crate::scan::{Part, Scan};
-use crate::words::{begins_digit, function_named, is_free, level_of, operator_named, width_behind};
+use crate::words::{function_named, is_free, level_of, operator_named, width_behind};
 use std::alloc::Global;
 use vg_base::Width;
 use vg_scalar::{Resize, Shift, TwoOp};
-use vg_text::byte::is_text;
+use vg_text::byte::{begins_digit, is_text};
 use vg_text::lexer::Word;
 use vg_text::{Lexer, Place};
 
@@ -39,7 +39,8 @@ pub(crate) struct Operator<'a> {
     lexer: Lexer<'a>,
 }
 
-/// The next word, where it is an operator that binds as tight as this. A fault there is met when something takes the word.
+/// The next word, where it is an operator that binds as tight as this. A fault there is met when
+/// something takes the word.
 #[inline(never)]
 fn next_operator<'a>(level: u32, lexer: Lexer<'a>) -> Option<Operator<'a>>
     ensures { option_map operator_view result ≡ operator_at level (reading lexer.entry) }
@@ -92,7 +93,8 @@ fn at_level<'a>(
     requires few { AreFew names.now }
     requires most { room ≤ 255 }
     requires loosest { level ≤ 5 }
-    ensures read { Gives part_of result (level_at names.now (expression_at names.now room) room level (scan_of scan.entry)) }
+    ensures read { Gives part_of result
+        (level_at names.now (expression_at names.now room) room level (scan_of scan.entry)) }
     ensures deep { IfOk result (λ p. p.depth ≤ room + 1) }
 {
     let mut left = operand(alloc, names, room, scan)?;
@@ -120,7 +122,8 @@ fn joined<'a>(
     requires most { room ≤ 255 }
     requires loosest { level ≤ 4 }
     requires shallow { first.depth ≤ room + 1 }
-    ensures read { Gives part_of result (joined_at (expression_at names.now room) level room room (part_of first.entry)) }
+    ensures read { Gives part_of result
+        (joined_at (expression_at names.now room) level room room (part_of first.entry)) }
     ensures deep { IfOk result (λ p. p.depth ≤ room + 1) }
 {
     let mut left = first;
@@ -164,7 +167,9 @@ fn join<'a>(
     requires most { room ≤ 255 }
     requires loosest { level ≤ 4 }
     requires shallow { left.depth ≤ room }
-    ensures read { Gives part_of result (join_at (expression_at names.now room) level (part_of left.entry) (operator_view operator.entry)) }
+    ensures read { Gives part_of result
+        (join_at (expression_at names.now room) level
+        (part_of left.entry) (operator_view operator.entry)) }
     ensures deep { IfOk result (λ p. p.depth ≤ room + 1) }
 {
     let scan = Scan {
@@ -204,7 +209,8 @@ fn whole<'a>(
 ) -> Result<Part<'a>, KernelFault>
     requires few { AreFew names.now }
     requires most { room ≤ 255 }
-    ensures read { Gives part_of result (expression_at names.now room 5 (record { reading = reading lexer.entry; used = used })) }
+    ensures read { Gives part_of result
+        (expression_at names.now room 5 (record { reading = reading lexer.entry; used = used })) }
     ensures deep { IfOk result (λ p. p.depth ≤ room) }
 {
     expression(alloc, names, room, LOOSEST, Scan { lexer, used })
@@ -222,7 +228,8 @@ fn operand<'a>(
 ) -> Result<Part<'a>, KernelFault>
     requires few { AreFew names.now }
     requires most { room ≤ 255 }
-    ensures read { Gives part_of result (operand_at names.now (expression_at names.now room) (scan_of scan.entry)) }
+    ensures read { Gives part_of result
+        (operand_at names.now (expression_at names.now room) (scan_of scan.entry)) }
     ensures deep { IfOk result (λ p. p.depth ≤ room + 1) }
 {
     let used = scan.used;
@@ -262,7 +269,9 @@ fn named<'a>(
 ) -> Result<Part<'a>, KernelFault>
     requires few { AreFew names.now }
     requires most { room ≤ 255 }
-    ensures read { Gives part_of result (named_at names.now (expression_at names.now room) (spelled_of word.entry) (reading lexer.entry) used) }
+    ensures read { Gives part_of result
+        (named_at names.now (expression_at names.now room)
+        (spelled_of word.entry) (reading lexer.entry) used) }
     ensures deep { IfOk result (λ p. p.depth ≤ room + 1) }
 {
     let place = word.place;
@@ -294,7 +303,8 @@ fn two<'a>(
 ) -> Result<Part<'a>, KernelFault>
     requires few { AreFew names.now }
     requires most { room ≤ 255 }
-    ensures read { Gives part_of result (two_at (expression_at names.now room) function place (reading lexer.entry) used) }
+    ensures read { Gives part_of result
+        (two_at (expression_at names.now room) function place (reading lexer.entry) used) }
     ensures deep { IfOk result (λ p. p.depth ≤ room + 1) }
 {
     let left = whole(alloc, names, room, lexer, used)?;
@@ -317,7 +327,8 @@ fn shift<'a>(
 ) -> Result<Part<'a>, KernelFault>
     requires few { AreFew names.now }
     requires most { room ≤ 255 }
-    ensures read { Gives part_of result (shift_at (expression_at names.now room) op place (reading lexer.entry) used) }
+    ensures read { Gives part_of result
+        (shift_at (expression_at names.now room) op place (reading lexer.entry) used) }
     ensures deep { IfOk result (λ p. p.depth ≤ room + 1) }
 {
     let operand = whole(alloc, names, room, lexer, used)?;
@@ -339,7 +350,8 @@ fn resize<'a>(
 ) -> Result<Part<'a>, KernelFault>
     requires few { AreFew names.now }
     requires most { room ≤ 255 }
-    ensures read { Gives part_of result (resize_at (expression_at names.now room) op to place (reading lexer.entry) used) }
+    ensures read { Gives part_of result
+        (resize_at (expression_at names.now room) op to place (reading lexer.entry) used) }
     ensures deep { IfOk result (λ p. p.depth ≤ room + 1) }
 {
     let operand = whole(alloc, names, room, lexer, used)?;
@@ -360,7 +372,8 @@ fn select<'a>(
 ) -> Result<Part<'a>, KernelFault>
     requires few { AreFew names.now }
     requires most { room ≤ 255 }
-    ensures read { Gives part_of result (select_at (expression_at names.now room) place (reading lexer.entry) used) }
+    ensures read { Gives part_of result
+        (select_at (expression_at names.now room) place (reading lexer.entry) used) }
     ensures deep { IfOk result (λ p. p.depth ≤ room + 1) }
 {
     let condition = whole(alloc, names, room, lexer, used)?;
@@ -386,7 +399,8 @@ fn call<'a>(
 ) -> Result<Part<'a>, KernelFault>
     requires few { AreFew names.now }
     requires most { room ≤ 255 }
-    ensures read { Gives part_of result (call_at (expression_at names.now room) function place (reading lexer.entry) used) }
+    ensures read { Gives part_of result
+        (call_at (expression_at names.now room) function place (reading lexer.entry) used) }
     ensures deep { IfOk result (λ p. p.depth ≤ room + 1) }
 {
     let opened = expect(b"(", lexer)?;

@@ -8,8 +8,8 @@ use std::alloc::{AllocError, AllocFailed};
 use thiserror::Error;
 use vg_text::Place;
 
-/// Why a text is no kernel: the first fault that is met as it is read from left to right. Where one token has two, the one of
-/// the greater number is named.
+/// Why a text is no kernel: the first fault that is met as it is read from left to right. Where one
+/// token has two, the one of the greater number is named.
 #[derive(Debug, Drop, Error)]
 pub enum KernelFault {
     /// A byte that may stand nowhere, a name of more than 64 bytes, or a number of 2^127 or more.
@@ -24,7 +24,8 @@ pub enum KernelFault {
     /// A name of a parameter or of a statement that is given a second time.
     #[error("4 DuplicateName at {}:{}", .place.line, .place.column)]
     DuplicateName { place: Place },
-    /// Widths that do not fit an operator or a function; a pointer as a value, or an integer as a place.
+    /// Widths that do not fit an operator or a function; a pointer as a value, or an integer as a
+    /// place.
     #[error("5 WidthMismatch at {}:{}", .place.line, .place.column)]
     WidthMismatch { place: Place },
     /// A literal outside -2^(W-1)..2^W-1, or an offset outside -2^31..2^31-1.
@@ -39,7 +40,8 @@ pub enum KernelFault {
     /// A text of more than 262,144 bytes, at 1:1, before anything else.
     #[error("9 TooLarge at {}:{}", .place.line, .place.column)]
     TooLarge { place: Place },
-    /// An expression of more than 256 nodes one below the other, parentheses counted, at the token that makes it so deep.
+    /// An expression of more than 256 nodes one below the other, parentheses counted, at the token
+    /// that makes it so deep.
     #[error("10 NestingTooDeep at {}:{}", .place.line, .place.column)]
     NestingTooDeep { place: Place },
     /// There was no memory, which says nothing of the text.

@@ -63,7 +63,8 @@ pub(crate) fn pair_node(
     left: KExpr,
     right: KExpr,
 ) -> Result<(KExpr, u32), KernelFault>
-    ensures { Gives (λ x. (expression_of x.0, x.1)) result (judged place used (pair_node function (expression_of left) (expression_of right))) }
+    ensures { Gives (λ x. (expression_of x.0, x.1)) result
+        (judged place used (pair_node function (expression_of left) (expression_of right))) }
 {
     let more = counted(place, used)?;
     let Some(width) = common_width(&left, &right) else {
@@ -115,7 +116,8 @@ fn resize_node(
     used: u32,
     operand: KExpr,
 ) -> Result<(KExpr, u32), KernelFault>
-    ensures { Gives (λ x. (expression_of x.0, x.1)) result (judged place used (resize_node op width (expression_of operand))) }
+    ensures { Gives (λ x. (expression_of x.0, x.1)) result
+        (judged place used (resize_node op width (expression_of operand))) }
 {
     let more = counted(place, used)?;
     let Some(from) = operand.width() else {
@@ -162,7 +164,9 @@ fn select_node(
     first: KExpr,
     second: KExpr,
 ) -> Result<(KExpr, u32), KernelFault>
-    ensures { Gives (λ x. (expression_of x.0, x.1)) result (judged place used (select_node (expression_of condition) (expression_of first) (expression_of second))) }
+    ensures { Gives (λ x. (expression_of x.0, x.1)) result
+        (judged place used
+        (select_node (expression_of condition) (expression_of first) (expression_of second))) }
 {
     let more = counted(place, used)?;
     if !is_bit(&condition) {
@@ -188,7 +192,8 @@ fn select_node(
 #[tactic(auto, unfolding(crate::specs::Expressions::closed_at))]
 fn closed<'a>(node: KExpr, depth: u32, lexer: Lexer<'a>, used: u32) -> Result<Part<'a>, KernelFault>
     requires { depth ≤ 256 }
-    ensures read { Gives part_of result (closed_at (expression_of node) depth (reading lexer.entry) used) }
+    ensures read { Gives part_of result
+        (closed_at (expression_of node) depth (reading lexer.entry) used) }
     ensures deep { IfOk result (λ p. p.depth ≤ depth + 1) }
 {
     let rest = expect(b")", lexer)?;
@@ -211,7 +216,8 @@ pub(crate) fn pair_end<'a>(
 ) -> Result<Part<'a>, KernelFault>
     requires left { left.depth ≤ 256 }
     requires right { right.depth ≤ 256 }
-    ensures read { Gives part_of result (pair_end function place (part_of left.entry) (part_of right.entry)) }
+    ensures read { Gives part_of result
+        (pair_end function place (part_of left.entry) (part_of right.entry)) }
     ensures deep { IfOk result (λ p. p.depth ≤ max left.entry.depth right.entry.depth + 1) }
 {
     let depth = left.depth.max(right.depth);
@@ -305,8 +311,10 @@ pub(crate) fn select_end<'a>(
     requires condition { condition.depth ≤ 256 }
     requires left { left.depth ≤ 256 }
     requires right { right.depth ≤ 256 }
-    ensures read { Gives part_of result (select_end place (part_of condition.entry) (part_of left.entry) (part_of right.entry)) }
-    ensures deep { IfOk result (λ p. p.depth ≤ max condition.entry.depth (max left.entry.depth right.entry.depth) + 1) }
+    ensures read { Gives part_of result
+        (select_end place (part_of condition.entry) (part_of left.entry) (part_of right.entry)) }
+    ensures deep { IfOk result
+        (λ p. p.depth ≤ max condition.entry.depth (max left.entry.depth right.entry.depth) + 1) }
 {
     let depth = condition.depth.max(left.depth.max(right.depth));
     let scan = right.scan;

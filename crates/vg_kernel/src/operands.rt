@@ -2,7 +2,7 @@
 
 ghost use Rattle.std.specs.Prelude.{◌≡◌, ◌≤◌, IfOk, codes, if◌then◌else◌};
 ghost use Rattle.vg_text.specs.Lexing.{reading, spelled_of};
-ghost use Rattle.vg_kernel.specs.Expressions.{value_of, literal_at, negative_at, load_at, too_deep_at};
+ghost use Rattle.vg_kernel.specs.Expressions.{value_of, type_behind, literal_at, negative_at, load_at, too_deep_at};
 ghost use Rattle.vg_kernel.specs.Gives.{Gives};
 ghost use Rattle.vg_kernel.specs.Names.{AreFew};
 ghost use Rattle.vg_kernel.specs.Scanning.{part_of};
@@ -24,7 +24,11 @@ use vg_text::{Lexer, Place};
 
 /// An expression that counts for nothing.
 pub(crate) fn leaf<'a>(expression: KExpr, lexer: Lexer<'a>, used: u32) -> Part<'a>
-    ensures { part_of result ≡ record { expression = expression_of expression; depth = 1; scan = record { reading = reading lexer.entry; used = used } } }
+    ensures { part_of result ≡ record {
+      expression = expression_of expression;
+      depth = 1;
+      scan = record { reading = reading lexer.entry; used = used };
+    } }
 {
     Part {
         expression,
@@ -47,7 +51,7 @@ pub(crate) fn value_of(given: Option<Given>, place: Place) -> Result<KExpr, Kern
 
 /// The width of the type that stands right behind these digits.
 fn type_behind(digits: &Word, word: &Word) -> Option<Width>
-    ensures { result ≡ (if adjoins (spelled_of digits.now) (spelled_of word.now) then width_behind (codes "i") word.now.bytes.now else None) }
+    ensures { result ≡ type_behind (spelled_of digits.now) (spelled_of word.now) }
 {
     if adjoins(digits, word) {
         width_behind(b"i", word.bytes)
@@ -66,7 +70,8 @@ pub(crate) fn literal<'a>(
     lexer: Lexer<'a>,
     used: u32,
 ) -> Result<Part<'a>, KernelFault>
-    ensures read { Gives part_of result (literal_at negative first (spelled_of digits.entry) (reading lexer.entry) used) }
+    ensures read { Gives part_of result
+        (literal_at negative first (spelled_of digits.entry) (reading lexer.entry) used) }
     ensures shallow { IfOk result (λ p. p.depth ≤ 1) }
 {
     let place = digits.place;

@@ -53,7 +53,8 @@ fn parameter<'a>(
     before: &[KParam],
     lexer: Lexer<'a>,
 ) -> Result<(KParam, Lexer<'a>), KernelFault>
-    ensures read { Gives (λ x. (x.0, reading x.1)) result (parameter_at before.now (reading lexer.entry)) }
+    ensures read { Gives (λ x. (x.0, reading x.1)) result
+        (parameter_at before.now (reading lexer.entry)) }
 {
     let (word, rest) = name(lexer)?;
     if is_taken(word.bytes, before) {
@@ -67,7 +68,8 @@ fn parameter<'a>(
 
 /// No parameter more may stand here.
 fn one_too_many<'a>(lexer: Lexer<'a>) -> Result<(Vec<KParam>, Lexer<'a>), KernelFault>
-    ensures read { Gives (λ x. (x.0.items, reading x.1)) result (parameter_too_many (reading lexer.entry)) }
+    ensures read { Gives (λ x. (x.0.items, reading x.1)) result
+        (parameter_too_many (reading lexer.entry)) }
     ensures few { IfOk result (λ x. vec_len x.0 ≤ 16) }
 {
     let (word, _rest) = next(lexer)?;
@@ -101,7 +103,8 @@ fn parameters_behind<'a>(
     lexer: Lexer<'a>,
 ) -> Result<(Vec<KParam>, Lexer<'a>), KernelFault>
     requires { vec_len first ≡ 1 }
-    ensures read { Gives (λ x. (x.0.items, reading x.1)) result (parameters_behind 15 first.items (reading lexer.entry)) }
+    ensures read { Gives (λ x. (x.0.items, reading x.1)) result
+        (parameters_behind 15 first.items (reading lexer.entry)) }
     ensures few { IfOk result (λ x. vec_len x.0 ≤ 16) }
 {
     let mut done = first;
@@ -129,7 +132,8 @@ fn parameters_behind<'a>(
 #[tactic(auto, unfolding(crate::specs::Statements::parameters_behind))]
 fn last<'a>(done: Vec<KParam>, lexer: Lexer<'a>) -> Result<(Vec<KParam>, Lexer<'a>), KernelFault>
     requires { vec_len done ≤ 16 }
-    ensures read { Gives (λ x. (x.0.items, reading x.1)) result (parameters_behind 0 done.items (reading lexer.entry)) }
+    ensures read { Gives (λ x. (x.0.items, reading x.1)) result
+        (parameters_behind 0 done.items (reading lexer.entry)) }
     ensures few { IfOk result (λ x. vec_len x.0 ≤ 16) }
 {
     let (more, rest) = comma(lexer)?;
@@ -142,7 +146,8 @@ fn last<'a>(done: Vec<KParam>, lexer: Lexer<'a>) -> Result<(Vec<KParam>, Lexer<'
 /// The parameters up to `)`, 16 at most.
 #[tactic(auto, unfolding(crate::specs::Statements::parameters_at))]
 fn parameters<'a>(alloc: Global, lexer: Lexer<'a>) -> Result<(Vec<KParam>, Lexer<'a>), KernelFault>
-    ensures read { Gives (λ x. (x.0.items, reading x.1)) result (parameters_at (reading lexer.entry)) }
+    ensures read { Gives (λ x. (x.0.items, reading x.1)) result
+        (parameters_at (reading lexer.entry)) }
     ensures few { IfOk result (λ x. vec_len x.0 ≤ 16) }
 {
     let mut done = Vec::new(alloc);
@@ -189,9 +194,10 @@ fn read(alloc: Global, text: &[u8]) -> Result<Kernel, KernelFault>
 
 /// Reads the text of a kernel.
 ///
-/// Where the text is none, the fault is the first that is met as it is read from left to right, with the place of its
-/// token; of two faults at one token the one with the greater number. `TooLarge` comes exactly where the text has more
-/// than 262,144 bytes. `Memory` says nothing of the text.
+/// Where the text is none, the fault is the first that is met as it is read from left to right,
+/// with the place of its token; of two faults at one token the one with the greater number.
+/// `TooLarge` comes exactly where the text has more than 262,144 bytes. `Memory` says nothing of
+/// the text.
 pub fn parse_kernel(alloc: Global, text: &[u8]) -> Result<Kernel, KernelFault>
     // What the reader answers, word by word: the kernel, or the first fault and its place.
     ensures exact { Gives tree_of result (kernel_of text.now) }

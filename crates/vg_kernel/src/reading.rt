@@ -17,7 +17,8 @@ use vg_text::number::decimal;
 use vg_text::{Lexer, Place};
 
 pub(crate) fn next<'a>(lexer: Lexer<'a>) -> Result<(Word<'a>, Lexer<'a>), KernelFault>
-    ensures read { Gives (λ x. (spelled_of x.0, reading x.1)) result (next_at (reading lexer.entry)) }
+    ensures read { Gives (λ x. (spelled_of x.0, reading x.1)) result
+        (next_at (reading lexer.entry)) }
 {
     match lexer.word() {
         Ok(found) => Ok(found),
@@ -51,7 +52,8 @@ pub(crate) fn end<'a>(lexer: Lexer<'a>) -> Result<Lexer<'a>, KernelFault>
 
 /// A word that may be a name.
 pub(crate) fn name<'a>(lexer: Lexer<'a>) -> Result<(Word<'a>, Lexer<'a>), KernelFault>
-    ensures read { Gives (λ x. (spelled_of x.0, reading x.1)) result (name_at (reading lexer.entry)) }
+    ensures read { Gives (λ x. (spelled_of x.0, reading x.1)) result
+        (name_at (reading lexer.entry)) }
 {
     let (word, rest) = next(lexer)?;
     if is_free(word.bytes) {
@@ -79,7 +81,8 @@ fn offset<'a>(
     pointer: u32,
     lexer: Lexer<'a>,
 ) -> Result<(Address, Lexer<'a>), KernelFault>
-    ensures read { Gives (λ x. (x.0, reading x.1)) result (offset_at negative pointer (reading lexer.entry)) }
+    ensures read { Gives (λ x. (x.0, reading x.1)) result
+        (offset_at negative pointer (reading lexer.entry)) }
 {
     let (number, rest) = next(lexer)?;
     let place = number.place;
@@ -99,7 +102,8 @@ pub(crate) fn address<'a>(
     lexer: Lexer<'a>,
 ) -> Result<(Address, Lexer<'a>), KernelFault>
     requires { AreFew names.now }
-    ensures read { Gives (λ x. (x.0, reading x.1)) result (address_at names.now (reading lexer.entry)) }
+    ensures read { Gives (λ x. (x.0, reading x.1)) result
+        (address_at names.now (reading lexer.entry)) }
 {
     let (name, rest) = name(lexer)?;
     let pointer = pointer_of(names.given_as(name.bytes), name.place)?;

@@ -10,7 +10,8 @@ pub(crate) struct Scan<'a> {
     pub(crate) used: u32,
 }
 
-/// An expression that was read, how many nodes it has one below the other, and what is left behind it.
+/// An expression that was read, how many nodes it has one below the other, and what is left behind
+/// it.
 #[derive(Debug, Drop)]
 pub(crate) struct Part<'a> {
     pub(crate) expression: KExpr,

@@ -48,7 +48,8 @@ fn assignment<'a>(
 ) -> Result<(KStmt, Scan<'a>), KernelFault>
     requires few { AreFew names.old }
     requires fresh { given_as names.old name.now ≡ None }
-    ensures read { Gives (step_of names.new) result (assignment_at names.old name.now (reading lexer.entry) used) }
+    ensures read { Gives (step_of names.new) result
+        (assignment_at names.old name.now (reading lexer.entry) used) }
     ensures params { OnOk result (names.new.params ≡ names.old.params) }
     ensures assigned { OnOk result (length names.new.assigned ≤ length names.old.assigned + 1) }
 {
@@ -83,7 +84,8 @@ fn store_end<'a>(
     address: Address,
     value: Part<'a>,
 ) -> Result<(KStmt, Scan<'a>), KernelFault>
-    ensures { Gives (λ x. (statement_of x.0, scan_of x.1)) result (store_end width address (part_of value.entry)) }
+    ensures { Gives (λ x. (statement_of x.0, scan_of x.1)) result
+        (store_end width address (part_of value.entry)) }
 {
     let rest = expect(b")", value.scan.lexer)?;
     let ended = expect(b";", rest)?;
@@ -109,7 +111,8 @@ fn store<'a>(
     used: u32,
 ) -> Result<(KStmt, Scan<'a>), KernelFault>
     requires { AreFew names.now }
-    ensures { Gives (step_of names.now) result (store_at names.now (spelled_of word.entry) (reading lexer.entry) used) }
+    ensures { Gives (step_of names.now) result
+        (store_at names.now (spelled_of word.entry) (reading lexer.entry) used) }
 {
     let place = word.place;
     let Some(width) = width_behind(b"store", word.bytes) else {
@@ -137,7 +140,8 @@ fn statement<'a>(
     used: u32,
 ) -> Result<(KStmt, Scan<'a>), KernelFault>
     requires { AreFew names.old }
-    ensures read { Gives (step_of names.new) result (statement_at names.old (spelled_of word.entry) (reading lexer.entry) used) }
+    ensures read { Gives (step_of names.new) result
+        (statement_at names.old (spelled_of word.entry) (reading lexer.entry) used) }
     ensures params { OnOk result (names.new.params ≡ names.old.params) }
     ensures assigned { OnOk result (length names.new.assigned ≤ length names.old.assigned + 1) }
 {
@@ -173,7 +177,9 @@ pub(crate) fn statements<'a>(
     lexer: Lexer<'a>,
 ) -> Result<(Vec<KStmt>, Lexer<'a>), KernelFault>
     requires { length params.now ≤ 16 }
-    ensures read { Gives (λ x. (map statement_of x.0.items, reading x.1)) result (statements_at 4096 (names_of params.now) [] (record { reading = reading lexer.entry; used = 0 })) }
+    ensures read { Gives (λ x. (map statement_of x.0.items, reading x.1)) result
+        (statements_at 4096 (names_of params.now) []
+        (record { reading = reading lexer.entry; used = 0 })) }
 {
     let mut names = Names::new(alloc, params);
     let mut done = Vec::new(alloc);

@@ -3,12 +3,12 @@
 ghost use Rattle.std.specs.Prelude.{◌≡◌, true, is_some};
 ghost use Rattle.vg_base.specs.Width.{bits_of};
 ghost use Rattle.vg_text.specs.Lexing.{spelled_of};
-ghost use Rattle.vg_kernel.specs.Words.{width_of, width_behind, level_of, operator_named, plain_named, sized_named, function_named, is_reserved, is_free, begins_digit, begins_operand, begins_statement, adjoins, offset_of, literal_of};
+ghost use Rattle.vg_kernel.specs.Words.{width_of, width_behind, level_of, operator_named, plain_named, sized_named, function_named, is_reserved, is_free, begins_operand, begins_statement, adjoins, offset_of, literal_of};
 
 use crate::function::Function;
 use vg_base::Width;
 use vg_scalar::{Comparison, Resize, Shift, TwoOp};
-use vg_text::byte::{is_digit, is_name_text, is_text};
+use vg_text::byte::{is_name_text, is_text};
 use vg_text::lexer::Word;
 use vg_text::number::is_decimal;
 
@@ -168,16 +168,6 @@ pub(crate) fn is_free(bytes: &[u8]) -> bool
     ensures { result ≡ is_free bytes.now }
 {
     is_name_text(bytes) && !is_reserved(bytes)
-}
-
-/// Whether a word is a number.
-pub(crate) fn begins_digit(bytes: &[u8]) -> bool
-    ensures { result ≡ begins_digit bytes.now }
-{
-    match bytes {
-        [] => false,
-        [first, ..] => is_digit(*first),
-    }
 }
 
 /// Whether an operand begins with this word. A hexadecimal number is none.

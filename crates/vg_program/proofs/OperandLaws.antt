@@ -21,12 +21,13 @@ use Rattle.vg_program.specs.declared.wanted.Wanted.{Wanted}
 use Rattle.vg_program.specs.declared.wanted.Wanted.TheVariants.{Exactly}
 use Rattle.vg_program.specs.declared.named.Named.{Named}
 use Rattle.vg_program.specs.declared.named.Named.TheVariants as named
-use Rattle.vg_text.specs.Byte.{is_digit, is_letter, is_name, is_name_text}
+use Rattle.vg_text.specs.Byte.{begins_digit, is_digit, is_letter, is_name, is_name_text}
 use Rattle.vg_program.specs.Params.{pointers, integers, name_of, AreParams}
 use Rattle.vg_program.specs.Text.{type_text, offset_text, address_text, operand_text, pair_text}
-use Rattle.vg_program.specs.Valid.{IsOffset, IsAddress, width_of}
+use Rattle.vg_base.specs.Offset.{IsOffset, IsAddress}
+use Rattle.vg_program.specs.Valid.{width_of}
 use Rattle.vg_program.specs.Tokens.{begins, signs_at}
-use Rattle.vg_program.specs.Grammar.{pointer_of, integer_of, fits, positive_offset, negative_offset, negative_at, positive_at, offset_at, address_at, given_operand_at, literal_at, argument_at, begins_digit, operand_at, width_with, sized_at, pair_at}
+use Rattle.vg_program.specs.Grammar.{pointer_of, integer_of, fits, positive_offset, negative_offset, negative_at, positive_at, offset_at, address_at, given_operand_at, literal_at, argument_at, operand_at, width_with, sized_at, pair_at}
 use Rattle.vg_program.proofs.Steps.{Holds, now, never, and_then, if_both, if_ok, or_stop_ok, judged_ok, Stops, found_is}
 use Rattle.vg_program.proofs.TokenLaws.{signs_takes, name_takes, name_again, name_begins, type_takes, type_again, number_takes, number_again, register_takes, register_again}
 use Rattle.vg_program.proofs.NameLaws.{PointerAt, pointer_at, pointer_named, IntegerAt, integer_at, integer_named, pointer_found, integer_found}
@@ -107,7 +108,7 @@ pointer_of_is (named.Pointer p) k e = cc
 pointer_of_is (named.Integer i w) k e = absurd cc
 pointer_of_is named.Nothing k e = absurd cc
 
-pub address_takes : (params : List Param) (text : List ℕ) → Holds (address_at params text) (λ x. (text ≡ address_text params x.0 ++ x.1) × IsAddress params x.0)
+pub address_takes : (params : List Param) (text : List ℕ) → Holds (address_at params text) (λ x. (text ≡ address_text params x.0 ++ x.1) × IsAddress (length (pointers params)) x.0)
 unfolding address_at
 address_takes params text =
     and_then _ _ _ _ (name_takes text) (λ name n.
@@ -117,10 +118,10 @@ address_takes params text =
     let a : Address = record { pointer = k; offset = offset.0 } in
     let called : name_of (slice_get (pointers params) k) ≡ name.0 = rw place p.called in
     let spelled : text ≡ address_text params a ++ offset.1 = n.0 ∙ ap (λ (b : List ℕ). name.0 ++ b) o.0 ∙ sym (append_assoc name.0 (offset_text offset.0) offset.1) ∙ ap (λ (m : List ℕ). (m ++ offset_text offset.0) ++ offset.1) (sym called) in
-    let valid : IsAddress params a = record { pointer = omega (arith, place, p.within); offset = o.1 } in
+    let valid : IsAddress (length (pointers params)) a = record { pointer = omega (arith, place, p.within); offset = o.1 } in
     now _ _ (spelled, valid))))
 
-pub address_again : (params : List Param) (a : Address) (rest : List ℕ) → AreParams params → IsAddress params a → Stops is_digit rest → address_at params (address_text params a ++ rest) ≡ Ok (a, rest)
+pub address_again : (params : List Param) (a : Address) (rest : List ℕ) → AreParams params → IsAddress (length (pointers params)) a → Stops is_digit rest → address_at params (address_text params a ++ rest) ≡ Ok (a, rest)
 unfolding address_at
 address_again params a rest p valid stops =
     let name = name_of (slice_get (pointers params) a.pointer) in

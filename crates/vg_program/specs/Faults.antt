@@ -1,5 +1,6 @@
 -- The refusal of a text: its first fault and the place of that.
 use Rattle.std.specs.Prelude.{◌≡◌, ℕ, ◌+◌, ◌-◌, ◌==◌, List, length, take, nat_lt, Option, Some, None, Result, Ok, Err, if◌then◌else◌}
+use Rattle.vg_base.specs.Gives.{Gives}
 use Rattle.vg_text.specs.declared.place.Place.{Place}
 use Rattle.vg_text.specs.Place.{first_place, place_after, end_place}
 use Rattle.vg_program.specs.declared.program.Program.{Program}
@@ -43,7 +44,8 @@ placed faults.Range p = Range p
 
 -- the place of the byte behind these many, or of the end
 unfoldable pub place_in : List ℕ → ℕ → Place
-place_in text n = if nat_lt n (length text) then place_after first_place (take n text) else end_place text
+place_in text n =
+    if nat_lt n (length text) then place_after first_place (take n text) else end_place text
 
 -- the refusal of a text that stops there
 abbrev pub refusal : List ℕ → Stop → ProgramFault
@@ -56,10 +58,15 @@ located text (Err stop) = Err (refusal text stop)
 
 -- the program of a text, or its first fault; a text of more than 4 MiB is not looked at
 unfoldable pub read : List ℕ → Result Program ProgramFault
-read text = if nat_lt 4194304 (length text) then Err (TooLarge first_place) else located text (program_at text)
+read text =
+    if nat_lt 4194304 (length text) then Err (TooLarge first_place)
+    else located text (program_at text)
+
+-- the refusal that an error tells of the text; want of memory tells none
+abbrev pub told : ProgramFault → Option ProgramFault
+told (Memory e) = None
+told fault = Some fault
 
 -- what a call returned is this, unless memory ran out
 abbrev pub Returns : Result Program ProgramFault → Result Program ProgramFault → Type 0
-Returns (Ok p) answer = answer ≡ Ok p
-Returns (Err (Memory e)) answer = Unit {0}
-Returns (Err fault) answer = answer ≡ Err fault
+Returns result answer = Gives told (λ p. p) result answer

@@ -36,7 +36,7 @@ use Rattle.vg_program.specs.declared.fault.Fault.TheVariants.{Shape, UnknownRegi
 use Rattle.vg_program.specs.declared.stop.Stop.{Stop}
 use Rattle.vg_program.specs.Text.{line_end, two_text, shift_text, resize_text, comparison_text, given}
 use Rattle.vg_program.specs.Cost.{line_cost}
-use Rattle.vg_text.specs.Byte.{is_digit}
+use Rattle.vg_text.specs.Byte.{begins_digit}
 use Rattle.vg_program.specs.Tokens.{Read, met, unfit, begins, signs_at, is_word, word_at, word_of, behind_word, name_at, type_at, number_at, register_at}
 
 -- ---- parameters
@@ -99,7 +99,9 @@ integer_count (Integer w) = 1
 -- what a name stands for among these parameters, behind so many pointers and integers
 unfoldable pub named_in : ℕ → ℕ → List Param → List ℕ → Named
 named_in p i [] name = named.Nothing
-named_in p i (q ∷ qs) name = if bytes_eq q.name name then numbered p i q.kind else named_in (p + pointer_count q.kind) (i + integer_count q.kind) qs name
+named_in p i (q ∷ qs) name =
+    if bytes_eq q.name name then numbered p i q.kind
+    else named_in (p + pointer_count q.kind) (i + integer_count q.kind) qs name
 
 -- the number of a pointer
 abbrev pub pointer_of : Named → Result ℕ Fault
@@ -131,7 +133,8 @@ abbrev pub positive_offset : ℕ → Result ℤ Fault
 positive_offset n = if nat_lt n (2 ^ 31) then Ok (pos n) else Err Range
 
 abbrev pub negative_offset : ℕ → Result ℤ Fault
-negative_offset n = if n == 0 then Err Range else if nat_lt (n - 1) (2 ^ 31) then Ok (negsuc (n - 1)) else Err Range
+negative_offset n =
+    if n == 0 then Err Range else if nat_lt (n - 1) (2 ^ 31) then Ok (negsuc (n - 1)) else Err Range
 
 -- `-4`
 unfoldable pub negative_at : List ℕ → Read ℤ
@@ -161,7 +164,8 @@ address_at params text = do
   offset ← offset_at name.1
   Ok (record { pointer = pointer; offset = offset.0 }, offset.1)
 
--- `%s3`, where these are the widths of the registers given before; an operand is read with its width in bits
+-- `%s3`, where these are the widths of the registers given before; an operand is read with its
+-- width in bits
 unfoldable pub given_operand_at : List ℕ → Wanted → List ℕ → Read (Operand × ℕ)
 given_operand_at widths want text = do
   k ← register_at text
@@ -173,23 +177,25 @@ unfoldable pub literal_at : Wanted → List ℕ → Read (Operand × ℕ)
 literal_at want text = do
   n ← number_at text
   w ← type_at n.1
-  if fits want (bits_of w.0) then (if nat_lt n.0 (2 ^ bits_of w.0) then Ok ((Literal w.0 n.0, bits_of w.0), w.1) else Err (met Range text)) else Err (met WidthMismatch text)
+  if fits want (bits_of w.0)
+      then (if nat_lt n.0 (2 ^ bits_of w.0) then Ok ((Literal w.0 n.0, bits_of w.0), w.1)
+      else Err (met Range text))
+      else Err (met WidthMismatch text)
 
 -- the name of an integer parameter
 unfoldable pub argument_at : List Param → Wanted → List ℕ → Read (Operand × ℕ)
 argument_at params want text = do
   name ← name_at text
   k ← judged text (integer_of (named_in 0 0 params name.0))
-  if fits want (bits_of k.1) then Ok ((Argument k.0, bits_of k.1), name.1) else Err (met WidthMismatch text)
-
--- whether a text begins with a digit
-abbrev pub begins_digit : List ℕ → Bool
-begins_digit [] = false
-begins_digit (b ∷ bs) = is_digit b
+  if fits want (bits_of k.1) then Ok ((Argument k.0, bits_of k.1), name.1)
+      else Err (met WidthMismatch text)
 
 -- an operand where this is wanted of its width
 unfoldable pub operand_at : List Param → List ℕ → Wanted → List ℕ → Read (Operand × ℕ)
-operand_at params widths want text = if begins 37 text then given_operand_at widths want text else if begins_digit text then literal_at want text else argument_at params want text
+operand_at params widths want text =
+    if begins 37 text then given_operand_at widths want text
+    else if begins_digit text then literal_at want text
+    else argument_at params want text
 
 -- the width of so many bits
 abbrev pub width_with : ℕ → Option Width
@@ -297,7 +303,14 @@ head_text (head.Select w) = codes "select"
 
 -- the lines that give a register of this width
 abbrev pub numbers : Width → List Head
-numbers w = head.Load w ∷ head.Two Add w ∷ head.Two Sub w ∷ head.Two Mul w ∷ head.Two And w ∷ head.Two Or w ∷ head.Two Xor w ∷ head.Two Smin w ∷ head.Two Smax w ∷ head.Two Umin w ∷ head.Two Umax w ∷ head.Shift Shl w ∷ head.Shift Lshr w ∷ head.Shift Ashr w ∷ head.Resize Sext w ∷ head.Resize Zext w ∷ head.Resize Trunc w ∷ head.Select w ∷ []
+numbers w =
+    head.Load w
+    ∷ head.Two Add w ∷ head.Two Sub w ∷ head.Two Mul w
+    ∷ head.Two And w ∷ head.Two Or w ∷ head.Two Xor w
+    ∷ head.Two Smin w ∷ head.Two Smax w ∷ head.Two Umin w ∷ head.Two Umax w
+    ∷ head.Shift Shl w ∷ head.Shift Lshr w ∷ head.Shift Ashr w
+    ∷ head.Resize Sext w ∷ head.Resize Zext w ∷ head.Resize Trunc w
+    ∷ head.Select w ∷ []
 
 -- the lines that may stand to the right of this
 abbrev pub heads : Left → List Head
@@ -347,16 +360,20 @@ line_at params widths text = do
 
 -- lines behind these, with room for so many more, up to the word `end`
 unfoldable pub lines_at : ℕ → List Param → List ℕ → List Line → List ℕ → Read (List Line)
-lines_at zero params widths done text = if is_word (codes "end") text then Ok (done, text) else Err (unfit text)
-lines_at (suc room) params widths done text = if is_word (codes "end") text then Ok (done, text) else do
-  line ← line_at params widths text
-  lines_at room params (widths ++ given line.0) (done ++ line.0 ∷ []) line.1
+lines_at zero params widths done text =
+    if is_word (codes "end") text then Ok (done, text) else Err (unfit text)
+lines_at (suc room) params widths done text =
+    if is_word (codes "end") text then Ok (done, text) else do
+      line ← line_at params widths text
+      lines_at room params (widths ++ given line.0) (done ++ line.0 ∷ []) line.1
 
 -- ---- the last line
 
 -- the stated cost, which is the counted one
 abbrev pub cost_from : ℕ → ℕ → Result ℕ Fault
-cost_from counted n = if nat_lt n (2 ^ 32) then (if n == counted then Ok n else Err (CostWrong n counted)) else Err Range
+cost_from counted n =
+    if nat_lt n (2 ^ 32) then (if n == counted then Ok n else Err (CostWrong n counted))
+    else Err Range
 
 -- the stated scalar cost
 abbrev pub scalar_from : ℕ → Result ℕ Fault
@@ -397,4 +414,12 @@ program_at text = do
   first ← first_line_at text
   lines ← lines_at 4194304 first.1 [] [] first.2
   last ← last_line_at (sum_by line_cost lines.0) lines.1
-  if length last.2 == 0 then Ok (record { name = first.0; params = first.1; lines = lines.0; cost = last.0; scalar = last.1 }) else Err (unfit last.2)
+  if length last.2 == 0
+      then Ok (record {
+        name = first.0;
+        params = first.1;
+        lines = lines.0;
+        cost = last.0;
+        scalar = last.1;
+      })
+      else Err (unfit last.2)

@@ -142,15 +142,18 @@ line_text params k l = left_text k (given l) ++ word_text l ++ codes " " ++ oper
 -- the lines between the first and the last
 unfoldable pub lines_text : List Param → ℕ → List Line → List ℕ
 lines_text params k [] = []
-lines_text params k (l ∷ ls) = line_text params k l ++ line_end ++ lines_text params (k + length (given l)) ls
+lines_text params k (l ∷ ls) =
+    line_text params k l ++ line_end ++ lines_text params (k + length (given l)) ls
 
 -- `program copy(d: ptr, k: i8)`
 abbrev pub first_line : Program → List ℕ
-first_line p = codes "program " ++ p.name ++ codes "(" ++ params_text p.params ++ codes ")" ++ line_end
+first_line p =
+    codes "program " ++ p.name ++ codes "(" ++ params_text p.params ++ codes ")" ++ line_end
 
 -- `end cost 2 scalar 2`
 abbrev pub last_line : Program → List ℕ
-last_line p = codes "end cost " ++ decimal p.cost ++ codes " scalar " ++ decimal p.scalar ++ line_end
+last_line p =
+    codes "end cost " ++ decimal p.cost ++ codes " scalar " ++ decimal p.scalar ++ line_end
 
 -- the whole text
 unfoldable pub text_of : Program → List ℕ

@@ -1,5 +1,5 @@
--- The tokens of a program, read from the front of a text. A reader gives what it read and the bytes behind it, or the
--- first fault and how many bytes are left there.
+-- The tokens of a program, read from the front of a text. A reader gives what it read and the bytes
+-- behind it, or the first fault and how many bytes are left there.
 use Rattle.std.specs.Prelude.{◌≡◌, ℕ, ◌+◌, ◌-◌, ◌*◌, ◌^◌, List, [], ◌∷◌, length, take, drop, Bool, true, false, ◌&&◌, ◌||◌, ◌==◌, not, min, nat_lt, Option, Some, None, Result, Ok, Err, codes, if◌then◌else◌}
 use Rattle.std.specs.List.{prefix_len, starts_with}
 use Rattle.std.specs.Str.{bytes_eq}
@@ -50,7 +50,8 @@ is_printed b = b == 10 || b == 32 || is_printable b
 -- a text that begins with no token: with a foreign byte or a name that is too long
 unfoldable pub begins_no_token : List ℕ → Bool
 begins_no_token [] = false
-begins_no_token (b ∷ bs) = if is_letter b then nat_lt 64 (word_length (b ∷ bs)) else not (is_printed b)
+begins_no_token (b ∷ bs) =
+    if is_letter b then nat_lt 64 (word_length (b ∷ bs)) else not (is_printed b)
 
 -- the fault of a token that does not fit what stands before it, or of none
 unfoldable pub unfit : List ℕ → Stop
@@ -77,11 +78,17 @@ word_at word text = if is_word word text then Ok (behind_word text) else Err (un
 
 -- any name
 unfoldable pub name_at : List ℕ → Read (List ℕ)
-name_at text = if is_name_text (word_of text) then Ok (word_of text, behind_word text) else Err (unfit text)
+name_at text =
+    if is_name_text (word_of text) then Ok (word_of text, behind_word text) else Err (unfit text)
 
 -- the width of a type
 abbrev pub width_named : List ℕ → Option Width
-width_named name = if bytes_eq name (codes "i8") then Some W8 else if bytes_eq name (codes "i16") then Some W16 else if bytes_eq name (codes "i32") then Some W32 else if bytes_eq name (codes "i64") then Some W64 else None
+width_named name =
+    if bytes_eq name (codes "i8") then Some W8
+    else if bytes_eq name (codes "i16") then Some W16
+    else if bytes_eq name (codes "i32") then Some W32
+    else if bytes_eq name (codes "i64") then Some W64
+    else None
 
 -- `i32`
 unfoldable pub type_at : List ℕ → Read Width
@@ -117,7 +124,9 @@ number_of digits = min (value_behind 0 digits) (2 ^ 64)
 
 -- a number without a leading zero
 unfoldable pub number_at : List ℕ → Read ℕ
-number_at text = if is_numeral (digits_of text) then Ok (number_of (digits_of text), behind_digits text) else Err (unfit text)
+number_at text =
+    if is_numeral (digits_of text) then Ok (number_of (digits_of text), behind_digits text)
+    else Err (unfit text)
 
 -- `%s` and the digits of its number
 abbrev pub is_register : List ℕ → Bool
@@ -125,4 +134,6 @@ is_register text = starts_with nat_eq text (codes "%s") && is_numeral (digits_of
 
 -- its number
 unfoldable pub register_at : List ℕ → Read ℕ
-register_at text = if is_register text then Ok (number_of (digits_of (drop 2 text)), behind_digits (drop 2 text)) else Err (unfit text)
+register_at text =
+    if is_register text then Ok (number_of (digits_of (drop 2 text)), behind_digits (drop 2 text))
+    else Err (unfit text)

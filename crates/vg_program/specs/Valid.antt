@@ -1,7 +1,7 @@
 -- What makes a program valid.
-use Rattle.std.specs.Prelude.{◌≡◌, ◌≢◌, ℕ, ◌^◌, ◌<◌, ◌≤◌, ℤ, pos, negsuc, List, [], ◌∷◌, ◌++◌, length, slice_get, Option, Some, None, nat_lt, IsTrue, IsSomeAnd, if◌then◌else◌}
+use Rattle.std.specs.Prelude.{◌≡◌, ◌≢◌, ℕ, ◌^◌, ◌<◌, ◌≤◌, List, [], ◌∷◌, ◌++◌, length, slice_get, Option, Some, None, nat_lt, IsTrue, IsSomeAnd, if◌then◌else◌}
 use Rattle.std.specs.Option.{option_map}
-use Rattle.vg_base.specs.declared.address.Address.{Address}
+use Rattle.vg_base.specs.Offset.{IsAddress}
 use Rattle.vg_base.specs.declared.width.Width.{Width}
 use Rattle.vg_base.specs.Width.{bits_of}
 use Rattle.vg_scalar.specs.declared.resize.Resize.{Resize as ResizeOp}
@@ -17,21 +17,13 @@ use Rattle.vg_program.specs.Params.{pointers, integers, kind_bits, AreParams}
 use Rattle.vg_program.specs.Text.{text_of, given}
 use Rattle.vg_program.specs.Cost.{cost_of}
 
--- the numbers of 32 bits with a sign
-abbrev pub IsOffset : ℤ → Type 0
-IsOffset (pos n) = n < 2 ^ 31
-IsOffset (negsuc n) = n < 2 ^ 31
-
--- a pointer that is a parameter, and an offset of 32 bits
-pub record IsAddress (params : List Param) (a : Address) : Type 0 where
-  pub pointer : a.pointer < length (pointers params)
-  pub offset : IsOffset a.offset
-
--- The width of an operand in bits, where these are the widths of the registers given before. There is none where
--- the operand names nothing that stands before, or is a literal that its width does not hold.
+-- The width of an operand in bits, where these are the widths of the registers given before. There
+-- is none where the operand names nothing that stands before, or is a literal that its width does
+-- not hold.
 abbrev pub width_of : List Param → List ℕ → Operand → Option ℕ
 width_of params widths (Register k) = slice_get widths k
-width_of params widths (Argument k) = option_map (λ q. kind_bits q.kind) (slice_get (integers params) k)
+width_of params widths (Argument k) =
+    option_map (λ q. kind_bits q.kind) (slice_get (integers params) k)
 width_of params widths (Literal w n) = if nat_lt n (2 ^ bits_of w) then Some (bits_of w) else None
 
 -- whether a change of width leads from one width to another
@@ -42,13 +34,21 @@ Resizes Trunc from to = bits_of to < bits_of from
 
 -- the rules on one line, where these are the widths of the registers given before
 abbrev pub IsLine : List Param → List ℕ → Line → Type 0
-IsLine params widths (Load w a) = IsAddress params a
-IsLine params widths (Store a v) = IsAddress params a × IsSomeAnd (width_of params widths v) (λ w. w ≢ 1)
-IsLine params widths (Two op w l r) = (width_of params widths l ≡ Some (bits_of w)) × (width_of params widths r ≡ Some (bits_of w))
-IsLine params widths (Shift op w v n) = (width_of params widths v ≡ Some (bits_of w)) × (n < bits_of w)
-IsLine params widths (Resize op w from v) = (width_of params widths v ≡ Some (bits_of from)) × Resizes op from w
-IsLine params widths (Compare op w l r) = (width_of params widths l ≡ Some (bits_of w)) × (width_of params widths r ≡ Some (bits_of w))
-IsLine params widths (Select w c a b) = (width_of params widths c ≡ Some 1) × (width_of params widths a ≡ Some (bits_of w)) × (width_of params widths b ≡ Some (bits_of w))
+IsLine params widths (Load w a) = IsAddress (length (pointers params)) a
+IsLine params widths (Store a v) =
+    IsAddress (length (pointers params)) a × IsSomeAnd (width_of params widths v) (λ w. w ≢ 1)
+IsLine params widths (Two op w l r) =
+    (width_of params widths l ≡ Some (bits_of w)) × (width_of params widths r ≡ Some (bits_of w))
+IsLine params widths (Shift op w v n) =
+    (width_of params widths v ≡ Some (bits_of w)) × (n < bits_of w)
+IsLine params widths (Resize op w from v) =
+    (width_of params widths v ≡ Some (bits_of from)) × Resizes op from w
+IsLine params widths (Compare op w l r) =
+    (width_of params widths l ≡ Some (bits_of w)) × (width_of params widths r ≡ Some (bits_of w))
+IsLine params widths (Select w c a b) =
+    (width_of params widths c ≡ Some 1)
+    × (width_of params widths a ≡ Some (bits_of w))
+    × (width_of params widths b ≡ Some (bits_of w))
 
 -- each line by what stands before it
 abbrev pub AreLines : List Param → List ℕ → List Line → Type 0

@@ -1,7 +1,8 @@
-//! Programs: their type, what makes one valid, its text, its meaning and its cost, the printing and the reading.
+//! Programs: their type, what makes one valid, its text, its meaning and its cost, the printing and
+//! the reading.
 //!
-//! `specs/Valid.antt`, `specs/Text.antt`, `specs/Meaning.antt` and `specs/Cost.antt` define them; `specs/Grammar.antt`
-//! says what the first fault of any other text is.
+//! `specs/Valid.antt`, `specs/Text.antt`, `specs/Meaning.antt` and `specs/Cost.antt` define them;
+//! `specs/Grammar.antt` says what the first fault of any other text is.
 #![tactic(auto)]
 
 pub mod costs;

@@ -92,7 +92,8 @@ fn shift_at<'a>(
 ) -> Result<(Line, &'a [u8]), ReadError>
     requires params { length params.now ≤ 16 }
     requires widths { length widths.now ≤ 4194304 }
-    ensures { Gives (λ x. (x.0, x.1.now)) result (shift_at params.now widths.now op width text.now) }
+    ensures { Gives (λ x. (x.0, x.1.now)) result
+        (shift_at params.now widths.now op width text.now) }
 {
     let (operand, _, rest) = operand_at(params, widths, Wanted::Exactly(width), text)?;
     let number = signs_at(b" ", rest)?;
@@ -129,7 +130,8 @@ fn resize_at<'a>(
 ) -> Result<(Line, &'a [u8]), ReadError>
     requires params { length params.now ≤ 16 }
     requires widths { length widths.now ≤ 4194304 }
-    ensures { Gives (λ x. (x.0, x.1.now)) result (resize_at params.now widths.now op width text.now) }
+    ensures { Gives (λ x. (x.0, x.1.now)) result
+        (resize_at params.now widths.now op width text.now) }
 {
     let (operand, from, rest) = sized_at(params, widths, resized(op, width), text)?;
     Ok((

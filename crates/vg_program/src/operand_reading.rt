@@ -3,8 +3,7 @@
 ghost use Rattle.std.specs.Prelude.{◌≡◌, ◌≤◌, ◌+◌, length, slice_get, nat_lt, ◌^◌, ◌==◌};
 ghost use Rattle.vg_program.specs.Tokens.{Gives};
 ghost use Rattle.vg_base.specs.Width.{bits_of};
-ghost use Rattle.vg_text.specs.Byte.{is_digit};
-ghost use Rattle.vg_program.specs.Grammar.{named_in, judged, pointer_of, integer_of, fits, positive_offset, negative_offset, negative_at, positive_at, offset_at, address_at, given_operand_at, literal_at, argument_at, begins_digit, operand_at, width_with, sized_at, pair_at};
+ghost use Rattle.vg_program.specs.Grammar.{named_in, judged, pointer_of, integer_of, fits, positive_offset, negative_offset, negative_at, positive_at, offset_at, address_at, given_operand_at, literal_at, argument_at, operand_at, width_with, sized_at, pair_at};
 
 use crate::fault::Fault;
 use crate::named::Named;
@@ -16,7 +15,7 @@ use crate::tokens::{begins, met, name_at, number_at, register_at, signs_at, type
 use crate::wanted::Wanted;
 use vg_base::address::Address;
 use vg_base::width::Width;
-use vg_text::byte::{is_digit, is_text};
+use vg_text::byte::{begins_digit, is_text};
 
 /// What a name stands for among these parameters.
 #[tactic(auto, unfolding(crate::specs::Grammar::named_in))]
@@ -168,7 +167,8 @@ fn given_operand_at<'a>(
     text: &'a [u8],
 ) -> Result<(Operand, u32, &'a [u8]), ReadError>
     requires { length widths.now ≤ 4194304 }
-    ensures { Gives (λ x. ((x.0, x.1), x.2.now)) result (given_operand_at widths.now wanted text.now) }
+    ensures { Gives (λ x. ((x.0, x.1), x.2.now)) result
+        (given_operand_at widths.now wanted text.now) }
 {
     let (register, rest) = register_at(text)?;
     match width_of(widths, register) {
@@ -229,15 +229,6 @@ fn argument_at<'a>(
     Ok((Operand::Argument(number), width.bits(), rest))
 }
 
-fn begins_digit(text: &[u8]) -> bool
-    ensures { result ≡ begins_digit text.now }
-{
-    match text {
-        [] => false,
-        [first, ..] => is_digit(*first),
-    }
-}
-
 /// An operand with its width in bits.
 #[tactic(auto, unfolding(crate::specs::Grammar::operand_at))]
 pub(crate) fn operand_at<'a>(
@@ -248,7 +239,8 @@ pub(crate) fn operand_at<'a>(
 ) -> Result<(Operand, u32, &'a [u8]), ReadError>
     requires params { length params.now ≤ 16 }
     requires widths { length widths.now ≤ 4194304 }
-    ensures { Gives (λ x. ((x.0, x.1), x.2.now)) result (operand_at params.now widths.now wanted text.now) }
+    ensures { Gives (λ x. ((x.0, x.1), x.2.now)) result
+        (operand_at params.now widths.now wanted text.now) }
 {
     if begins(b'%', text) {
         given_operand_at(widths, wanted, text)
@@ -281,7 +273,8 @@ pub(crate) fn sized_at<'a>(
 ) -> Result<(Operand, Width, &'a [u8]), ReadError>
     requires params { length params.now ≤ 16 }
     requires widths { length widths.now ≤ 4194304 }
-    ensures { Gives (λ x. ((x.0, x.1), x.2.now)) result (sized_at params.now widths.now wanted text.now) }
+    ensures { Gives (λ x. ((x.0, x.1), x.2.now)) result
+        (sized_at params.now widths.now wanted text.now) }
 {
     let (operand, bits, rest) = operand_at(params, widths, wanted, text)?;
     match width_with(bits) {
@@ -300,7 +293,8 @@ pub(crate) fn pair_at<'a>(
 ) -> Result<(Operand, Operand, &'a [u8]), ReadError>
     requires params { length params.now ≤ 16 }
     requires widths { length widths.now ≤ 4194304 }
-    ensures { Gives (λ x. ((x.0, x.1), x.2.now)) result (pair_at params.now widths.now width text.now) }
+    ensures { Gives (λ x. ((x.0, x.1), x.2.now)) result
+        (pair_at params.now widths.now width text.now) }
 {
     let (first, _, rest) = operand_at(params, widths, Wanted::Exactly(width), text)?;
     let rest = signs_at(b" ", rest)?;

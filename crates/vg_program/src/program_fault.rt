@@ -7,8 +7,8 @@ use std::alloc::AllocError;
 use thiserror::Error;
 use vg_text::place::Place;
 
-/// Why a text is no valid program: its first fault from left to right, with the place of the token. Where one token
-/// has two faults, the one of the lesser number is named.
+/// Why a text is no valid program: its first fault from left to right, with the place of the token.
+/// Where one token has two faults, the one of the lesser number is named.
 #[derive(Debug, Drop, Error)]
 pub enum ProgramFault {
     /// A byte that is neither LF nor 0x20 to 0x7E, or a name of more than 64 bytes.

@@ -18,6 +18,11 @@ is_letter b = (nat_le 97 b && nat_le b 122) || ((nat_le 65 b && nat_le b 90) || 
 abbrev pub is_digit : ℕ → Bool
 is_digit b = nat_le 48 b && nat_le b 57
 
+-- a text that begins with a decimal digit
+abbrev pub begins_digit : List ℕ → Bool
+begins_digit [] = false
+begins_digit (b ∷ bs) = is_digit b
+
 -- a hexadecimal digit of either case
 abbrev pub is_hex_digit : ℕ → Bool
 is_hex_digit b = is_digit b || nat_le 97 b && nat_le b 102 || nat_le 65 b && nat_le b 70
@@ -37,4 +42,6 @@ in_comment b = not (b == 10) && (is_white b || is_printable b)
 
 -- the signs of two bytes: := == != <= >= << >>
 abbrev pub is_pair : ℕ → ℕ → Bool
-is_pair b c = (b == 58 || b == 61 || b == 33 || b == 60 || b == 62) && c == 61 || b == 60 && c == 60 || b == 62 && c == 62
+is_pair b c =
+    (b == 58 || b == 61 || b == 33 || b == 60 || b == 62) && c == 61 || b == 60 && c == 60
+    || b == 62 && c == 62

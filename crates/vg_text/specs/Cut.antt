@@ -1,5 +1,6 @@
--- How a text is cut into tokens, in the words of the language: white space and comments stand between the tokens, and
--- each token goes on as far as it can. `lex` finds the tokens from left to right; here is only what they have to be.
+-- How a text is cut into tokens, in the words of the language: white space and comments stand
+-- between the tokens, and each token goes on as far as it can. `lex` finds the tokens from left to
+-- right; here is only what they have to be.
 use Rattle.std.specs.Prelude.{◌≡◌, ℕ, ◌+◌, ◌^◌, ◌<◌, ◌≤◌, Bool, not, ◌&&◌, ◌||◌, ◌==◌, ◌⊎◌, List, [], ◌∷◌, ◌++◌, length, slice_index, slice_range, drop, IsTrue, IsFalse, codes}
 use Rattle.std.specs.List.{list_all}
 use Rattle.vg_text.specs.declared.place.Place.{Place}
@@ -16,12 +17,19 @@ abbrev pub Stops : (ℕ → Bool) → List ℕ → Type 0
 Stops is [] = Unit {0}
 Stops is (b ∷ bs) = IsFalse (is b)
 
--- White space and comments, with what stands behind them. A comment goes on to the end of its line: to LF, to the end
--- of the text, or to a byte that may stand nowhere.
+-- White space and comments, with what stands behind them. A comment goes on to the end of its line:
+-- to LF, to the end of the text, or to a byte that may stand nowhere.
 pub data IsGap : List ℕ → List ℕ → Type 0 where
   nothing : (behind : List ℕ) → IsGap [] behind
-  white : (b : ℕ) (gap behind : List ℕ) → IsTrue (is_white b) → IsGap gap behind → IsGap (b ∷ gap) behind
-  comment : (inside gap behind : List ℕ) → IsTrue (list_all in_comment inside) → Stops in_comment (gap ++ behind) → IsGap gap behind → IsGap (codes "//" ++ (inside ++ gap)) behind
+  white : (b : ℕ) (gap behind : List ℕ)
+      → IsTrue (is_white b)
+      → IsGap gap behind
+      → IsGap (b ∷ gap) behind
+  comment : (inside gap behind : List ℕ)
+      → IsTrue (list_all in_comment inside)
+      → Stops in_comment (gap ++ behind)
+      → IsGap gap behind
+      → IsGap (codes "//" ++ (inside ++ gap)) behind
 
 -- one or more hexadecimal digits
 abbrev pub is_hexadecimal : List ℕ → Bool
@@ -29,8 +37,15 @@ is_hexadecimal digits = not (length digits == 0) && list_all is_hex_digit digits
 
 -- a decimal or a hexadecimal number, all its digits, and its value
 pub data Spells : List ℕ → List ℕ → ℕ → Type 0 where
-  tens : (digits behind : List ℕ) → IsTrue (is_decimal digits) → Stops is_digit behind → IsFalse (opens_hexadecimal (digits ++ behind)) → Spells digits behind (value_in 10 digits)
-  sixteens : (digits behind : List ℕ) → IsTrue (is_hexadecimal digits) → Stops is_hex_digit behind → Spells (codes "0x" ++ digits) behind (value_in 16 digits)
+  tens : (digits behind : List ℕ)
+      → IsTrue (is_decimal digits)
+      → Stops is_digit behind
+      → IsFalse (opens_hexadecimal (digits ++ behind))
+      → Spells digits behind (value_in 10 digits)
+  sixteens : (digits behind : List ℕ)
+      → IsTrue (is_hexadecimal digits)
+      → Stops is_hex_digit behind
+      → Spells (codes "0x" ++ digits) behind (value_in 16 digits)
 
 -- a byte that may be a sign of its own
 abbrev pub is_single : ℕ → Bool
@@ -39,7 +54,10 @@ is_single b = is_printable b && not (is_letter b || is_digit b)
 -- a sign of two bytes, else one of one byte that opens neither such a sign nor a comment
 abbrev pub IsSign : List ℕ → List ℕ → Type 0
 IsSign [] behind = ⊥
-IsSign (b ∷ []) behind = IsTrue (is_single b) × IsFalse (is_pair b (slice_index behind 0)) × IsFalse (opens_comment (b ∷ behind))
+IsSign (b ∷ []) behind =
+    IsTrue (is_single b)
+    × IsFalse (is_pair b (slice_index behind 0))
+    × IsFalse (opens_comment (b ∷ behind))
 IsSign (b ∷ c ∷ []) behind = IsTrue (is_pair b c)
 IsSign (b ∷ c ∷ d ∷ more) behind = ⊥
 
@@ -53,8 +71,15 @@ IsLexeme End lexeme behind = ⊥
 -- a byte that may stand nowhere, a name of more than 64 bytes, or a number of 2 ^ 127 or more
 pub data IsFault : List ℕ → Type 0 where
   stray : (b : ℕ) (behind : List ℕ) → IsFalse (is_white b || is_printable b) → IsFault (b ∷ behind)
-  long_name : (b : ℕ) (bs behind : List ℕ) → IsTrue (is_letter b && list_all is_name bs) → Stops is_name behind → 64 < length (b ∷ bs) → IsFault ((b ∷ bs) ++ behind)
-  large_number : (digits behind : List ℕ) (n : ℕ) → Spells digits behind n → 2 ^ 127 ≤ n → IsFault (digits ++ behind)
+  long_name : (b : ℕ) (bs behind : List ℕ)
+      → IsTrue (is_letter b && list_all is_name bs)
+      → Stops is_name behind
+      → 64 < length (b ∷ bs)
+      → IsFault ((b ∷ bs) ++ behind)
+  large_number : (digits behind : List ℕ) (n : ℕ)
+      → Spells digits behind n
+      → 2 ^ 127 ≤ n
+      → IsFault (digits ++ behind)
 
 -- a token stands behind this gap and has these bytes, where the gap begins at this byte and place
 pub record Stands (at : ℕ) (p : Place) (gap lexeme : List ℕ) (t : Token) : Type 0 where
@@ -69,8 +94,9 @@ pub record IsEnd (at : ℕ) (last : Place) (t : Token) : Type 0 where
   pub end : t.end ≡ at
   pub place : t.place ≡ last
 
--- A text that begins at this byte and place, and ends at the place before them, is cut into these tokens: a gap, a
--- token, and what stands behind it, cut again; or a gap alone, and the end; or a gap and a fault, which stands at its place.
+-- A text that begins at this byte and place, and ends at the place before them, is cut into these
+-- tokens: a gap, a token, and what stands behind it, cut again; or a gap alone, and the end; or a
+-- gap and a fault, which stands at its place.
 unfoldable pub Cuts : Place → ℕ → Place → List ℕ → Lexemes → Type 0
 Cuts last at p text (token t rest) =
     (gap lexeme behind : List ℕ)
@@ -89,4 +115,5 @@ Cuts last at p text (fault q) =
 
 -- the end, or a token whose bytes are those of the text from its start to its end
 abbrev pub IsTokenOf : List ℕ → Token → Type 0
-IsTokenOf text t = (t.kind ≡ End) ⊎ IsLexeme t.kind (slice_range text t.start t.end) (drop t.end text)
+IsTokenOf text t =
+    (t.kind ≡ End) ⊎ IsLexeme t.kind (slice_range text t.start t.end) (drop t.end text)

@@ -22,4 +22,5 @@ is_decimal text = not (length text == 0) && list_all is_digit text
 
 -- the decimal number that a text spells, where it is below 2 ^ 128
 unfoldable pub decimal_value : List ℕ → Option ℕ
-decimal_value text = if is_decimal text && nat_lt (value_in 10 text) (2 ^ 128) then Some (value_in 10 text) else None
+decimal_value text =
+    if is_decimal text && nat_lt (value_in 10 text) (2 ^ 128) then Some (value_in 10 text) else None

@@ -16,7 +16,8 @@ opens_comment text = slice_index text 0 == 47 && slice_index text 1 == 47
 
 -- `0x` and a hexadecimal digit
 abbrev pub opens_hexadecimal : List ℕ → Bool
-opens_hexadecimal text = slice_index text 0 == 48 && slice_index text 1 == 120 && is_hex_digit (slice_index text 2)
+opens_hexadecimal text =
+    slice_index text 0 == 48 && slice_index text 1 == 120 && is_hex_digit (slice_index text 2)
 
 -- a comment goes up to the end of its line
 abbrev pub comment_front : List ℕ → Front
@@ -24,19 +25,26 @@ comment_front text = Gap (2 + prefix_len in_comment (drop 2 text))
 
 -- a letter or `_`, then letters, digits and `_`, at most 64 bytes in all
 abbrev pub name_front : List ℕ → Front
-name_front text = let len = 1 + prefix_len is_name (drop 1 text) in if nat_le len 64 then Lexeme Name len else Bad
+name_front text =
+    let len = 1 + prefix_len is_name (drop 1 text) in
+    if nat_le len 64 then Lexeme Name len else Bad
 
 -- digits make a number below 2 ^ 127
 abbrev pub number_front : ℕ → List ℕ → ℕ → Front
-number_front base digits len = if nat_lt (value_in base digits) (2 ^ 127) then Lexeme Number len else Bad
+number_front base digits len =
+    if nat_lt (value_in base digits) (2 ^ 127) then Lexeme Number len else Bad
 
 -- decimal digits
 abbrev pub decimal_front : List ℕ → Front
-decimal_front text = let len = 1 + prefix_len is_digit (drop 1 text) in number_front 10 (take len text) len
+decimal_front text =
+    let len = 1 + prefix_len is_digit (drop 1 text) in
+    number_front 10 (take len text) len
 
 -- `0x` and hexadecimal digits
 abbrev pub hexadecimal_front : List ℕ → Front
-hexadecimal_front text = let len = 1 + prefix_len is_hex_digit (drop 3 text) in number_front 16 (take len (drop 2 text)) (2 + len)
+hexadecimal_front text =
+    let len = 1 + prefix_len is_hex_digit (drop 3 text) in
+    number_front 16 (take len (drop 2 text)) (2 + len)
 
 -- a sign of two bytes, else one of one byte
 abbrev pub sign_front : List ℕ → Front
@@ -45,7 +53,8 @@ sign_front text =
     else if is_printable (slice_index text 0) then Lexeme Sign 1
     else Bad
 
--- what stands at the front of a text: white space or a comment, the longest token, or a byte, name or number that is none
+-- what stands at the front of a text: white space or a comment, the longest token, or a byte, name
+-- or number that is none
 unfoldable pub front_of : List ℕ → Front
 front_of text =
     if is_white (slice_index text 0) then Gap 1
@@ -61,7 +70,8 @@ IsWithin (Gap n) len = (0 < n) × (n ≤ len)
 IsWithin (Lexeme kind n) len = (0 < n) × (n ≤ len)
 IsWithin Bad len = Unit {0}
 
--- the tokens of a text up to its end, or up to the place of the first byte, name or number that is none
+-- the tokens of a text up to its end, or up to the place of the first byte, name or number that is
+-- none
 pub data Lexemes : Type 0 where
   token : Token → Lexemes → Lexemes
   finish : Token → Lexemes
@@ -70,11 +80,12 @@ pub data Lexemes : Type 0 where
 -- what a front makes of the text behind it, which goes on by `more`
 abbrev pub from_front : Front → ℕ → Place → (ℕ → Lexemes) → Lexemes
 from_front (Gap n) at p more = more n
-from_front (Lexeme kind n) at p more = token (record { kind = kind; start = at; end = at + n; place = p }) (more n)
+from_front (Lexeme kind n) at p more =
+    token (record { kind = kind; start = at; end = at + n; place = p }) (more n)
 from_front Bad at p more = fault p
 
--- the tokens of a text of which `skip` bytes more are taken, and which begins at this byte and place; the end of the
--- whole text stands at the first of the two places
+-- the tokens of a text of which `skip` bytes more are taken, and which begins at this byte and
+-- place; the end of the whole text stands at the first of the two places
 unfoldable pub lex : Place → ℕ → ℕ → Place → List ℕ → Lexemes
 lex last skip at p [] = finish (record { kind = End; start = at; end = at; place = last })
 lex last (suc skip) at p (b ∷ bs) = lex last skip (at + 1) (place_behind p b) bs

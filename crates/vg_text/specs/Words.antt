@@ -31,26 +31,22 @@ spelled text t = record { bytes = slice_range text t.start t.end; place = t.plac
 abbrev pub word_from : List ℕ → Lexemes → Result (Spelled × Reading) Place
 word_from text (token t rest) = Ok (spelled text t, record { text = text; left = rest })
 word_from text (finish t) =
-    Ok (record { bytes = []; place = t.place; is_end = true }, record { text = text; left = finish t })
+    Ok (
+      record {
+        bytes = [];
+        place = t.place;
+        is_end = true;
+      },
+      record {
+        text = text;
+        left = finish t;
+      },
+    )
 word_from text (fault p) = Err p
 
 -- the next word of a text that is being read
 abbrev pub word_at : Reading → Result (Spelled × Reading) Place
 word_at r = word_from r.text r.left
-
--- the bytes of all words that are left, or None where a byte, name or number is no token
-unfoldable pub words_from : List ℕ → Lexemes → Option (List (List ℕ))
-words_from text (token t rest) = option_map (λ ws. slice_range text t.start t.end ∷ ws) (words_from text rest)
-words_from text (finish t) = Some []
-words_from text (fault p) = None
-
--- the bytes of the words that are left
-abbrev pub words_left : Reading → Option (List (List ℕ))
-words_left r = words_from r.text r.left
-
--- the words of a whole text
-abbrev pub words_of : List ℕ → Option (List (List ℕ))
-words_of text = words_left (reading_of text)
 
 -- the kind of the end
 abbrev pub is_end : TokenKind → Bool

@@ -1,7 +1,7 @@
 //! What bytes may be.
 
 ghost use Rattle.std.specs.Prelude.{◌≡◌};
-ghost use Rattle.vg_text.specs.Byte.{is_white, is_printable, is_letter, is_digit, is_hex_digit, is_name, is_name_text, in_comment, is_pair};
+ghost use Rattle.vg_text.specs.Byte.{is_white, is_printable, is_letter, is_digit, begins_digit, is_hex_digit, is_name, is_name_text, in_comment, is_pair};
 ghost use Rattle.std.specs.List.{list_all};
 ghost use Rattle.std.specs.Str.{bytes_eq};
 
@@ -30,6 +30,16 @@ pub fn is_digit(byte: u8) -> bool
     ensures { result ≡ is_digit byte }
 {
     b'0' <= byte && byte <= b'9'
+}
+
+/// Whether a text begins with a decimal digit.
+pub fn begins_digit(text: &[u8]) -> bool
+    ensures { result ≡ begins_digit text.now }
+{
+    match text {
+        [] => false,
+        [first, ..] => is_digit(*first),
+    }
 }
 
 /// A hexadecimal digit of either case.

@@ -9,10 +9,11 @@ use crate::token::{Token, TokenKind};
 
 /// Reads a text token by token. White space and comments stand between tokens and are passed over.
 ///
-/// `new` says that the tokens which are left cut the whole text (`specs/Cut.antt`), and `next` takes them one
-/// by one. So their spans are in order, each token's text is its slice, and before and between them stand
-/// white space and comments alone. `End` comes exactly where these alone are left, and `Err` exactly at the
-/// first byte, name or number that is no token; either is answered again from then on.
+/// `new` says that the tokens which are left cut the whole text (`specs/Cut.antt`), and `next`
+/// takes them one by one. So their spans are in order, each token's text is its slice, and before
+/// and between them stand white space and comments alone. `End` comes exactly where these alone are
+/// left, and `Err` exactly at the first byte, name or number that is no token; either is answered
+/// again from then on.
 #[derive(Clone, Copy, Debug)]
 pub struct Lexer<'a> {
     text: &'a [u8],
@@ -55,9 +56,10 @@ impl<'a> Lexer<'a> {
         &self.text[self.at..]
     }
 
-    /// The next token. At the end of the text it is of the kind `End` and empty, stands one column past the
-    /// last byte, on that byte's line, and is answered again from then on. `Err` is the place of the first
-    /// byte, name or number that is no token, and is answered again from then on. Takes no memory.
+    /// The next token. At the end of the text it is of the kind `End` and empty, stands one column
+    /// past the last byte, on that byte's line, and is answered again from then on. `Err` is the
+    /// place of the first byte, name or number that is no token, and is answered again from then
+    /// on. Takes no memory.
     pub fn next(&mut self) -> Result<Token, Place>
         ensures source { source self.new ≡ source self.old }
         ensures token { Takes (left self.old) result (left self.new) }
@@ -76,7 +78,9 @@ impl<'a> Lexer<'a> {
 
     /// The next token with its bytes, and the lexer behind it. Takes no memory.
     pub fn word(self) -> Result<(Word<'a>, Lexer<'a>), Place>
-        ensures word { MatchResult result (λ x. word_at (reading self.entry) ≡ Ok (spelled_of x.0, reading x.1)) (λ p. word_at (reading self.entry) ≡ Err p) }
+        ensures word { MatchResult result
+            (λ x. word_at (reading self.entry) ≡ Ok (spelled_of x.0, reading x.1))
+            (λ p. word_at (reading self.entry) ≡ Err p) }
     {
         let mut lexer = self;
         let token = lexer.next()?;
@@ -91,10 +95,16 @@ impl<'a> Lexer<'a> {
     /// The token of so many bytes that stands here, which is passed over.
     fn take(&mut self, kind: TokenKind, len: usize) -> Token
         requires { self.old.at + len ≤ length self.old.text.now }
-        ensures token { result ≡ record { kind = kind; start = self.old.at; end = self.old.at + len; place = self.old.place } }
+        ensures token { result ≡ record {
+          kind = kind;
+          start = self.old.at;
+          end = self.old.at + len;
+          place = self.old.place;
+        } }
         ensures at { self.new.at ≡ self.old.at + len }
         ensures text { self.new.text.now ≡ self.old.text.now }
-        ensures place { self.new.place ≡ place_after self.old.place (take len (drop self.old.at self.old.text.now)) }
+        ensures place { self.new.place ≡ place_after self.old.place
+            (take len (drop self.old.at self.old.text.now)) }
     {
         let token = Token {
             kind,
@@ -108,7 +118,12 @@ impl<'a> Lexer<'a> {
 
     /// The empty token at the end of the text.
     fn end(&self) -> Token
-        ensures { result ≡ record { kind = TokenKind.End; start = self.now.at; end = self.now.at; place = end_place self.now.text.now } }
+        ensures { result ≡ record {
+          kind = TokenKind.End;
+          start = self.now.at;
+          end = self.now.at;
+          place = end_place self.now.text.now;
+        } }
     {
         Token {
             kind: TokenKind::End,
@@ -123,7 +138,8 @@ impl<'a> Lexer<'a> {
         requires { self.old.at + count ≤ length self.old.text.now }
         ensures at { self.new.at ≡ self.old.at + count }
         ensures text { self.new.text.now ≡ self.old.text.now }
-        ensures place { self.new.place ≡ place_after self.old.place (take count (drop self.old.at self.old.text.now)) }
+        ensures place { self.new.place ≡ place_after self.old.place
+            (take count (drop self.old.at self.old.text.now)) }
     {
         let passed = &self.rest()[..count];
         let place = place_after(self.place, passed);

@@ -15,6 +15,3 @@ pub use lexer::Lexer;
 pub use number::decimal;
 pub use place::Place;
 pub use token::{Token, TokenKind};
-
-#[cfg(test)]
-mod tests;

@@ -46,7 +46,8 @@ pub fn place_after(place: Place, bytes: &[u8]) -> Place
     here
 }
 
-/// Where a text ends: one column past its last byte, on that byte's line. An empty text ends where it begins.
+/// Where a text ends: one column past its last byte, on that byte's line. An empty text ends where
+/// it begins.
 #[tactic(auto, unfolding(crate::specs::Place::end_place))]
 pub fn end_place(text: &[u8]) -> Place
     requires { length text.now ≤ 2 ^ 31 }

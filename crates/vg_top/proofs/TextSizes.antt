@@ -27,7 +27,8 @@ use Rattle.vg_program.specs.declared.line.Line.TheVariants.{Load, Store, Two, Sh
 use Rattle.vg_program.specs.declared.operand.Operand.{Operand}
 use Rattle.vg_program.specs.declared.operand.Operand.TheVariants.{Register, Argument, Literal}
 use Rattle.vg_program.specs.Params.{pointers, integers, name_of, is_pointer_kind, is_integer_kind}
-use Rattle.vg_program.specs.Valid.{IsOffset, width_of, IsLine, AreLines}
+use Rattle.vg_base.specs.Offset.{IsOffset}
+use Rattle.vg_program.specs.Valid.{width_of, IsLine, AreLines}
 use Rattle.vg_program.specs.Text.{type_text, kind_text, param_text, params_text, offset_text, address_text, operand_text, two_text, shift_text, resize_text, comparison_text, word_text, pair_text, operands_text, left_text, line_text, lines_text, line_end, given, text_of}
 
 -- names of at most 64 bytes

@@ -27,7 +27,8 @@ use Rattle.vg_program.specs.declared.operand.Operand.TheVariants.{Register, Argu
 use Rattle.vg_program.specs.declared.param.Param.{Param}
 use Rattle.vg_program.specs.Params as program
 use Rattle.vg_program.specs.Text.{given}
-use Rattle.vg_program.specs.Valid.{IsOffset, IsAddress, Resizes, width_of, IsLine, AreLines}
+use Rattle.vg_base.specs.Offset.{IsAddress}
+use Rattle.vg_program.specs.Valid.{Resizes, width_of, IsLine, AreLines}
 use Rattle.vg_top.specs.Emission.{kind_of, param_of, named, value_of, value_lines, lines_of}
 use Rattle.vg_top.proofs.Runs.{bits_in, argument-wide}
 
@@ -41,12 +42,8 @@ same_pointers (p ∷ ps) = by_kind p.kind (same_pointers ps)
     by_kind (kinds.Pointer n) e = ap suc e
     by_kind (kinds.Integer w) e = e
 
-same_offset : (z : ℤ) → well.IsOffset z → IsOffset z
-same_offset (pos n) h = h
-same_offset (negsuc n) h = h
-
-address-valid : (ps : List KParam) (a : Address) → well.IsAddress ps a → IsAddress (map param_of ps) a
-address-valid ps a h = record { pointer = rw same_pointers h.pointer; offset = same_offset a.offset h.offset }
+address-valid : (ps : List KParam) (a : Address) → IsAddress (length (well.pointers ps)) a → IsAddress (length (program.pointers (map param_of ps))) a
+address-valid ps a h = record { pointer = rw same_pointers h.pointer; offset = h.offset }
 
 resize-valid : (op : ResizeOp) (to from : Width) → IsTrue (is_resize op to from) → Resizes op from to
 resize-valid Sext to from h = ltb-true (bits_of from) (bits_of to) h

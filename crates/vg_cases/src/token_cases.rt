@@ -1,9 +1,37 @@
-use super::*;
-use crate::number::decimal;
+//! Texts and the tokens that they are cut into.
+
 use std::process::Abort;
 use std::test::Fail;
+use vg_text::{Lexer, Place, Token, TokenKind, decimal};
 
 const TEXT: &[u8] = b"// note\nname1 007 0x1F;\r\n a<<=b 5i16 0x _ // end";
+
+/// A name of 64 bytes, the longest, and a comma.
+const NAME_OF_64: &[u8] = b"a23456789012345678901234567890123456789012345678901234567890abcd,";
+
+/// A name of 65 bytes in parentheses.
+const NAME_OF_65: &[u8] = b"(a23456789012345678901234567890123456789012345678901234567890abcde)";
+
+/// 2^127 - 1.
+const LARGEST: &[u8] = b"170141183460469231731687303715884105727";
+
+/// 2^127 - 1 in hexadecimal digits.
+const LARGEST_HEXADECIMAL: &[u8] = b"0x7fffffffffffffffffffffffffffffff";
+
+/// A space and 2^127.
+const TOO_LARGE: &[u8] = b" 170141183460469231731687303715884105728";
+
+/// 2^127 in hexadecimal digits.
+const TOO_LARGE_HEXADECIMAL: &[u8] = b"0x80000000000000000000000000000000";
+
+/// 10 behind many zeros.
+const ZEROS_IN_FRONT: &[u8] = b"0x0000000000000000000000000000000000000a";
+
+/// 2^128 - 1.
+const MOST: &[u8] = b"340282366920938463463374607431768211455";
+
+/// 2^128.
+const FAR_TOO_LARGE: &[u8] = b"340282366920938463463374607431768211456";
 
 #[test]
 fn tokens_stand_at_their_bytes_and_places(rt: HostRuntime) {
@@ -40,23 +68,10 @@ fn tokens_stand_at_their_bytes_and_places(rt: HostRuntime) {
 fn signs_of_two_bytes_are_one_token(rt: HostRuntime) -> Result<(), Fail> {
     let mut lexer = Lexer::new(b":= == != <= >= << >> <> =! / :");
     for sign in [
-        b":=".as_slice(),
-        b"==".as_slice(),
-        b"!=".as_slice(),
-        b"<=".as_slice(),
-        b">=".as_slice(),
-        b"<<".as_slice(),
-        b">>".as_slice(),
-        b"<".as_slice(),
-        b">".as_slice(),
-        b"=".as_slice(),
-        b"!".as_slice(),
-        b"/".as_slice(),
-        b":".as_slice(),
-        b"".as_slice(),
+        ":=", "==", "!=", "<=", ">=", "<<", ">>", "<", ">", "=", "!", "/", ":", "",
     ] {
         let (word, rest) = lexer.word().ok().ok_or("a word")?;
-        assert_eq!(rt; word.bytes, sign);
+        assert_eq!(rt; word.bytes, sign.as_bytes());
         assert_eq!(rt; word.is_end, sign.is_empty());
         lexer = rest;
     }
@@ -66,21 +81,28 @@ fn signs_of_two_bytes_are_one_token(rt: HostRuntime) -> Result<(), Fail> {
 #[test]
 fn the_end_stands_behind_the_last_byte_of_its_line(rt: HostRuntime) -> Result<(), Fail> {
     for (text, line, column) in [
-        (b"".as_slice(), 1, 1),
-        (b" ".as_slice(), 1, 2),
-        (b"\n".as_slice(), 1, 2),
-        (b" \n\n".as_slice(), 2, 2),
-        (b"// a\r\n".as_slice(), 1, 7),
-        (b"\n //".as_slice(), 2, 4),
+        ("", 1, 1),
+        (" ", 1, 2),
+        ("\n", 1, 2),
+        (" \n\n", 2, 2),
+        ("// a\r\n", 1, 7),
+        ("\n //", 2, 4),
     ] {
-        let (word, rest) = Lexer::new(text).word().ok().ok_or("the end")?;
-        let (again, _) = rest.word().ok().ok_or("the end again")?;
         let place = Place { line, column };
+        let mut lexer = Lexer::new(text.as_bytes());
+        let (word, rest) = lexer.word().ok().ok_or("the end")?;
+        let (again, _) = rest.word().ok().ok_or("the end again")?;
         assert!(rt; word.is_end && again.is_end);
         assert!(rt;
             word.place == place && again.place == place,
             "line {line} column {column}"
         );
+        for _ in 0..2 {
+            let token = lexer.next().ok().ok_or("the end as a token")?;
+            assert_eq!(rt; token.kind, TokenKind::End);
+            assert!(rt; token.start == text.len() && token.end == text.len());
+            assert_eq!(rt; token.place, place, "line {line} column {column}");
+        }
     }
     Ok(())
 }
@@ -108,25 +130,10 @@ fn what_is_no_token_is_a_fault_for_ever(rt: HostRuntime) {
         (b"a\n \xFF".as_slice(), 1, 2, 2),
         (b"a // \x80".as_slice(), 1, 1, 6),
         (b"a //\x0B b".as_slice(), 1, 1, 5),
-        (
-            b"(a23456789012345678901234567890123456789012345678901234567890abcde)".as_slice(),
-            1,
-            1,
-            2,
-        ),
-        (
-            b" 170141183460469231731687303715884105728".as_slice(),
-            0,
-            1,
-            2,
-        ),
-        (
-            b"340282366920938463463374607431768211456".as_slice(),
-            0,
-            1,
-            1,
-        ),
-        (b"0x80000000000000000000000000000000".as_slice(), 0, 1, 1),
+        (NAME_OF_65, 1, 1, 2),
+        (TOO_LARGE, 0, 1, 2),
+        (FAR_TOO_LARGE, 0, 1, 1),
+        (TOO_LARGE_HEXADECIMAL, 0, 1, 1),
     ] {
         let place = Place { line, column };
         let (answer, again) = answers_behind(&rt, text, count);
@@ -138,26 +145,10 @@ fn what_is_no_token_is_a_fault_for_ever(rt: HostRuntime) {
 #[test]
 fn the_longest_name_and_the_largest_numbers(rt: HostRuntime) {
     for (text, kind, end) in [
-        (
-            b"a23456789012345678901234567890123456789012345678901234567890abcd,".as_slice(),
-            TokenKind::Name,
-            64,
-        ),
-        (
-            b"170141183460469231731687303715884105727".as_slice(),
-            TokenKind::Number,
-            39,
-        ),
-        (
-            b"0x7fffffffffffffffffffffffffffffff".as_slice(),
-            TokenKind::Number,
-            34,
-        ),
-        (
-            b"0x0000000000000000000000000000000000000a".as_slice(),
-            TokenKind::Number,
-            40,
-        ),
+        (NAME_OF_64, TokenKind::Name, 64),
+        (LARGEST, TokenKind::Number, 39),
+        (LARGEST_HEXADECIMAL, TokenKind::Number, 34),
+        (ZEROS_IN_FRONT, TokenKind::Number, 40),
     ] {
         let place = Place { line: 1, column: 1 };
         let start = 0;
@@ -180,11 +171,8 @@ fn decimal_numbers(rt: HostRuntime) {
         (b"1a".as_slice(), None),
         (b"0x1".as_slice(), None),
         (b"-1".as_slice(), None),
-        (
-            b"340282366920938463463374607431768211455".as_slice(),
-            Some(u128::MAX),
-        ),
-        (b"340282366920938463463374607431768211456".as_slice(), None),
+        (MOST, Some(u128::MAX)),
+        (FAR_TOO_LARGE, None),
     ] {
         assert_eq!(rt; decimal(text), number);
     }
