@@ -1,7 +1,7 @@
 use Rattle.std.proofs.Common.{◌≡◌, ℕ, suc, ◌+◌, ◌-◌, Some, sym, ◌∙◌, ap, subst, arith, add-one}
 use Rattle.std.proofs.lemmas.Result.{err_from_is_err_and}
 use Rattle.vg_text.specs.Words.{Reading}
-use Rattle.vg_kernel.specs.Expressions.{Inner, Operator, operator_at, level_at, expression_at}
+use Rattle.vg_kernel.specs.Expressions.{Operator, operator_at, expression_at}
 use Rattle.vg_kernel.specs.Scanning.{scan_of, part_of, operator_view}
 use Rattle.vg_kernel.specs.Gives.{Fails}
 use Rattle.vg_kernel.proofs.Joins.{joined-deep, joined-full, joined-more, joined-fails, level-more, level-fails, levels-fail, operand-fails, first_level}
