@@ -1,5 +1,5 @@
 -- The refusal of a text: its first fault and the place of that.
-use Rattle.std.specs.Prelude.{◌≡◌, ℕ, ◌+◌, ◌-◌, ◌==◌, List, length, take, nat_lt, Option, Some, None, Result, Ok, Err, if◌then◌else◌}
+use Rattle.std.specs.Prelude.{ℕ, ◌-◌, List, length, take, nat_lt, Option, Some, None, Result, Ok, Err, if◌then◌else◌}
 use Rattle.vg_base.specs.Gives.{Gives}
 use Rattle.vg_text.specs.declared.place.Place.{Place}
 use Rattle.vg_text.specs.Place.{first_place, place_after, end_place}

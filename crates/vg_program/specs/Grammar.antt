@@ -1,5 +1,5 @@
 -- Reading a program from left to right, with the first fault that is met.
-use Rattle.std.specs.Prelude.{ℕ, zero, suc, ◌+◌, ◌-◌, ◌^◌, ℤ, pos, negsuc, List, [], ◌∷◌, ◌++◌, length, drop, slice_get, sum_by, Bool, false, ◌==◌, not, ◌&&◌, nat_le, nat_lt, Option, Result, Ok, Err, codes, if◌then◌else◌}
+use Rattle.std.specs.Prelude.{ℕ, zero, suc, ◌+◌, ◌-◌, ◌^◌, ℤ, pos, negsuc, List, [], ◌∷◌, ◌++◌, length, drop, slice_get, sum_by, Bool, ◌==◌, not, ◌&&◌, nat_le, nat_lt, Option, Result, Ok, Err, codes, if◌then◌else◌}
 use Rattle.std.specs.List.{list_any, find}
 use Rattle.std.specs.Str.{bytes_eq}
 use Rattle.vg_base.specs.Bind.{◌>>=◌, or_fault}
