@@ -1,5 +1,6 @@
 pub mod Cost
 pub mod Expressions
+pub mod FaultName
 pub mod Faults
 pub mod Gives
 pub mod Grammar

@@ -13,43 +13,44 @@ use vg_text::Place;
 #[derive(Debug, Drop, Error)]
 pub enum KernelFault {
     /// A byte that may stand nowhere, a name of more than 64 bytes, or a number of 2^127 or more.
-    #[error("1 Token at {}:{}", .place.line, .place.column)]
+    #[error("{} at {}:{}", self.name(), .place.line, .place.column)]
     Token { place: Place },
     /// A token that does not fit what stands before it.
-    #[error("2 Shape at {}:{}", .place.line, .place.column)]
+    #[error("{} at {}:{}", self.name(), .place.line, .place.column)]
     Shape { place: Place },
     /// A name that was not given before.
-    #[error("3 UnknownName at {}:{}", .place.line, .place.column)]
+    #[error("{} at {}:{}", self.name(), .place.line, .place.column)]
     UnknownName { place: Place },
     /// A name of a parameter or of a statement that is given a second time.
-    #[error("4 DuplicateName at {}:{}", .place.line, .place.column)]
+    #[error("{} at {}:{}", self.name(), .place.line, .place.column)]
     DuplicateName { place: Place },
     /// Widths that do not fit an operator or a function; a pointer as a value, or an integer as a
     /// place.
-    #[error("5 WidthMismatch at {}:{}", .place.line, .place.column)]
+    #[error("{} at {}:{}", self.name(), .place.line, .place.column)]
     WidthMismatch { place: Place },
     /// A literal outside -2^(W-1)..2^W-1, or an offset outside -2^31..2^31-1.
-    #[error("6 LiteralRange at {}:{}", .place.line, .place.column)]
+    #[error("{} at {}:{}", self.name(), .place.line, .place.column)]
     LiteralRange { place: Place },
     /// A shift by as many places as there are bits, or more.
-    #[error("7 ShiftRange at {}:{}", .place.line, .place.column)]
+    #[error("{} at {}:{}", self.name(), .place.line, .place.column)]
     ShiftRange { place: Place },
     /// The 4,097th statement, the 8,193rd load or operation, or the 17th parameter.
-    #[error("8 TooMany at {}:{}", .place.line, .place.column)]
+    #[error("{} at {}:{}", self.name(), .place.line, .place.column)]
     TooMany { place: Place },
     /// A text of more than 262,144 bytes, at 1:1, before anything else.
-    #[error("9 TooLarge at {}:{}", .place.line, .place.column)]
+    #[error("{} at {}:{}", self.name(), .place.line, .place.column)]
     TooLarge { place: Place },
     /// An expression of more than 256 nodes one below the other, parentheses counted, at the token
     /// that makes it so deep.
-    #[error("10 NestingTooDeep at {}:{}", .place.line, .place.column)]
+    #[error("{} at {}:{}", self.name(), .place.line, .place.column)]
     NestingTooDeep { place: Place },
     /// There was no memory, which says nothing of the text.
-    #[error("no memory")]
+    #[error("{}", self.name())]
     Memory(AllocError),
 }
 
 impl KernelFault {
+    ghost use Rattle.vg_kernel.specs.FaultName.{name_of_fault};
     ghost use Rattle.vg_kernel.specs.Faults.{number_of_fault, place_of_fault};
 
     /// The number of the refusal, from 1 to 10. Want of memory has none.
@@ -68,6 +69,25 @@ impl KernelFault {
             KernelFault::TooLarge { .. } => Some(9),
             KernelFault::NestingTooDeep { .. } => Some(10),
             KernelFault::Memory(_) => None,
+        }
+    }
+
+    /// The number and the name of the refusal, as `2 Shape`. Want of memory is `memory`.
+    pub fn name(&self) -> &'static str
+        ensures { result.now ≡ name_of_fault self.now }
+    {
+        match self {
+            KernelFault::Token { .. } => "1 Token",
+            KernelFault::Shape { .. } => "2 Shape",
+            KernelFault::UnknownName { .. } => "3 UnknownName",
+            KernelFault::DuplicateName { .. } => "4 DuplicateName",
+            KernelFault::WidthMismatch { .. } => "5 WidthMismatch",
+            KernelFault::LiteralRange { .. } => "6 LiteralRange",
+            KernelFault::ShiftRange { .. } => "7 ShiftRange",
+            KernelFault::TooMany { .. } => "8 TooMany",
+            KernelFault::TooLarge { .. } => "9 TooLarge",
+            KernelFault::NestingTooDeep { .. } => "10 NestingTooDeep",
+            KernelFault::Memory(_) => "memory",
         }
     }
 

@@ -5,4 +5,5 @@ pub mod Valid
 pub mod Meaning
 pub mod Tokens
 pub mod Grammar
+pub mod FaultName
 pub mod Faults

@@ -12,48 +12,49 @@ use vg_text::place::Place;
 #[derive(Debug, Drop, Error)]
 pub enum ProgramFault {
     /// A byte that is neither LF nor 0x20 to 0x7E, or a name of more than 64 bytes.
-    #[error("1 Token at {}:{}", .place.line, .place.column)]
+    #[error("{} at {}:{}", self.name(), .place.line, .place.column)]
     Token {
         place: Place,
     },
     /// A token that does not fit what stands before it, or a number with a leading zero.
-    #[error("2 Shape at {}:{}", .place.line, .place.column)]
+    #[error("{} at {}:{}", self.name(), .place.line, .place.column)]
     Shape {
         place: Place,
     },
     /// A register or parameter that is not defined before.
-    #[error("4 UnknownRegister at {}:{}", .place.line, .place.column)]
+    #[error("{} at {}:{}", self.name(), .place.line, .place.column)]
     UnknownRegister {
         place: Place,
     },
     /// An operand whose width or kind does not fit what stands before it.
-    #[error("5 WidthMismatch at {}:{}", .place.line, .place.column)]
+    #[error("{} at {}:{}", self.name(), .place.line, .place.column)]
     WidthMismatch {
         place: Place,
     },
     /// A stated cost that is not the counted cost of the lines, at the stated number.
-    #[error("6 CostWrong {stated} {counted} at {}:{}", .place.line, .place.column)]
+    #[error("{} {stated} {counted} at {}:{}", self.name(), .place.line, .place.column)]
     CostWrong {
         stated: u64,
         counted: u64,
         place: Place,
     },
     /// More than 4,194,304 bytes, at 1:1.
-    #[error("7 TooLarge at {}:{}", .place.line, .place.column)]
+    #[error("{} at {}:{}", self.name(), .place.line, .place.column)]
     TooLarge {
         place: Place,
     },
     /// A number out of its range.
-    #[error("8 Range at {}:{}", .place.line, .place.column)]
+    #[error("{} at {}:{}", self.name(), .place.line, .place.column)]
     Range {
         place: Place,
     },
     /// Memory ran out, which says nothing of the text.
-    #[error(transparent)]
+    #[error("{}", self.name())]
     Memory(AllocError),
 }
 
 impl ProgramFault {
+    ghost use Rattle.vg_program.specs.FaultName.{name_of_fault};
     ghost use Rattle.vg_program.specs.Faults.{number_of_fault, place_of_fault, placed};
 
     /// The number of the refusal, from 1 to 8. Want of memory has none.
@@ -69,6 +70,22 @@ impl ProgramFault {
             ProgramFault::TooLarge { .. } => Some(7),
             ProgramFault::Range { .. } => Some(8),
             ProgramFault::Memory(_) => None,
+        }
+    }
+
+    /// The number and the name of the refusal, as `2 Shape`. Want of memory is `memory`.
+    pub fn name(&self) -> &'static str
+        ensures { result.now ≡ name_of_fault self.now }
+    {
+        match self {
+            ProgramFault::Token { .. } => "1 Token",
+            ProgramFault::Shape { .. } => "2 Shape",
+            ProgramFault::UnknownRegister { .. } => "4 UnknownRegister",
+            ProgramFault::WidthMismatch { .. } => "5 WidthMismatch",
+            ProgramFault::CostWrong { .. } => "6 CostWrong",
+            ProgramFault::TooLarge { .. } => "7 TooLarge",
+            ProgramFault::Range { .. } => "8 Range",
+            ProgramFault::Memory(_) => "memory",
         }
     }
 
