@@ -105,6 +105,28 @@ mod tests {
     use super::*;
     use std::test::Fail;
 
+    /// So many bytes, each unlike the 250 before it.
+    fn many_bytes(alloc: Global, count: usize) -> Result<Vec<u8>, AllocError> {
+        let mut bytes = Vec::with_capacity(alloc, count)?;
+        for i in 0..count {
+            bytes.push((i % 251) as u8)?;
+        }
+        Ok(bytes)
+    }
+
+    #[test]
+    fn a_large_file_is_read_piece_by_piece(rt: HostRuntime) -> Result<(), Fail> {
+        let bytes = many_bytes(rt.alloc(), 5_000_001)?;
+        fs::write(&rt, "large", bytes.as_slice())?;
+        let mut shelf = FileShelf::new(&rt);
+        assert!(rt; shelf.read(rt.alloc(), "large", 16_777_216)? == bytes);
+        assert!(rt; shelf.read(rt.alloc(), "large", 5_000_001)? == bytes);
+        let front = many_bytes(rt.alloc(), 5_000_000)?;
+        assert!(rt; shelf.read(rt.alloc(), "large", 4_999_999)? == front);
+        assert_eq!(rt; shelf.faults, 0);
+        Ok(())
+    }
+
     #[test]
     fn files_are_read_up_to_the_limit_and_absences_counted(rt: HostRuntime) -> Result<(), Fail> {
         fs::write(&rt, "five", b"12345")?;

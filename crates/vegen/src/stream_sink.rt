@@ -81,6 +81,49 @@ mod tests {
         }
     }
 
+    /// Takes at most 65,536 bytes a call. Flushes fail behind so many good ones.
+    #[derive(Drop)]
+    struct Wide {
+        bytes: Vec<u8>,
+        flushes: u64,
+        good: u64,
+    }
+
+    impl Write for Wide {
+        fn write(&mut self, buf: &[u8]) -> io::Result<usize> {
+            let count = buf.len().min(65_536);
+            self.bytes.extend_from_slice(&buf[..count])?;
+            Ok(count)
+        }
+
+        fn flush(&mut self) -> io::Result<()> {
+            self.flushes = self.flushes.saturating_add(1);
+            if self.flushes > self.good {
+                return Err(io::Error::from(ErrorKind::BrokenPipe));
+            }
+            Ok(())
+        }
+    }
+
+    #[test]
+    fn many_bytes_are_written_piece_by_piece_and_a_failed_flush_is_a_fault(
+        rt: HostRuntime,
+    ) -> Result<(), Fail> {
+        let bytes = vec![in rt.alloc(); 7; 5_000_001]?;
+        let wide = Wide {
+            bytes: Vec::new(rt.alloc()),
+            flushes: 0,
+            good: 1,
+        };
+        let mut sink = StreamSink::new(wide);
+        assert!(rt; sink.write(bytes.as_slice()).is_ok());
+        assert!(rt; sink.to.bytes == bytes);
+        assert_eq!(rt; sink.faults, 0);
+        assert!(rt; sink.write(b"8").is_err());
+        assert_eq!(rt; sink.faults, 1);
+        Ok(())
+    }
+
     #[test]
     fn a_stream_takes_all_pieces_or_is_a_fault(rt: HostRuntime) -> Result<(), Fail> {
         let narrow = Narrow {

@@ -1,4 +1,4 @@
-//! Worked cases of the top call: words, files and what comes of them; and of the kernel language below it.
+//! Worked cases of the top call: words, files and what comes of them; and of what stands below it.
 #![tactic(auto)]
 
 #[cfg(test)]
@@ -21,6 +21,10 @@ mod kernel_readings;
 mod kernel_runs;
 #[cfg(test)]
 mod kernel_texts;
+#[cfg(test)]
+mod machine_cases;
+#[cfg(test)]
+mod outside_cases;
 #[cfg(test)]
 mod program_cases;
 #[cfg(test)]

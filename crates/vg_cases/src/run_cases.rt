@@ -1,7 +1,8 @@
 //! Worked cases of `run`.
 
 use crate::desk::Desk;
-use std::alloc::Global;
+use crate::program_cases::largest_program;
+use std::alloc::{AllocError, Global};
 use std::process::Abort;
 use std::test::Fail;
 use vg_top::Status;
@@ -20,7 +21,12 @@ const SUM: &[u8] =
 
 /// A desk with no instructions, this program and this memory.
 fn desk_with(alloc: Global, program: &[u8], memory: &[u8]) -> Result<Desk, Fail> {
-    let mut desk = Desk::new(alloc, 1000)?;
+    desk_of_room(alloc, 1000, program, memory)
+}
+
+/// The same, with room for so many bytes to be written.
+fn desk_of_room(alloc: Global, room: usize, program: &[u8], memory: &[u8]) -> Result<Desk, Fail> {
+    let mut desk = Desk::new(alloc, room)?;
     desk.shelf.put("i", b"")?;
     desk.shelf.put("p", program)?;
     desk.shelf.put("m", memory)?;
@@ -73,6 +79,39 @@ fn programs_and_the_memory_that_they_leave(rt: HostRuntime) -> Result<(), Fail> 
         assert_eq!(rt; desk.shelf.reads(), 3);
     }
     Ok(())
+}
+
+/// A memory of 16 MiB with this last byte.
+fn largest_memory(alloc: Global, last: u8) -> Result<Vec<u8>, AllocError> {
+    let mut memory = vec![in alloc; 3; 16_777_215]?;
+    memory.push(last)?;
+    Ok(memory)
+}
+
+#[test]
+fn a_memory_of_16_mib_is_the_largest(rt: HostRuntime) -> Result<(), Fail> {
+    let words: [&str; 6] = ["run", "i", "p", "m", "d=16777215", "k=7"];
+    let mut memory = largest_memory(rt.alloc(), 3)?;
+    let mut desk = desk_of_room(rt.alloc(), 1 << 24, PUT, memory.as_slice())?;
+    let left = largest_memory(rt.alloc(), 7)?;
+    desk.expect(&rt, &words, Status::Ok, left.as_slice(), b"")?;
+    memory.push(3)?;
+    let mut desk = desk_with(rt.alloc(), PUT, memory.as_slice())?;
+    desk.expect(&rt, &words, Status::TooLarge, b"", b"vegen: too large: m\n")
+}
+
+#[test]
+fn a_program_of_one_byte_over_4_mib_is_too_large(rt: HostRuntime) -> Result<(), Fail> {
+    let mut text = largest_program(rt.alloc())?;
+    text.push(b'\n')?;
+    let mut desk = desk_with(rt.alloc(), text.as_slice(), b"1")?;
+    desk.expect(
+        &rt,
+        &["run", "i", "p", "m", "d=0", "k=7"],
+        Status::TooLarge,
+        b"",
+        b"vegen: too large: p\n",
+    )
 }
 
 #[test]

@@ -1,17 +1,11 @@
 //! What a run is given beside the memory.
 
-ghost use Rattle.std.specs.Prelude.{◌≡◌, slice_index};
+ghost use Rattle.std.specs.Prelude.{◌≡◌};
 ghost use Rattle.vg_base.specs.Address.{place_of};
 
 use std::marker::Model;
 use vg_base::Address;
-
-/// The number at an index, or 0 where there is none.
-pub(crate) fn number_at(numbers: &[u64], index: u32) -> u64
-    ensures { result ≡ slice_index numbers.now index }
-{
-    numbers.get(index as usize).copied().unwrap_or(0)
-}
+use vg_memory::place_of;
 
 /// The places of the pointers and the numbers of the integer parameters, each kind in its order.
 #[derive(Drop)]
@@ -33,6 +27,6 @@ impl Inputs<'_> {
     pub(crate) fn address(&self, address: Address) -> i128
         ensures { result ≡ place_of self.now.places address }
     {
-        number_at(self.places, address.pointer) as i128 + address.offset as i128
+        place_of(self.places, address)
     }
 }

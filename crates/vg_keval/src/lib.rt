@@ -1,7 +1,7 @@
 //! Kernels run on real bytes.
 //!
-//! `run_kernel` does what `meaning` of vg_kernel's `specs/Meaning.antt` says: the memory that it leaves, and where it
-//! traps. `vg_memory`'s `specs/Outcome.antt` joins the two.
+//! `run_kernel` does what `meaning` of vg_kernel's `specs/Meaning.antt` says: the memory that it
+//! leaves, and where it traps. `vg_memory`'s `specs/Outcome.antt` joins the two.
 #![tactic(auto)]
 
 mod inputs;
@@ -10,4 +10,4 @@ mod statements;
 mod values;
 
 pub use state::{KState, run_kernel};
-pub use vg_memory::Outcome;
+pub use vg_bits::Outcome;

@@ -9,8 +9,8 @@ use crate::inputs::Inputs;
 use crate::statements::run;
 use std::alloc::{AllocError, Global};
 use std::marker::Model;
+use vg_bits::Outcome;
 use vg_kernel::Kernel;
-use vg_memory::Outcome;
 
 /// Room for the numbers of the names that a kernel gives. Contracts see how many there is room for.
 #[derive(Drop)]
@@ -39,7 +39,8 @@ impl KState {
     #[tactic(auto, unfolding(vg_kernel::specs::Meaning::meaning))]
     fn run(&mut self, kernel: &Kernel, memory: &mut [u8], places: &[u64], args: &[u64]) -> Outcome
         requires { length kernel.now.statements ≤ self.old }
-        ensures outcome { Leaves result memory.new (meaning (tree_of kernel.now) memory.old places.now args.now) }
+        ensures outcome { Leaves result memory.new
+            (meaning (tree_of kernel.now) memory.old places.now args.now) }
         ensures size { length memory.new ≡ length memory.old }
         ensures room { self.new ≡ self.old }
     {
@@ -54,9 +55,10 @@ impl KState {
     }
 }
 
-/// Runs a kernel on a memory, in the room that was made for it. The places are those of its pointers, in bytes from the
-/// start of the memory, and the args the numbers of its integer parameters, each kind in the order of the parameters; one that
-/// is missing is 0. After a trap the memory may hold any bytes. Takes no memory, and the next run begins anew.
+/// Runs a kernel on a memory, in the room that was made for it. The places are those of its
+/// pointers, in bytes from the start of the memory, and the args the numbers of its integer
+/// parameters, each kind in the order of the parameters; one that is missing is 0. After a trap the
+/// memory may hold any bytes. Takes no memory, and the next run begins anew.
 pub fn run_kernel(
     kernel: &Kernel,
     state: &mut KState,
@@ -65,7 +67,8 @@ pub fn run_kernel(
     args: &[u64],
 ) -> Outcome
     requires { length kernel.now.statements ≤ state.old }
-    ensures outcome { Leaves result memory.new (meaning (tree_of kernel.now) memory.old places.now args.now) }
+    ensures outcome { Leaves result memory.new
+        (meaning (tree_of kernel.now) memory.old places.now args.now) }
     ensures size { length memory.new ≡ length memory.old }
     ensures room { state.new ≡ state.old }
 {

@@ -8,8 +8,9 @@ ghost use Rattle.vg_memory.specs.Outcome.{Leaves};
 
 use crate::inputs::Inputs;
 use crate::values::value;
+use vg_bits::Outcome;
 use vg_kernel::KStmt;
-use vg_memory::{Outcome, store};
+use vg_memory::store;
 
 /// One statement. Takes no memory.
 fn step(inputs: &Inputs, statement: &KStmt, memory: &mut [u8], numbers: &mut Vec<u64>) -> Outcome

@@ -4,19 +4,21 @@ ghost use Rattle.std.specs.Prelude.{◌≡◌};
 ghost use Rattle.vg_kernel.specs.Meaning.{value};
 ghost use Rattle.vg_kernel.specs.Tree.{expression_of};
 
-use crate::inputs::{Inputs, number_at};
+use crate::inputs::Inputs;
 use vg_kernel::KExpr;
-use vg_memory::load;
+use vg_memory::{load, number_at};
 use vg_scalar::select;
 
-/// The number of an expression, where the names given so far have these numbers. None is a trap. Takes no memory.
+/// The number of an expression, where the names given so far have these numbers. None is a trap.
+/// Takes no memory.
 pub(crate) fn value(
     inputs: &Inputs,
     numbers: &[u64],
     memory: &[u8],
     expression: &KExpr,
 ) -> Option<u64>
-    ensures { result ≡ value inputs.now (record { memory = memory.now; numbers = numbers.now }) (expression_of expression.now) }
+    ensures { result ≡ value inputs.now (record { memory = memory.now; numbers = numbers.now })
+        (expression_of expression.now) }
 {
     match expression {
         KExpr::Argument { number, .. } => Some(number_at(inputs.args, *number)),

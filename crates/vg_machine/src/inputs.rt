@@ -1,6 +1,6 @@
 //! What a run is given beside the memory, and what operands and addresses stand for.
 
-ghost use Rattle.std.specs.Prelude.{◌≡◌, slice_get, slice_index};
+ghost use Rattle.std.specs.Prelude.{◌≡◌, slice_get};
 ghost use Rattle.std.specs.Option.{option_map_or};
 ghost use Rattle.vg_base.specs.Address.{place_of};
 ghost use Rattle.vg_program.specs.Params.{integers, kind_bits};
@@ -8,19 +8,14 @@ ghost use Rattle.vg_program.specs.Meaning.{scalar_of, operand_number};
 
 use crate::scalar::Scalar;
 use std::marker::Model;
-use vg_base::address::Address;
+use vg_base::Address;
+use vg_memory::{number_at, place_of};
 use vg_program::operand::Operand;
 use vg_program::param::Param;
 use vg_program::param_kind::ParamKind;
 
-/// The number at an index, or 0 where there is none.
-fn number_at(numbers: &[u64], index: u32) -> u64
-    ensures { result ≡ slice_index numbers.now index }
-{
-    numbers.get(index as usize).copied().unwrap_or(0)
-}
-
-/// The width in bits of an integer parameter by its number among the integers, or 0 where there is none.
+/// The width in bits of an integer parameter by its number among the integers, or 0 where there is
+/// none.
 fn argument_width(params: &[Param], number: u32) -> u32
     ensures { result ≡ option_map_or (λ q. kind_bits q.kind)
         (slice_get (integers params.now) number) 0 }
@@ -39,7 +34,8 @@ fn argument_width(params: &[Param], number: u32) -> u32
     0
 }
 
-/// The parameters, the places of the pointers, and the numbers of the integers, each kind in its order.
+/// The parameters, the places of the pointers, and the numbers of the integers, each kind in its
+/// order.
 #[derive(Drop)]
 pub(crate) struct Inputs<'a> {
     pub(crate) params: &'a [Param],
@@ -60,7 +56,7 @@ impl Inputs<'_> {
     pub(crate) fn address(&self, address: Address) -> i128
         ensures { result ≡ place_of self.now.places address }
     {
-        number_at(self.places, address.pointer) as i128 + address.offset as i128
+        place_of(self.places, address)
     }
 
     /// What an operand stands for among the registers given so far.

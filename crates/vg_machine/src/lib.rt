@@ -1,7 +1,7 @@
 //! Programs run on real bytes.
 //!
-//! `Machine::run` does what `meaning` of vg_program's `specs/Meaning.antt` says: the memory that it leaves, and where
-//! it traps. `vg_memory`'s `specs/Outcome.antt` joins the two.
+//! `Machine::run` does what `meaning` of vg_program's `specs/Meaning.antt` says: the memory that it
+//! leaves, and where it traps. `vg_memory`'s `specs/Outcome.antt` joins the two.
 #![tactic(auto)]
 
 mod inputs;
@@ -10,7 +10,4 @@ mod scalar;
 mod steps;
 
 pub use machine::Machine;
-pub use vg_memory::Outcome;
-
-#[cfg(test)]
-mod tests;
+pub use vg_bits::Outcome;

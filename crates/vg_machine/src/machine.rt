@@ -9,7 +9,7 @@ use crate::scalar::Scalar;
 use crate::steps::run;
 use std::alloc::{AllocError, Global};
 use std::marker::Model;
-use vg_memory::Outcome;
+use vg_bits::Outcome;
 use vg_program::program::Program;
 
 /// A program with room for its registers. Contracts see it as the program.
@@ -39,12 +39,14 @@ impl<'a> Machine<'a> {
         Ok(Machine { program, registers })
     }
 
-    /// Runs the program on a memory. The places are those of its pointers, in bytes from the start of the memory,
-    /// and the args the numbers of its integer parameters, each kind in the order of the first line; one that is
-    /// missing is 0. After a trap the memory may hold any bytes. Takes no memory, and the next run begins anew.
+    /// Runs the program on a memory. The places are those of its pointers, in bytes from the start
+    /// of the memory, and the args the numbers of its integer parameters, each kind in the order of
+    /// the first line; one that is missing is 0. After a trap the memory may hold any bytes. Takes
+    /// no memory, and the next run begins anew.
     #[tactic(auto, unfolding(vg_program::specs::Meaning::meaning))]
     pub fn run(&mut self, memory: &mut [u8], places: &[u64], args: &[u64]) -> Outcome
-        ensures outcome { Leaves result memory.new (meaning self.old memory.old places.now args.now) }
+        ensures outcome { Leaves result memory.new
+            (meaning self.old memory.old places.now args.now) }
         ensures size { length memory.new ≡ length memory.old }
         ensures program { self.new ≡ self.old }
     {

@@ -7,7 +7,8 @@ ghost use Rattle.vg_machine.specs.State.{state_of};
 
 use crate::inputs::Inputs;
 use crate::scalar::Scalar;
-use vg_memory::{Outcome, load, store};
+use vg_bits::Outcome;
+use vg_memory::{load, store};
 use vg_program::line::Line;
 use vg_scalar::select;
 

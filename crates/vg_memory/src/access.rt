@@ -8,7 +8,7 @@ ghost use Rattle.vg_memory.specs.Access.{index_of};
 ghost use Rattle.vg_memory.specs.Outcome.{Leaves};
 
 use crate::bytes::{number, write_number};
-use crate::outcome::Outcome;
+use vg_bits::Outcome;
 
 /// The index of the first byte of an access, where all of its bytes lie in a memory of this length.
 fn index_of(length: usize, address: i128, size: u32) -> Option<usize>
@@ -32,7 +32,8 @@ pub fn load(memory: &[u8], address: i128, size: u32) -> Option<u64>
     Some(number(&memory[index..index + size as usize]))
 }
 
-/// Writes so many of the lowest bytes of a number to memory, or traps; then the memory stays. Takes no memory.
+/// Writes so many of the lowest bytes of a number to memory, or traps; then the memory stays. Takes
+/// no memory.
 pub fn store(memory: &mut [u8], address: i128, size: u32, number: u64) -> Outcome
     ensures outcome { Leaves result memory.new (stored memory.old address (bytes size number)) }
     ensures size { length memory.new ≡ length memory.old }

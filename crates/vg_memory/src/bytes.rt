@@ -16,7 +16,8 @@ pub(crate) fn number(from: &[u8]) -> u64
     }
 }
 
-/// Writes the lowest bytes of a number, as many as there is room for, and 0 for those above the eighth.
+/// Writes the lowest bytes of a number, as many as there is room for, and 0 for those above the
+/// eighth.
 #[tactic(auto, unfolding(vg_base::specs::Bits::bytes))]
 pub(crate) fn write_number(to: &mut [u8], number: u64)
     ensures { to.new ≡ bytes (length to.old) number }

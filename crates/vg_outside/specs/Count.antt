@@ -1,4 +1,5 @@
--- Counts of absences and of faults. They are numbers of 64 bits, stand still at the last one, and never fall.
+-- Counts of absences and of faults. They are numbers of 64 bits, stand still at the last one, and
+-- never fall.
 use Rattle.std.specs.Prelude.{ℕ, ◌+◌, ◌-◌, ◌^◌, ◌≤◌, min}
 
 -- one more, or the last value again

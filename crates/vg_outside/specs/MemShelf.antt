@@ -20,9 +20,16 @@ pub record ShelfState : Type 0 where
 -- it is stored as the pairs of its parts
 abbrev pub state_code : Coded ShelfState
 state_code = code_by (Held × (List ℕ × (ℕ × (ℕ × ℕ))))
-    (coded× (map.code (coded_list coded_ℕ) (coded_list coded_ℕ)) (coded× (coded_list coded_ℕ) (coded× coded_ℕ (coded× coded_ℕ coded_ℕ))))
+    (coded× (map.code (coded_list coded_ℕ) (coded_list coded_ℕ))
+    (coded× (coded_list coded_ℕ) (coded× coded_ℕ (coded× coded_ℕ coded_ℕ))))
     (λ s. (s.held, (s.failing, (s.reads, (s.absents, s.faults)))))
-    (λ p. record { held = p.0; failing = p.1.0; reads = p.1.1.0; absents = p.1.1.1.0; faults = p.1.1.1.1 })
+    (λ p. record {
+      held = p.0;
+      failing = p.1.0;
+      reads = p.1.1.0;
+      absents = p.1.1.1.0;
+      faults = p.1.1.1.1;
+    })
     (λ _. refl)
 
 -- nothing held, nothing read, no read that fails
@@ -35,7 +42,9 @@ is_failing s = list_any (λ number. number == s.reads) s.failing
 
 -- what a read answers, want of memory aside
 abbrev pub answer_of : ShelfState → List ℕ → ℕ → Result (List ℕ) ShelfFault
-answer_of s name limit = if is_failing s then Err Failed else ok_or (option_map (take (limit + 1)) (map.get s.held name)) Absent
+answer_of s name limit =
+    if is_failing s then Err Failed
+    else ok_or (option_map (take (limit + 1)) (map.get s.held name)) Absent
 
 -- the answer is the one told; want of memory may come in place of bytes alone
 abbrev pub Answers : Result (List ℕ) ShelfFault → Result (Vec ℕ Global) ShelfFault → Type 0

@@ -20,4 +20,7 @@ fits s bytes = nat_le (length s.written + length bytes) s.room
 abbrev pub after_write : SinkState → List ℕ → SinkState
 after_write s bytes = if fits s bytes
     then record s { written = s.written ++ bytes }
-    else record s { written = s.written ++ take (s.room - length s.written) bytes; faults = raised s.faults }
+    else record s {
+      written = s.written ++ take (s.room - length s.written) bytes;
+      faults = raised s.faults;
+    }

@@ -11,9 +11,11 @@ use Rattle.vg_outside.specs.Count.{Rose}
 abbrev pub Held : Type 0
 Held = FinMap (slice_cmp nat_cmp) (List ℕ)
 
--- where told: the shelf has the name, and these are the first bytes of its file, at most one more than the limit
+-- where told: the shelf has the name, and these are the first bytes of its file, at most one more
+-- than the limit
 abbrev pub IsFrontOf : Option Held → List ℕ → ℕ → List ℕ → Type 0
-IsFrontOf told name limit bytes = IfSome told (λ held. IsSomeAnd (get held name) (λ file. bytes ≡ take (limit + 1) file))
+IsFrontOf told name limit bytes =
+    IfSome told (λ held. IsSomeAnd (get held name) (λ file. bytes ≡ take (limit + 1) file))
 
 -- where told: the shelf has no file of the name
 abbrev pub IsNotHeld : Option Held → List ℕ → Type 0

@@ -1,9 +1,11 @@
-// Bytes that a collection owns.
+//! Bytes that a collection owns.
+
 ghost use Rattle.std.specs.Prelude.{◌≡◌, IfOk};
 
 use std::alloc::{AllocError, Global};
 use std::marker::Model;
 
+/// Bytes of its own. Contracts see them as a list.
 #[derive(Drop)]
 pub struct Bytes {
     all: Vec<u8>,
@@ -26,6 +28,7 @@ impl Bytes {
         Ok(Bytes { all })
     }
 
+    /// All of the bytes.
     pub fn as_slice(&self) -> &[u8]
         ensures { result.now ≡ self.now }
     {

@@ -11,12 +11,10 @@ mod shelf;
 mod sink;
 mod words;
 
+pub use bytes::Bytes;
 pub use drop_sink::DropSink;
 pub use memory_shelf::MemShelf;
 pub use memory_sink::MemSink;
 pub use shelf::{Shelf, ShelfFault};
 pub use sink::{Sink, SinkFault};
 pub use words::Words;
-
-#[cfg(test)]
-mod tests;

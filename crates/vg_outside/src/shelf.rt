@@ -49,7 +49,8 @@ pub trait Shelf {
     /// more. `Absent` where the shelf has no such name, `Failed` where the shelf failed.
     fn read(&mut self, alloc: Global, name: &str, limit: u64) -> Result<Vec<u8>, ShelfFault>
         ensures keeps { holds self.new ≡ holds self.old }
-        ensures front { IfOk result (λ bytes. IsFrontOf (holds self.old) name.now limit bytes.items) }
+        ensures front { IfOk result (λ bytes.
+            IsFrontOf (holds self.old) name.now limit bytes.items) }
         ensures absent { IsErrOf result ShelfFault.Absent → IsNotHeld (holds self.old) name.now }
         ensures counted { CountsRead (reads self.old) (reads self.new) }
         ensures absence { CountsAbsence (absents self.old) (absents self.new) result }

@@ -1,6 +1,6 @@
 //! The words of a command line.
 
-ghost use Rattle.std.specs.Prelude.{◌≡◌, ◌<◌, [], ◌∷◌, ◌++◌, length, slice_get, Some, OnOk, OnErr};
+ghost use Rattle.std.specs.Prelude.{◌≡◌, ◌<◌, ◌≤◌, [], ◌∷◌, ◌++◌, drop, length, slice_get, Some, OnOk, OnErr};
 
 use crate::bytes::Bytes;
 use std::alloc::{AllocError, Global};
@@ -47,6 +47,14 @@ impl Words {
         ensures { result ≡ length self.now }
     {
         self.words.len()
+    }
+
+    /// The words behind the first so many.
+    pub fn behind(&self, count: usize) -> &[Bytes]
+        requires { count ≤ length self.now }
+        ensures { result.now ≡ drop count self.now }
+    {
+        &self.words[count..]
     }
 
     /// The word of this number, counted from 0.

@@ -36,6 +36,3 @@ pub use parsing::{MOST_BYTES, one_program, parse_program};
 pub use printing::print_program;
 pub use program::Program;
 pub use program_fault::ProgramFault;
-
-#[cfg(test)]
-mod tests;

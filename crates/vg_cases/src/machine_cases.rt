@@ -1,5 +1,7 @@
-use super::*;
-use std::test::*;
+//! Programs run by the machine: what they leave of a memory, and where they trap.
+
+use std::test::Fail;
+use vg_machine::{Machine, Outcome};
 use vg_program::parse_program;
 
 /// What a program leaves of this memory on its second run, or None where that traps.

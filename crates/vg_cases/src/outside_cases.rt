@@ -1,6 +1,8 @@
-use super::*;
+//! Shelves, sinks and words in memory.
+
 use std::alloc::Global;
 use std::test::Fail;
+use vg_outside::{DropSink, MemShelf, MemSink, Shelf, ShelfFault, Sink, SinkFault, Words};
 
 fn read_any<S: Shelf>(shelf: &mut S, alloc: Global, name: &str) -> Result<Vec<u8>, ShelfFault> {
     shelf.read(alloc, name, 2)
