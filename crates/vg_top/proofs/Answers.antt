@@ -12,7 +12,8 @@ use Rattle.vg_program.specs.Text.{text_of}
 use Rattle.vg_program.specs.Valid.{IsValid}
 use Rattle.vg_top.specs.Emission.{program_of}
 use Rattle.vg_top.specs.declared.ending.Ending.{Ending}
-use Rattle.vg_top.specs.Answer.{Means, Answer}
+use Rattle.vg_top.specs.Means.{Means}
+use Rattle.vg_top.specs.Answer.{Answer}
 use Rattle.vg_top.specs.Compile.{Answers}
 use Rattle.vg_top.specs.Files.{Tells}
 use Rattle.vg_top.specs.KernelFile.{IsTree}

@@ -1,10 +1,11 @@
 pub mod Answers
 pub mod Bindings
 pub mod Emitted
+pub mod Endings
 pub mod Fronts
 pub mod LineCosts
-pub mod ReadCounts
 pub mod Runs
 pub mod TextSizes
 pub mod Valid
 pub mod Wide
+pub mod Works

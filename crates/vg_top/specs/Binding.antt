@@ -31,7 +31,8 @@ digits_of text = if nat_le (length text) 20 then decimal_value text else None
 -- an optional `-`, and digits
 abbrev pub signed_of : List ℕ → Option Signed
 signed_of text =
-    if slice_index text 0 == 45 then option_map (λ n. record { negative = true; distance = n }) (digits_of (drop 1 text))
+    if slice_index text 0 == 45
+    then option_map (λ n. record { negative = true; distance = n }) (digits_of (drop 1 text))
     else option_map (λ n. record { negative = false; distance = n }) (digits_of text)
 
 -- the bytes up to the first `=`
@@ -42,16 +43,21 @@ name_len word = prefix_len (λ b. not (b == 61)) word
 unfoldable pub binding_of : List ℕ → Option Binding
 binding_of word =
     if nat_lt (name_len word) (length word) && is_name_text (take (name_len word) word)
-    then option_map (λ n. record { name = take (name_len word) word; number = n }) (signed_of (drop (name_len word + 1) word)) else None
+    then option_map (λ n. record { name = take (name_len word) word; number = n })
+    (signed_of (drop (name_len word + 1) word))
+    else None
 
 -- the number of a place: 0 up to 2 ^ 64 - 1
 abbrev pub place_of : Signed → Option ℕ
-place_of n = if nat_lt n.distance (2 ^ 64) && (not n.negative || n.distance == 0) then Some n.distance else None
+place_of n =
+    if nat_lt n.distance (2 ^ 64) && (not n.negative || n.distance == 0)
+    then Some n.distance else None
 
 -- the value of an integer of a width w: -2 ^ (w - 1) up to 2 ^ w - 1, modulo 2 ^ w
 abbrev pub integer_of : ℕ → Signed → Option ℕ
 integer_of w n =
-    if n.negative then (if nat_le n.distance (2 ^ (w - 1)) then Some ((2 ^ w - n.distance) % 2 ^ w) else None)
+    if n.negative
+    then (if nat_le n.distance (2 ^ (w - 1)) then Some ((2 ^ w - n.distance) % 2 ^ w) else None)
     else (if nat_lt n.distance (2 ^ w) then Some n.distance else None)
 
 -- the number of a parameter of this kind, in its range
@@ -72,7 +78,8 @@ param_value bs p = option_and_then (value_of p.kind) (number_of bs p.name)
 -- the values of parameters in their order, where each has one
 abbrev pub values : List Binding → List Param → Option (List ℕ)
 values bs [] = Some []
-values bs (p ∷ ps) = option_and_then (λ v. option_map (λ vs. v ∷ vs) (values bs ps)) (param_value bs p)
+values bs (p ∷ ps) =
+    option_and_then (λ v. option_map (λ vs. v ∷ vs) (values bs ps)) (param_value bs p)
 
 -- whether a parameter is one of those that are asked for: the pointers or the integers
 abbrev pub is_asked : Bool → ParamKind → Bool
@@ -100,7 +107,9 @@ pub record InputLists : Type 0 where
 unfoldable pub inputs_of : List Binding → List Param → Option InputLists
 inputs_of bs ps =
     if all_named bs ps
-    then option_and_then (λ places. option_map (λ args. record { places = places; args = args }) (values bs (integers ps))) (values bs (pointers ps))
+    then option_and_then (λ places.
+    option_map (λ args. record { places = places; args = args })
+    (values bs (integers ps))) (values bs (pointers ps))
     else None
 
 -- one place for each pointer and one value in its range for each integer

@@ -1,5 +1,6 @@
--- The scalar program of a kernel: each load, each operation and each store becomes a line, in the order in which they are
--- made. A name of the kernel is what its expression is: a register, an argument or a literal.
+-- The scalar program of a kernel: each load, each operation and each store becomes a line, in the
+-- order in which they are made. A name of the kernel is what its expression is: a register, an
+-- argument or a literal.
 use Rattle.std.specs.Prelude.{ℕ, ◌+◌, List, [], ◌∷◌, ◌++◌, map, slice_get, unwrap_or}
 use Rattle.vg_base.specs.declared.width.Width.TheVariants.{W8}
 use Rattle.vg_kernel.specs.declared.parameter.KParam.{KParam}
@@ -32,8 +33,9 @@ no_operand = Literal W8 0
 abbrev pub named : List Operand → ℕ → Operand
 named names n = unwrap_or (slice_get names n) no_operand
 
--- what has the value of an expression, where the names have these values and so many registers were given before; a load
--- or an operation has the register that its line gives, behind those of its operands
+-- what has the value of an expression, where the names have these values and so many registers were
+-- given before; a load or an operation has the register that its line gives, behind those of its
+-- operands
 abbrev pub value_of : List Operand → ℕ → Expression → Operand
 value_of names k (argument n w) = Argument n
 value_of names k (assigned n t) = named names n
@@ -43,7 +45,8 @@ value_of names k (two op w x y) = Register (k + expression_cost x + expression_c
 value_of names k (shift op w n x) = Register (k + expression_cost x)
 value_of names k (resize op w v x) = Register (k + expression_cost x)
 value_of names k (compare op w x y) = Register (k + expression_cost x + expression_cost y)
-value_of names k (select w c x y) = Register (k + expression_cost c + expression_cost x + expression_cost y)
+value_of names k (select w c x y) =
+    Register (k + expression_cost c + expression_cost x + expression_cost y)
 
 -- the lines that make an expression: those of its operands from left to right, and its own
 abbrev pub value_lines : List Operand → ℕ → Expression → List Line
@@ -52,21 +55,36 @@ value_lines names k (assigned n t) = []
 value_lines names k (literal w n) = []
 value_lines names k (load w a) = Load w a ∷ []
 value_lines names k (two op w x y) =
-    value_lines names k x ++ (value_lines names (k + expression_cost x) y ++ Two op w (value_of names k x) (value_of names (k + expression_cost x) y) ∷ [])
-value_lines names k (shift op w n x) = value_lines names k x ++ Shift op w (value_of names k x) n ∷ []
-value_lines names k (resize op w v x) = value_lines names k x ++ Resize op w v (value_of names k x) ∷ []
+    value_lines names k x ++ (value_lines names (k + expression_cost x) y
+    ++ Two op w (value_of names k x) (value_of names (k + expression_cost x) y) ∷ [])
+value_lines names k (shift op w n x) =
+    value_lines names k x ++ Shift op w (value_of names k x) n ∷ []
+value_lines names k (resize op w v x) =
+    value_lines names k x ++ Resize op w v (value_of names k x) ∷ []
 value_lines names k (compare op w x y) =
-    value_lines names k x ++ (value_lines names (k + expression_cost x) y ++ Compare op w (value_of names k x) (value_of names (k + expression_cost x) y) ∷ [])
+    value_lines names k x ++ (value_lines names (k + expression_cost x) y
+    ++ Compare op w (value_of names k x) (value_of names (k + expression_cost x) y) ∷ [])
 value_lines names k (select w c x y) =
-    value_lines names k c ++ (value_lines names (k + expression_cost c) x ++ (value_lines names (k + expression_cost c + expression_cost x) y
-    ++ Select w (value_of names k c) (value_of names (k + expression_cost c) x) (value_of names (k + expression_cost c + expression_cost x) y) ∷ []))
+    value_lines names k c ++ (value_lines names (k + expression_cost c) x
+    ++ (value_lines names (k + expression_cost c + expression_cost x) y
+    ++ Select w (value_of names k c) (value_of names (k + expression_cost c) x)
+    (value_of names (k + expression_cost c + expression_cost x) y) ∷ []))
 
--- the lines of statements, where the names have these values and so many registers were given before
+-- the lines of statements, where the names have these values and so many registers were given
+-- before
 unfoldable pub lines_of : List Operand → ℕ → List Statement → List Line
 lines_of names k [] = []
-lines_of names k (assign e ∷ ss) = value_lines names k e ++ lines_of (names ++ value_of names k e ∷ []) (k + expression_cost e) ss
-lines_of names k (store w a e ∷ ss) = value_lines names k e ++ Store a (value_of names k e) ∷ lines_of names (k + expression_cost e) ss
+lines_of names k (assign e ∷ ss) =
+    value_lines names k e ++ lines_of (names ++ value_of names k e ∷ []) (k + expression_cost e) ss
+lines_of names k (store w a e ∷ ss) =
+    value_lines names k e ++ Store a (value_of names k e) ∷ lines_of names (k + expression_cost e) ss
 
 -- the program of a kernel
 abbrev pub program_of : Tree → Program
-program_of k = record { name = k.name; params = map param_of k.params; lines = lines_of [] 0 k.statements; cost = scalar_cost k; scalar = scalar_cost k }
+program_of k = record {
+  name = k.name;
+  params = map param_of k.params;
+  lines = lines_of [] 0 k.statements;
+  cost = scalar_cost k;
+  scalar = scalar_cost k;
+}

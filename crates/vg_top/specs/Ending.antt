@@ -6,9 +6,9 @@ use Rattle.vg_top.specs.declared.status.Status.TheVariants as status
 
 abbrev pub status_of : Ending → Status
 status_of Usage = status.Usage
-status_of Instructions = status.InstructionsRefused
+status_of (Instructions n) = status.InstructionsRefused
 status_of (Kernel n f) = status.KernelRefused
-status_of (Program f) = status.ProgramRefused
+status_of (Program n f) = status.ProgramRefused
 status_of (Absent n) = status.InputAbsent
 status_of (ReadFault n) = status.ReadFault
 status_of (TooLarge n) = status.TooLarge

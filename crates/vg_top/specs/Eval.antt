@@ -1,5 +1,5 @@
--- What `eval` answers, where it is known what the shelf holds: the memory that the kernel leaves, or the first refusal. The
--- files are judged one after the other, and behind them the bindings.
+-- What `eval` answers, where it is known what the shelf holds: the memory that the kernel leaves,
+-- or the first refusal. The files are judged one after the other, and behind them the bindings.
 use Rattle.std.specs.Prelude.{ℕ, List, map, Option, Some, None, Result, Err}
 use Rattle.vg_base.specs.Bind.{◌>>=◌}
 use Rattle.vg_outside.specs.Shelf.{Held}
@@ -9,11 +9,10 @@ use Rattle.vg_kernel.specs.Tree.{Tree}
 use Rattle.vg_top.specs.declared.ending.Ending.{Ending}
 use Rattle.vg_top.specs.declared.ending.Ending.TheVariants.{Bindings}
 use Rattle.vg_top.specs.Binding.{Binding, InputLists, inputs_of}
-use Rattle.vg_top.specs.Compile.{first_file, second_file}
 use Rattle.vg_top.specs.Emission.{param_of}
-use Rattle.vg_top.specs.Files.{file_of}
-use Rattle.vg_top.specs.KernelFile.{kernel_limit, kernel_or_refusal}
-use Rattle.vg_top.specs.Run.{memory_limit, memory_or_trap}
+use Rattle.vg_top.specs.Files.{first_file, second_file, kernel_limit, memory_limit, file_of}
+use Rattle.vg_top.specs.KernelFile.{kernel_or_refusal}
+use Rattle.vg_top.specs.Run.{memory_or_trap}
 
 -- what the kernel leaves of the memory, where the parameters are bound
 abbrev pub left_by : Tree → List ℕ → Option InputLists → Result (List ℕ) Ending

@@ -1,15 +1,11 @@
 -- The kernel in a file of a request.
-use Rattle.std.specs.Prelude.{◌≡◌, ℕ, Result, Ok, Err}
+use Rattle.std.specs.Prelude.{◌≡◌, Result, Ok, Err}
 use Rattle.vg_kernel.specs.declared.fault.KernelFault.{KernelFault}
 use Rattle.vg_kernel.specs.declared.kernel.Kernel.{Kernel}
 use Rattle.vg_kernel.specs.Tree.{Tree, tree_of}
 use Rattle.vg_top.specs.declared.ending.FileNumber.{FileNumber}
 use Rattle.vg_top.specs.declared.ending.Ending.{Ending}
 use Rattle.vg_top.specs.declared.ending.Ending.TheVariants.{Kernel as KernelRefused}
-
--- the bytes that a kernel file may have
-abbrev pub kernel_limit : ℕ
-kernel_limit = 262144
 
 -- a fault of the kernel file, which has this number
 abbrev pub kernel_or_refusal : FileNumber → Result Tree KernelFault → Result Tree Ending

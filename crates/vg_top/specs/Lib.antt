@@ -1,5 +1,6 @@
 pub mod Answer
 pub mod Binding
+pub mod Causes
 pub mod Compile
 pub mod Emission
 pub mod Ending
@@ -7,8 +8,9 @@ pub mod Eval
 pub mod Files
 pub mod KernelFile
 pub mod Line
-pub mod Reads
+pub mod Means
 pub mod Request
 pub mod Run
 pub mod Status
 pub mod Verdict
+pub mod Works

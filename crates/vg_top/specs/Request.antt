@@ -1,5 +1,5 @@
 -- The requests: what the words of a command line ask for.
-use Rattle.std.specs.Prelude.{ℕ, List, [], ◌∷◌, drop, Option, Some, None, ◌==◌, slice_index, codes, if◌then◌else◌}
+use Rattle.std.specs.Prelude.{ℕ, List, [], ◌∷◌, Option, Some, None, ◌==◌, slice_index, codes, if◌then◌else◌}
 use Rattle.std.specs.Str.{bytes_eq, is_utf8}
 use Rattle.std.specs.List.{list_all}
 use Rattle.std.specs.Option.{option_and_then, option_map}
@@ -13,6 +13,17 @@ pub data Asked : Type 0 where
   run : List ℕ → List ℕ → List ℕ → List Binding → Asked
   eval : List ℕ → List ℕ → List Binding → Asked
 
+-- the names of its files, in the order in which they are read
+abbrev pub files_of : Asked → List (List ℕ)
+files_of (compile instructions kernel) = instructions ∷ kernel ∷ []
+files_of (run instructions program memory bindings) = instructions ∷ program ∷ memory ∷ []
+files_of (eval kernel memory bindings) = kernel ∷ memory ∷ []
+
+-- words that are no request name no file
+abbrev pub files_in : Option Asked → List (List ℕ)
+files_in None = []
+files_in (Some asked) = files_of asked
+
 -- a word that is text
 abbrev pub text_word : List ℕ → Option (List ℕ)
 text_word w = if is_utf8 w then Some w else None
@@ -23,20 +34,28 @@ file_word w = if slice_index w 0 == 45 then None else text_word w
 
 -- the two files of `compile`
 abbrev pub compile_of : List ℕ → List ℕ → Option Asked
-compile_of a b = option_and_then (λ instructions. option_map (λ kernel. compile instructions kernel) (file_word b)) (file_word a)
+compile_of a b =
+    option_and_then (λ instructions.
+    option_map (λ kernel. compile instructions kernel)
+    (file_word b)) (file_word a)
 
 -- the three files of `run`, and the words that bind the parameters
 abbrev pub run_of : List ℕ → List ℕ → List ℕ → List (List ℕ) → Option Asked
 run_of a b c words =
     if list_all is_binding words
-    then option_and_then (λ instructions. option_and_then (λ program. option_map (λ memory. run instructions program memory (bindings_in words)) (file_word c)) (file_word b)) (file_word a)
+    then option_and_then (λ instructions.
+    option_and_then (λ program.
+    option_map (λ memory. run instructions program memory (bindings_in words))
+    (file_word c)) (file_word b)) (file_word a)
     else None
 
 -- the two files of `eval`, and the words that bind the parameters
 abbrev pub eval_of : List ℕ → List ℕ → List (List ℕ) → Option Asked
 eval_of a b words =
     if list_all is_binding words
-    then option_and_then (λ kernel. option_map (λ memory. eval kernel memory (bindings_in words)) (file_word b)) (file_word a)
+    then option_and_then (λ kernel.
+    option_map (λ memory. eval kernel memory (bindings_in words))
+    (file_word b)) (file_word a)
     else None
 
 -- the words behind `compile INSTRUCTIONS KERNEL`
@@ -63,8 +82,8 @@ request_of (command ∷ words) =
     else if bytes_eq command (codes "eval") then eval_words words
     else None
 
--- what a request of the code asks for, where these are its words
-abbrev pub asked_of : List (List ℕ) → Request → Asked
-asked_of words (Compile a b) = compile a.now b.now
-asked_of words (Run a b c) = run a.now b.now c.now (bindings_in (drop 4 words))
-asked_of words (Eval a b) = eval a.now b.now (bindings_in (drop 3 words))
+-- what a request of the code asks for
+abbrev pub asked_of : Request → Asked
+asked_of (Compile a b) = compile a.now b.now
+asked_of (Run a b c words) = run a.now b.now c.now (bindings_in words.now)
+asked_of (Eval a b words) = eval a.now b.now (bindings_in words.now)

@@ -1,5 +1,5 @@
--- What `run` answers, where it is known what the shelf holds: the memory that the program leaves, or the first refusal.
--- The files are judged one after the other, and behind them the bindings.
+-- What `run` answers, where it is known what the shelf holds: the memory that the program leaves,
+-- or the first refusal. The files are judged one after the other, and behind them the bindings.
 use Rattle.std.specs.Prelude.{◌≡◌, ℕ, List, Option, Some, None, Result, Ok, Err, Vec}
 use Rattle.std.specs.declared.alloc.Global.{Global}
 use Rattle.vg_base.specs.Bind.{◌>>=◌}
@@ -11,24 +11,13 @@ use Rattle.vg_program.specs.Meaning.{meaning}
 use Rattle.vg_top.specs.declared.ending.FileNumber.{FileNumber}
 use Rattle.vg_top.specs.declared.ending.Ending.{Ending}
 use Rattle.vg_top.specs.declared.ending.Ending.TheVariants.{Program as ProgramRefused, Bindings, Trap}
-use Rattle.vg_top.specs.Files.{file_of}
+use Rattle.vg_top.specs.Files.{first_file, second_file, third_file, instructions_limit, program_limit, memory_limit, file_of, without_instructions}
 use Rattle.vg_top.specs.Binding.{Binding, InputLists, inputs_of}
-use Rattle.vg_top.specs.Compile.{first_file, second_file, instructions_limit, without_instructions}
 
-abbrev pub third_file : FileNumber
-third_file = record { 0 = 3 }
-
--- the bytes that a program file, a memory file may have
-abbrev pub program_limit : ℕ
-program_limit = 4194304
-
-abbrev pub memory_limit : ℕ
-memory_limit = 16777216
-
--- a fault of the program file
-abbrev pub program_or_refusal : Result Program ProgramFault → Result Program Ending
-program_or_refusal (Ok p) = Ok p
-program_or_refusal (Err f) = Err (ProgramRefused f)
+-- a fault of the program file, which has this number
+abbrev pub program_or_refusal : FileNumber → Result Program ProgramFault → Result Program Ending
+program_or_refusal n (Ok p) = Ok p
+program_or_refusal n (Err f) = Err (ProgramRefused n f)
 
 -- the memory that is left, or a trap
 abbrev pub memory_or_trap : Option (List ℕ) → Result (List ℕ) Ending
@@ -46,9 +35,9 @@ ran_on bindings p memory = left_by p memory (inputs_of bindings p.params)
 abbrev pub ran : Held → List ℕ → List ℕ → List ℕ → List Binding → Result (List ℕ) Ending
 ran held instructions program memory bindings = do
   file ← file_of held first_file instructions instructions_limit
-  without_instructions file (do
+  without_instructions first_file file (do
     text ← file_of held second_file program program_limit
-    p ← program_or_refusal (read text)
+    p ← program_or_refusal second_file (read text)
     bytes ← file_of held third_file memory memory_limit
     ran_on bindings p bytes)
 

@@ -28,9 +28,12 @@ IsAnswer (program_for k) bytes = Answer k bytes
 IsAnswer (memory_left memory) bytes = bytes ≡ memory
 
 abbrev pub outcome_of : Held → Asked → Result Outcome Ending
-outcome_of held (compile instructions kernel) = compiled held instructions kernel >>= λ k. Ok (program_for k)
-outcome_of held (run instructions program memory bindings) = ran held instructions program memory bindings >>= λ left. Ok (memory_left left)
-outcome_of held (eval kernel memory bindings) = evaluated held kernel memory bindings >>= λ left. Ok (memory_left left)
+outcome_of held (compile instructions kernel) =
+    compiled held instructions kernel >>= λ k. Ok (program_for k)
+outcome_of held (run instructions program memory bindings) =
+    ran held instructions program memory bindings >>= λ left. Ok (memory_left left)
+outcome_of held (eval kernel memory bindings) =
+    evaluated held kernel memory bindings >>= λ left. Ok (memory_left left)
 
 -- what is to be written, or the first refusal: of the words, and then of the files in their order
 abbrev pub asked_outcome : Held → Option Asked → Result Outcome Ending
@@ -48,30 +51,20 @@ abbrev pub IsAnswered : Result Outcome Ending → List ℕ → Type 0
 IsAnswered (Ok outcome) bytes = IsAnswer outcome bytes
 IsAnswered (Err e) bytes = ⊥
 
--- A status against the verdict. A fault of the outside and want of memory may come in its place; a write is tried only
--- where there is something to be written.
-abbrev pub Ends : Status → Result Outcome Ending → Type 0
-Ends status.NoMemory v = Unit {0}
-Ends status.ReadFault v = Unit {0}
-Ends status.WriteFault v = IsOk v
-Ends status.Ok v = IsOk v
-Ends s v = (e : Ending) × (v ≡ Err e) × (status_of e ≡ s)
-
--- where nothing is wrong outside, the status is the verdict's, or there was no memory
-abbrev pub EndsWell : Status → Result Outcome Ending → Type 0
-EndsWell status.NoMemory v = Unit {0}
-EndsWell s (Ok outcome) = s ≡ status.Ok
-EndsWell s (Err e) = s ≡ status_of e
+-- how a run ends where nothing is wrong outside and there is memory
+abbrev pub status_told : Result Outcome Ending → Status
+status_told (Ok outcome) = status.Ok
+status_told (Err e) = status_of e
 
 -- how a run ended: by an answer, or by an ending
 abbrev pub status_from : Option Ending → Status
 status_from None = status.Ok
 status_from (Some e) = status_of e
 
--- the line that tells of it; none behind an answer
+-- the line that tells of it, with the names of the files; none behind an answer
 abbrev pub line_from : List (List ℕ) → Option Ending → List ℕ
-line_from words None = []
-line_from words (Some e) = line_of words e
+line_from files None = []
+line_from files (Some e) = line_of files e
 
 -- the ending is the one that the verdict names, a fault of the outside and want of memory aside
 abbrev pub EndedBy : Option Ending → Result Outcome Ending → Type 0

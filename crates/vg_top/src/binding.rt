@@ -1,6 +1,6 @@
 //! The words `name=number` that bind parameters.
 
-ghost use Rattle.std.specs.Prelude.{◌≡◌, ◌≤◌, ◌<◌, ◌-◌, ◌*◌, ◌^◌, length, map, drop, count_by, option_map, IfSome, IfOk};
+ghost use Rattle.std.specs.Prelude.{◌≡◌, ◌≤◌, ◌<◌, ◌-◌, ◌*◌, ◌^◌, length, map, count_by, option_map, IfSome, IfOk};
 ghost use Rattle.std.specs.List.{list_all, find};
 ghost use Rattle.std.specs.Str.{bytes_eq};
 ghost use Rattle.vg_base.specs.Width.{bits_of};
@@ -9,7 +9,7 @@ ghost use Rattle.vg_top.specs.Binding.{digits_of, signed_of, name_len, binding_o
 
 use std::alloc::{AllocError, Global};
 use vg_base::Width;
-use vg_outside::Words;
+use vg_outside::Bytes;
 use vg_program::param::Param;
 use vg_program::param_kind::ParamKind;
 use vg_text::byte::is_name_text;
@@ -29,8 +29,8 @@ pub struct Bound<'a> {
     pub number: SignedNumber,
 }
 
-/// The values of the parameters: one place for each pointer and one value for each integer, each kind in
-/// the order of the first line.
+/// The values of the parameters: one place for each pointer and one value for each integer, each
+/// kind in the order of the parameters.
 #[derive(Drop)]
 pub struct Inputs {
     pub places: Vec<u64>,
@@ -48,7 +48,8 @@ fn digits_of(text: &[u8]) -> Option<u128>
 }
 
 fn with_sign(negative: bool, distance: Option<u128>) -> Option<SignedNumber>
-    ensures { option_map signed_number result ≡ option_map (λ n. record { negative = negative; distance = n }) distance }
+    ensures { option_map signed_number result
+        ≡ option_map (λ n. record { negative = negative; distance = n }) distance }
 {
     match distance {
         Some(distance) => Some(SignedNumber { negative, distance }),
@@ -164,29 +165,20 @@ fn is_binding(word: &[u8]) -> bool
     }
 }
 
-/// Whether each word from this number on is a binding. Takes no memory.
-pub fn are_bindings(words: &Words, from: usize) -> bool
-    ensures { result ≡ list_all is_binding (drop from words.now) }
+/// Whether each word is a binding. Takes no memory.
+pub fn are_bindings(words: &[Bytes]) -> bool
+    ensures { result ≡ list_all is_binding words.now }
 {
-    'words: for i in from..words.len() {
-        if !is_binding(words.get(i)) {
-            return false;
-        }
-    }
-    true
+    words.iter().all(|word| is_binding(word.as_slice()))
 }
 
-/// The bindings among the words from this number on.
-pub fn bindings_of<'a>(
-    alloc: Global,
-    words: &'a Words,
-    from: usize,
-) -> Result<Vec<Bound<'a>>, AllocError>
-    ensures { IfOk result (λ bound. map binding_seen bound.items ≡ bindings_in (drop from words.now)) }
+/// The bindings among the words.
+pub fn bindings_of(alloc: Global, words: &[Bytes]) -> Result<Vec<Bound<'_>>, AllocError>
+    ensures { IfOk result (λ bound. map binding_seen bound.items ≡ bindings_in words.now) }
 {
     let mut all = Vec::new(alloc);
-    'words: for i in from..words.len() {
-        if let Some(binding) = binding_of(words.get(i)) {
+    'words: for word in words {
+        if let Some(binding) = binding_of(word.as_slice()) {
             all.push(binding)?;
         }
     }
@@ -262,7 +254,8 @@ fn values_of(
     params: &[Param],
     pointers: bool,
 ) -> Result<Option<Vec<u64>>, AllocError>
-    ensures { IfOk result (λ o. option_map (λ v. v.items) o ≡ values (map binding_seen bindings.now) (asked pointers params.now)) }
+    ensures { IfOk result (λ o. option_map (λ v. v.items) o
+        ≡ values (map binding_seen bindings.now) (asked pointers params.now)) }
 {
     let mut all = Vec::new(alloc);
     'params: for param in params {
@@ -276,15 +269,16 @@ fn values_of(
     Ok(Some(all))
 }
 
-/// The values of the parameters. None where some word names no parameter, or some parameter is not bound
-/// by exactly one word in its range.
+/// The values of the parameters. None where some word names no parameter, or some parameter is not
+/// bound by exactly one word in its range.
 #[tactic(auto, unfolding(crate::specs::Binding::inputs_of))]
 pub fn bind(
     alloc: Global,
     bindings: &[Bound],
     params: &[Param],
 ) -> Result<Option<Inputs>, AllocError>
-    ensures values { IfOk result (λ o. option_map inputs_seen o ≡ inputs_of (map binding_seen bindings.now) params.now) }
+    ensures values { IfOk result (λ o. option_map inputs_seen o
+        ≡ inputs_of (map binding_seen bindings.now) params.now) }
     ensures fits { IfOk result (λ o. IfSome o (λ i. FitParams params.now (inputs_seen i))) }
 {
     if !all_named(bindings, params) {

@@ -67,7 +67,8 @@ fn named(names: &[Operand], number: u32) -> Operand
 fn put_line(lines: &mut Vec<Line>, registers: u32, line: Line) -> Result<Emitted, AllocError>
     requires { registers < 2 ^ 32 - 1 }
     ensures lines { OnOk result (lines.new.items ≡ lines.old.items ++ line ∷ []) }
-    ensures emitted { IfOk result (λ e. e ≡ record { operand = Operand.Register registers; registers = registers + 1 }) }
+    ensures emitted { IfOk result (λ e.
+        e ≡ record { operand = Operand.Register registers; registers = registers + 1 }) }
 {
     lines.push(line)?;
     Ok(Emitted {
@@ -150,8 +151,8 @@ fn select(width: Width, condition: Operand, first: Operand, second: Operand) -> 
     }
 }
 
-/// Adds the lines that make an expression, where so many registers were given before: those of its operands from left to
-/// right, and its own.
+/// Adds the lines that make an expression, where so many registers were given before: those of its
+/// operands from left to right, and its own.
 fn put_value(
     lines: &mut Vec<Line>,
     names: &[Operand],
@@ -159,8 +160,11 @@ fn put_value(
     value: &KExpr,
 ) -> Result<Emitted, AllocError>
     requires { registers + expression_cost (expression_of value.now) < 2 ^ 32 - 1 }
-    ensures lines { OnOk result (lines.new.items ≡ lines.old.items ++ value_lines names.now registers (expression_of value.now)) }
-    ensures emitted { IfOk result (λ e. (e.operand ≡ value_of names.now registers (expression_of value.now)) × (e.registers ≡ registers + expression_cost (expression_of value.now))) }
+    ensures lines { OnOk result (lines.new.items
+        ≡ lines.old.items ++ value_lines names.now registers (expression_of value.now)) }
+    ensures emitted { IfOk result (λ e.
+        (e.operand ≡ value_of names.now registers (expression_of value.now))
+        × (e.registers ≡ registers + expression_cost (expression_of value.now))) }
 {
     match value {
         KExpr::Argument { number, .. } => Ok(at_hand(Operand::Argument(*number), registers)),
@@ -224,7 +228,8 @@ fn put_value(
     }
 }
 
-/// Adds the lines of a statement, and gives how many registers are given then. A name that it gives is added to the names.
+/// Adds the lines of a statement, and gives how many registers are given then. A name that it gives
+/// is added to the names.
 fn put_statement(
     lines: &mut Vec<Line>,
     names: &mut Vec<Operand>,
@@ -232,7 +237,8 @@ fn put_statement(
     statement: &KStmt,
 ) -> Result<u32, AllocError>
     requires { registers + uses_of (statement_of statement.now) < 2 ^ 32 - 1 }
-    ensures lines { (rest : List Statement) → OnOk result (lines.new.items ++ lines_of names.new.items (registers + uses_of (statement_of statement.now)) rest
+    ensures lines { (rest : List Statement) → OnOk result (lines.new.items
+        ++ lines_of names.new.items (registers + uses_of (statement_of statement.now)) rest
         ≡ lines.old.items ++ lines_of names.old.items registers (statement_of statement.now ∷ rest)) }
     ensures registers { IfOk result (λ n. n ≡ registers + uses_of (statement_of statement.now)) }
 {
@@ -286,7 +292,8 @@ fn scalar_program(alloc: Global, kernel: &Kernel) -> Result<Program, AllocError>
     })
 }
 
-/// The scalar program of a kernel: one line for each load, each operation and each store, in their order.
+/// The scalar program of a kernel: one line for each load, each operation and each store, in their
+/// order.
 pub fn program_of(alloc: Global, kernel: &Kernel) -> Result<Program, AllocError>
     requires { IsWellFormed (tree_of kernel.now) }
     ensures program { IfOk result (λ program. program ≡ program_of (tree_of kernel.now)) }

@@ -16,12 +16,12 @@ pub struct FileNumber(pub u8);
 pub enum Ending {
     /// The words are no request.
     Usage,
-    /// The instruction file is not one that is read today.
-    Instructions,
+    /// The instruction file, which has this number, is not one that is read today.
+    Instructions(FileNumber),
     /// The kernel file, which has this number, has this fault.
     Kernel(FileNumber, KernelFault),
-    /// The program file has this fault.
-    Program(ProgramFault),
+    /// The program file, which has this number, has this fault.
+    Program(FileNumber, ProgramFault),
     /// The file is not there.
     Absent(FileNumber),
     /// The file could not be read.
@@ -45,9 +45,9 @@ impl Ending {
     {
         match self {
             Ending::Usage => Status::Usage,
-            Ending::Instructions => Status::InstructionsRefused,
+            Ending::Instructions(_) => Status::InstructionsRefused,
             Ending::Kernel(..) => Status::KernelRefused,
-            Ending::Program(_) => Status::ProgramRefused,
+            Ending::Program(..) => Status::ProgramRefused,
             Ending::Absent(_) => Status::InputAbsent,
             Ending::ReadFault(_) => Status::ReadFault,
             Ending::TooLarge(_) => Status::TooLarge,

@@ -1,29 +1,26 @@
 //! The line that tells how a run ended.
 
-ghost use Rattle.std.specs.Prelude.{◌≡◌, ◌≤◌, ◌++◌, ◌∷◌, [], OnOk, OnErr, Some, None};
-ghost use Rattle.vg_outside.specs.Count.{Rose};
-ghost use Rattle.vg_outside.specs.Sink.{Appends, AppendsFront};
-ghost use Rattle.vg_kernel.specs.Faults as kernel;
-ghost use Rattle.vg_program.specs.Faults.{place_of_fault};
-ghost use Rattle.vg_top.specs.Line.{word_of, kernel_fault_name, fault_name, place_text, costs_text, head_of, tail_of, line_of, Says};
+ghost use Rattle.std.specs.Prelude.{◌≡◌, ◌++◌, ◌∷◌, [], option_map};
 ghost use Rattle.std.specs.Fmt.{decimal};
+ghost use Rattle.vg_program.specs.Faults.{place_of_fault};
+ghost use Rattle.vg_top.specs.Request.{files_in, asked_of};
+ghost use Rattle.vg_top.specs.Line.{file_name, place_text, costs_text, kernel_refusal, program_refusal, head_of, tail_of, line_of, Writes, Says};
 
 use crate::ending::{Ending, FileNumber};
+use crate::request::Request;
 use itoa::Buffer;
 use vg_kernel::KernelFault;
-use vg_outside::{Sink, SinkFault, Words};
+use vg_outside::{Sink, SinkFault};
 use vg_program::ProgramFault;
 use vg_text::Place;
 
-/// The word of a file. There is none where the words end before it.
-fn word_of(words: &Words, number: FileNumber) -> &[u8]
-    ensures { result.now ≡ word_of words.now number }
+/// The name of a file of a request. Words that are no request name none.
+fn file_name<'a>(request: Option<Request<'a>>, number: FileNumber) -> &'a str
+    ensures { result.now ≡ file_name (files_in (option_map asked_of request.entry)) number }
 {
-    let index = number.0 as usize;
-    if index < words.len() {
-        words.get(index)
-    } else {
-        b""
+    match request {
+        Some(request) => request.file_name(number),
+        None => "",
     }
 }
 
@@ -32,9 +29,9 @@ fn head_of(ending: &Ending) -> &'static [u8]
 {
     match ending {
         Ending::Usage => b"vegen: usage",
-        Ending::Instructions => b"vegen: instructions: 0 NotYet at 1:1",
+        Ending::Instructions(_) => b"vegen: instructions: 0 NotYet at 1:1",
         Ending::Kernel(..) => b"vegen: kernel: ",
-        Ending::Program(_) => b"vegen: program: ",
+        Ending::Program(..) => b"vegen: program: ",
         Ending::Absent(_) => b"vegen: absent: ",
         Ending::ReadFault(_) => b"vegen: read fault: ",
         Ending::TooLarge(_) => b"vegen: too large: ",
@@ -48,10 +45,7 @@ fn head_of(ending: &Ending) -> &'static [u8]
 /// A text and a number.
 #[tactic(auto, using(crate::proofs::Fronts::cut_first, crate::proofs::Fronts::cut_second, crate::proofs::Fronts::appends_both))]
 fn write_number<E: Sink>(err: &mut E, text: &[u8], number: u64) -> Result<(), SinkFault>
-    ensures whole { OnOk result (Appends (E.written err.old) (text.now ++ decimal number) (E.written err.new)) }
-    ensures front { OnErr result (AppendsFront (E.written err.old) (text.now ++ decimal number) (E.written err.new)) }
-    ensures fault { OnErr result (Rose (E.faults err.old) (E.faults err.new)) }
-    ensures faults_never_fall { E.faults err.old ≤ E.faults err.new }
+    ensures { Writes E.Sink (text.now ++ decimal number) err.old err.new result }
 {
     let mut buffer = Buffer::new();
     err.write(text)?;
@@ -66,20 +60,15 @@ fn write_numbers<E: Sink>(
     second: &[u8],
     two: u64,
 ) -> Result<(), SinkFault>
-    ensures whole { OnOk result (Appends (E.written err.old) ((first.now ++ decimal one) ++ (second.now ++ decimal two)) (E.written err.new)) }
-    ensures front { OnErr result (AppendsFront (E.written err.old) ((first.now ++ decimal one) ++ (second.now ++ decimal two)) (E.written err.new)) }
-    ensures fault { OnErr result (Rose (E.faults err.old) (E.faults err.new)) }
-    ensures faults_never_fall { E.faults err.old ≤ E.faults err.new }
+    ensures { Writes E.Sink ((first.now ++ decimal one) ++ (second.now ++ decimal two))
+        err.old err.new result }
 {
     write_number(err, first, one)?;
     write_number(err, second, two)
 }
 
 fn write_place<E: Sink>(err: &mut E, place: Option<Place>) -> Result<(), SinkFault>
-    ensures whole { OnOk result (Appends (E.written err.old) (place_text place) (E.written err.new)) }
-    ensures front { OnErr result (AppendsFront (E.written err.old) (place_text place) (E.written err.new)) }
-    ensures fault { OnErr result (Rose (E.faults err.old) (E.faults err.new)) }
-    ensures faults_never_fall { E.faults err.old ≤ E.faults err.new }
+    ensures { Writes E.Sink (place_text place) err.old err.new result }
 {
     match place {
         None => err.write(b""),
@@ -93,119 +82,97 @@ fn write_place<E: Sink>(err: &mut E, place: Option<Place>) -> Result<(), SinkFau
     }
 }
 
-fn write_costs<E: Sink>(err: &mut E, stated: u64, counted: u64) -> Result<(), SinkFault>
-    ensures whole { OnOk result (Appends (E.written err.old) (costs_text stated counted) (E.written err.new)) }
-    ensures front { OnErr result (AppendsFront (E.written err.old) (costs_text stated counted) (E.written err.new)) }
-    ensures fault { OnErr result (Rose (E.faults err.old) (E.faults err.new)) }
-    ensures faults_never_fall { E.faults err.old ≤ E.faults err.new }
-{
-    write_numbers(err, b"6 CostWrong ", stated, b" ", counted)
-}
-
-fn write_fault_name<E: Sink>(err: &mut E, fault: &ProgramFault) -> Result<(), SinkFault>
-    ensures whole { OnOk result (Appends (E.written err.old) (fault_name fault.now) (E.written err.new)) }
-    ensures front { OnErr result (AppendsFront (E.written err.old) (fault_name fault.now) (E.written err.new)) }
-    ensures fault { OnErr result (Rose (E.faults err.old) (E.faults err.new)) }
-    ensures faults_never_fall { E.faults err.old ≤ E.faults err.new }
+/// The costs behind `6 CostWrong`.
+fn write_costs<E: Sink>(err: &mut E, fault: &ProgramFault) -> Result<(), SinkFault>
+    ensures { Writes E.Sink (costs_text fault.now) err.old err.new result }
 {
     match fault {
-        ProgramFault::Token { .. } => err.write(b"1 Token"),
-        ProgramFault::Shape { .. } => err.write(b"2 Shape"),
-        ProgramFault::UnknownRegister { .. } => err.write(b"4 UnknownRegister"),
-        ProgramFault::WidthMismatch { .. } => err.write(b"5 WidthMismatch"),
         ProgramFault::CostWrong {
             stated,
             counted,
             ..
-        } => write_costs(err, *stated, *counted),
-        ProgramFault::TooLarge { .. } => err.write(b"7 TooLarge"),
-        ProgramFault::Range { .. } => err.write(b"8 Range"),
-        ProgramFault::Memory(_) => err.write(b"memory"),
+        } => write_numbers(err, b" ", *stated, b" ", *counted),
+        _ => err.write(b""),
     }
 }
 
+/// The costs of a program's refusal and its place.
 #[tactic(auto, using(crate::proofs::Fronts::cut_first, crate::proofs::Fronts::cut_second, crate::proofs::Fronts::appends_both))]
-fn write_fault<E: Sink>(err: &mut E, fault: &ProgramFault) -> Result<(), SinkFault>
-    ensures whole { OnOk result (Appends (E.written err.old) (fault_name fault.now ++ place_text (place_of_fault fault.now)) (E.written err.new)) }
-    ensures front { OnErr result (AppendsFront (E.written err.old) (fault_name fault.now ++ place_text (place_of_fault fault.now)) (E.written err.new)) }
-    ensures fault { OnErr result (Rose (E.faults err.old) (E.faults err.new)) }
-    ensures faults_never_fall { E.faults err.old ≤ E.faults err.new }
+fn write_costs_and_place<E: Sink>(err: &mut E, fault: &ProgramFault) -> Result<(), SinkFault>
+    ensures { Writes E.Sink (costs_text fault.now ++ place_text (place_of_fault fault.now))
+        err.old err.new result }
 {
-    write_fault_name(err, fault)?;
+    write_costs(err, fault)?;
     write_place(err, fault.place())
 }
 
-fn kernel_fault_name(fault: &KernelFault) -> &'static [u8]
-    ensures { result.now ≡ kernel_fault_name fault.now }
+#[tactic(auto, using(crate::proofs::Fronts::cut_first, crate::proofs::Fronts::cut_second, crate::proofs::Fronts::appends_both))]
+fn write_program_refusal<E: Sink>(err: &mut E, fault: &ProgramFault) -> Result<(), SinkFault>
+    ensures { Writes E.Sink (program_refusal fault.now) err.old err.new result }
 {
-    match fault {
-        KernelFault::Token { .. } => b"1 Token",
-        KernelFault::Shape { .. } => b"2 Shape",
-        KernelFault::UnknownName { .. } => b"3 UnknownName",
-        KernelFault::DuplicateName { .. } => b"4 DuplicateName",
-        KernelFault::WidthMismatch { .. } => b"5 WidthMismatch",
-        KernelFault::LiteralRange { .. } => b"6 LiteralRange",
-        KernelFault::ShiftRange { .. } => b"7 ShiftRange",
-        KernelFault::TooMany { .. } => b"8 TooMany",
-        KernelFault::TooLarge { .. } => b"9 TooLarge",
-        KernelFault::NestingTooDeep { .. } => b"10 NestingTooDeep",
-        KernelFault::Memory(_) => b"memory",
-    }
+    err.write(fault.name().as_bytes())?;
+    write_costs_and_place(err, fault)
 }
 
 #[tactic(auto, using(crate::proofs::Fronts::cut_first, crate::proofs::Fronts::cut_second, crate::proofs::Fronts::appends_both))]
-fn write_kernel_fault<E: Sink>(err: &mut E, fault: &KernelFault) -> Result<(), SinkFault>
-    ensures whole { OnOk result (Appends (E.written err.old) (kernel_fault_name fault.now ++ place_text (kernel.place_of_fault fault.now)) (E.written err.new)) }
-    ensures front { OnErr result (AppendsFront (E.written err.old) (kernel_fault_name fault.now ++ place_text (kernel.place_of_fault fault.now)) (E.written err.new)) }
-    ensures fault { OnErr result (Rose (E.faults err.old) (E.faults err.new)) }
-    ensures faults_never_fall { E.faults err.old ≤ E.faults err.new }
+fn write_kernel_refusal<E: Sink>(err: &mut E, fault: &KernelFault) -> Result<(), SinkFault>
+    ensures { Writes E.Sink (kernel_refusal fault.now) err.old err.new result }
 {
-    err.write(kernel_fault_name(fault))?;
+    err.write(fault.name().as_bytes())?;
     write_place(err, fault.place())
 }
 
-fn write_tail<E: Sink>(err: &mut E, words: &Words, ending: &Ending) -> Result<(), SinkFault>
-    ensures whole { OnOk result (Appends (E.written err.old) (tail_of words.now ending.now) (E.written err.new)) }
-    ensures front { OnErr result (AppendsFront (E.written err.old) (tail_of words.now ending.now) (E.written err.new)) }
-    ensures fault { OnErr result (Rose (E.faults err.old) (E.faults err.new)) }
-    ensures faults_never_fall { E.faults err.old ≤ E.faults err.new }
+/// What stands between the head of the line and its end.
+fn write_tail<E: Sink>(
+    err: &mut E,
+    request: Option<Request<'_>>,
+    ending: &Ending,
+) -> Result<(), SinkFault>
+    ensures { Writes E.Sink (tail_of (files_in (option_map asked_of request.entry)) ending.now)
+        err.old err.new result }
 {
     match ending {
-        Ending::Kernel(_, fault) => write_kernel_fault(err, fault),
-        Ending::Program(fault) => write_fault(err, fault),
-        Ending::Absent(number) => err.write(word_of(words, *number)),
-        Ending::ReadFault(number) => err.write(word_of(words, *number)),
-        Ending::TooLarge(number) => err.write(word_of(words, *number)),
+        Ending::Kernel(_, fault) => write_kernel_refusal(err, fault),
+        Ending::Program(_, fault) => write_program_refusal(err, fault),
+        Ending::Absent(number) => err.write(file_name(request, *number).as_bytes()),
+        Ending::ReadFault(number) => err.write(file_name(request, *number).as_bytes()),
+        Ending::TooLarge(number) => err.write(file_name(request, *number).as_bytes()),
         _ => err.write(b""),
     }
 }
 
 /// What stands behind the head of the line.
 #[tactic(auto, using(crate::proofs::Fronts::cut_first, crate::proofs::Fronts::cut_second, crate::proofs::Fronts::appends_both))]
-fn write_rest<E: Sink>(err: &mut E, words: &Words, ending: &Ending) -> Result<(), SinkFault>
-    ensures whole { OnOk result (Appends (E.written err.old) (tail_of words.now ending.now ++ 10 ∷ []) (E.written err.new)) }
-    ensures front { OnErr result (AppendsFront (E.written err.old) (tail_of words.now ending.now ++ 10 ∷ []) (E.written err.new)) }
-    ensures fault { OnErr result (Rose (E.faults err.old) (E.faults err.new)) }
-    ensures faults_never_fall { E.faults err.old ≤ E.faults err.new }
+fn write_rest<E: Sink>(
+    err: &mut E,
+    request: Option<Request<'_>>,
+    ending: &Ending,
+) -> Result<(), SinkFault>
+    ensures { Writes E.Sink
+        (tail_of (files_in (option_map asked_of request.entry)) ending.now ++ 10 ∷ [])
+        err.old err.new result }
 {
-    write_tail(err, words, ending)?;
+    write_tail(err, request, ending)?;
     err.write(b"\n")
 }
 
 #[tactic(auto, using(crate::proofs::Fronts::cut_first, crate::proofs::Fronts::cut_second, crate::proofs::Fronts::appends_both))]
-fn write_line<E: Sink>(err: &mut E, words: &Words, ending: &Ending) -> Result<(), SinkFault>
-    ensures whole { OnOk result (Appends (E.written err.old) (line_of words.now ending.now) (E.written err.new)) }
-    ensures front { OnErr result (AppendsFront (E.written err.old) (line_of words.now ending.now) (E.written err.new)) }
-    ensures fault { OnErr result (Rose (E.faults err.old) (E.faults err.new)) }
-    ensures faults_never_fall { E.faults err.old ≤ E.faults err.new }
+fn write_line<E: Sink>(
+    err: &mut E,
+    request: Option<Request<'_>>,
+    ending: &Ending,
+) -> Result<(), SinkFault>
+    ensures { Writes E.Sink (line_of (files_in (option_map asked_of request.entry)) ending.now)
+        err.old err.new result }
 {
     err.write(head_of(ending))?;
-    write_rest(err, words, ending)
+    write_rest(err, request, ending)
 }
 
 /// Writes the line that tells of an ending, up to the first write that fails. Takes no memory.
-pub fn say<E: Sink>(err: &mut E, words: &Words, ending: &Ending)
-    ensures says { Says (E.written err.old) (E.faults err.old) (line_of words.now ending.now) (E.written err.new) (E.faults err.new) }
+pub fn say<E: Sink>(err: &mut E, request: Option<Request<'_>>, ending: &Ending)
+    ensures says { Says E.Sink (line_of (files_in (option_map asked_of request.entry)) ending.now)
+        err.old err.new }
 {
-    let _ = write_line(err, words, ending);
+    let _ = write_line(err, request, ending);
 }

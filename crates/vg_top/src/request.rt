@@ -1,30 +1,52 @@
 //! What the words of a command line ask for.
 
 ghost use Rattle.std.specs.Prelude.{◌≡◌, option_map, drop};
-ghost use Rattle.vg_top.specs.Request.{text_word, file_word, compile_words, run_words, eval_words, request_of, asked_of};
+ghost use Rattle.vg_top.specs.Line.{file_name};
+ghost use Rattle.vg_top.specs.Request.{text_word, file_word, compile_words, run_words, eval_words, request_of, files_of, asked_of};
 
 use crate::binding::are_bindings;
-use vg_outside::Words;
+use crate::ending::FileNumber;
+use vg_outside::{Bytes, Words};
 
-/// A request, with the names of its files.
-#[derive(Clone, Copy, Debug)]
+/// A request, with the names of its files in the order in which they are read.
+#[derive(Clone, Copy)]
 pub enum Request<'a> {
     /// The program text of a kernel.
     Compile {
         instructions: &'a str,
         kernel: &'a str,
     },
-    /// The memory that a program leaves. The words behind the three files bind its parameters.
+    /// The memory that a program leaves, its parameters bound by words.
     Run {
         instructions: &'a str,
         program: &'a str,
         memory: &'a str,
+        bindings: &'a [Bytes],
     },
-    /// The memory that a kernel leaves. The words behind the two files bind its parameters.
+    /// The memory that a kernel leaves, its parameters bound by words.
     Eval {
         kernel: &'a str,
         memory: &'a str,
+        bindings: &'a [Bytes],
     },
+}
+
+impl<'a> Request<'a> {
+    /// The name of the file of this number. The empty word where it has no such file.
+    pub fn file_name(&self, number: FileNumber) -> &'a str
+        ensures { result.now ≡ file_name (files_of (asked_of self.now)) number }
+    {
+        match (*self, number.0) {
+            (Request::Compile { instructions, .. }, 0..=1) => instructions,
+            (Request::Compile { kernel, .. }, 2) => kernel,
+            (Request::Run { instructions, .. }, 0..=1) => instructions,
+            (Request::Run { program, .. }, 2) => program,
+            (Request::Run { memory, .. }, 3) => memory,
+            (Request::Eval { kernel, .. }, 0..=1) => kernel,
+            (Request::Eval { memory, .. }, 2) => memory,
+            _ => "",
+        }
+    }
 }
 
 fn text_word(word: &[u8]) -> Option<&str>
@@ -48,7 +70,7 @@ fn file_word(word: &[u8]) -> Option<&str>
 
 /// What the words ask for. None where they are no request. Takes no memory.
 pub fn request_of(words: &Words) -> Option<Request<'_>>
-    ensures { option_map (asked_of words.now) result ≡ request_of words.now }
+    ensures { option_map asked_of result ≡ request_of words.now }
 {
     if words.len() == 0 {
         return None;
@@ -67,7 +89,7 @@ pub fn request_of(words: &Words) -> Option<Request<'_>>
 }
 
 fn compile_words(words: &Words) -> Option<Request<'_>>
-    ensures { option_map (asked_of words.now) result ≡ compile_words (drop 1 words.now) }
+    ensures { option_map asked_of result ≡ compile_words (drop 1 words.now) }
 {
     if words.len() != 3 {
         return None;
@@ -81,12 +103,13 @@ fn compile_words(words: &Words) -> Option<Request<'_>>
 }
 
 fn run_words(words: &Words) -> Option<Request<'_>>
-    ensures { option_map (asked_of words.now) result ≡ run_words (drop 1 words.now) }
+    ensures { option_map asked_of result ≡ run_words (drop 1 words.now) }
 {
     if words.len() < 4 {
         return None;
     }
-    if !are_bindings(words, 4) {
+    let bindings = words.behind(4);
+    if !are_bindings(bindings) {
         return None;
     }
     let instructions = file_word(words.get(1))?;
@@ -96,19 +119,25 @@ fn run_words(words: &Words) -> Option<Request<'_>>
         instructions,
         program,
         memory,
+        bindings,
     })
 }
 
 fn eval_words(words: &Words) -> Option<Request<'_>>
-    ensures { option_map (asked_of words.now) result ≡ eval_words (drop 1 words.now) }
+    ensures { option_map asked_of result ≡ eval_words (drop 1 words.now) }
 {
     if words.len() < 3 {
         return None;
     }
-    if !are_bindings(words, 3) {
+    let bindings = words.behind(3);
+    if !are_bindings(bindings) {
         return None;
     }
     let kernel = file_word(words.get(1))?;
     let memory = file_word(words.get(2))?;
-    Some(Request::Eval { kernel, memory })
+    Some(Request::Eval {
+        kernel,
+        memory,
+        bindings,
+    })
 }

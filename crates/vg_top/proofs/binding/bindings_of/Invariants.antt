@@ -4,4 +4,4 @@ use Rattle.vg_top.specs.Binding.{bindings_in, binding_seen}
 use Rattle.vg_top.proofs.binding.bindings_of.Given as goal
 
 abbrev pub invariant-words : goal.invariant-words
-invariant-words l = map binding_seen l.all.items ++ bindings_in (drop l.i l.words) ≡ bindings_in (drop l.from l.words)
+invariant-words l = map binding_seen l.all.items ++ bindings_in (drop l.word-index l.words) ≡ bindings_in l.words

@@ -1,7 +1,6 @@
-use Rattle.std.proofs.Common.{refl}
 use Rattle.vg_kernel.specs.Statements.{kernel_of}
 use Rattle.vg_kernel.specs.Tree.{tree_of}
-use Rattle.vg_top.specs.Compile.{second_file}
+use Rattle.vg_top.specs.Files.{second_file}
 use Rattle.vg_top.specs.KernelFile.{kernel_or_refusal}
 use Rattle.vg_top.proofs.Answers.{answer_of, answered}
 use Rattle.vg_top.proofs.compile.program_text.Goals as goal
@@ -11,9 +10,6 @@ returns-in-Ok-print_program c =
     let bytes = c.in-Ok-print_program.bytes in
     let answer = answer_of (tree_of c.in-Ok.kernel) c.in-Ok-program_of.program bytes.items c.in-Ok.ensures.well_formed c.in-Ok-program_of.ensures.program c.in-Ok-print_program.ensures in
     record {
-      work = tt;
       told = answered (kernel_or_refusal second_file (kernel_of c.args.text.now)) c.in-Ok.kernel bytes c.in-Ok.ensures.told answer;
-      read = refl;
-      absence = λ count. refl;
-      fault = λ count. refl;
+      refusal = tt;
     }

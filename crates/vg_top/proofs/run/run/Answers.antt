@@ -1,64 +1,42 @@
-use Rattle.std.proofs.Common.{◌∙◌, subst, sym, ℕ, arith}
+use Rattle.std.proofs.Common.{arith, refl}
 use Rattle.std.proofs.lemmas.Result.{err_from_is_err_and}
-use Rattle.vg_top.specs.Files.{CountsFault}
-use Rattle.vg_top.proofs.ReadCounts.{one_read, one_more}
+use Rattle.vg_top.specs.Files.{first_file, second_file, third_file}
+use Rattle.vg_top.proofs.Works.{begins, reads_on, stops_at, stops_program, run_last}
 use Rattle.vg_top.proofs.run.run.Goals as goal
 
-pub returns-in_err-program-clause-fault : goal.returns-in_err-program-clause-fault
-returns-in_err-program-clause-fault g c =
-    let faults = g.S.Shelf.faults in
-    let kept = c.in_ok-text.ensures.fault ∙ c.in_ok-file.ensures.fault in
-    let result = c.from_residual-in_err-program.result in
-    let same = err_from_is_err_and result c.from_residual-in_err-program.ensures.1 in
-    subst (λ (n : ℕ). CountsFault (faults c.args.shelf.now) n result) (sym kept) (rw (same.1, same.2) (c.in_err-program.ensures.fault (faults c.args.shelf.now)))
+pub returns-in_err-file-clause-shelf : goal.returns-in_err-file-clause-shelf
+returns-in_err-file-clause-shelf g c =
+    let s = g.S.Shelf in
+    let same = err_from_is_err_and c.from_residual.result c.from_residual.ensures.1 in
+    rw (same.1, same.2) (stops_at s _ 0 first_file _ _ _ _ refl (omega arith) (omega arith) (begins s c.args.shelf.now) c.in_err-file.ensures.shelf)
 
-pub returns-clause-fault : goal.returns-clause-fault
-returns-clause-fault g c =
-    let faults = g.S.Shelf.faults in
-    let kept = c.in_ok-memory.ensures.fault ∙ c.in_ok-text.ensures.fault ∙ c.in_ok-file.ensures.fault in
-    subst (λ (n : ℕ). CountsFault (faults c.args.shelf.now) n c.run_on.result) (sym kept) (c.run_on.ensures.fault (faults c.args.shelf.now))
+pub returns-in_err-text-clause-shelf : goal.returns-in_err-text-clause-shelf
+returns-in_err-text-clause-shelf g c =
+    let s = g.S.Shelf in
+    let same = err_from_is_err_and c.from_residual-in_err-text.result c.from_residual-in_err-text.ensures.1 in
+    let one = reads_on s 0 first_file _ _ _ (omega arith) (begins s c.args.shelf.now) c.in_ok-file.ensures.shelf in
+    rw (same.1, same.2) (stops_at s _ 1 second_file _ _ _ _ refl (omega arith) (omega arith) one c.in_err-text.ensures.shelf)
 
--- the reads up to an exit
-pub returns-in_err-file-clause-read : goal.returns-in_err-file-clause-read
-returns-in_err-file-clause-read g c =
-    let reads = g.S.Shelf.reads in
-    let result = c.from_residual.result in
-    let same = err_from_is_err_and result c.from_residual.ensures.1 in
-    let one = one_read (reads c.args.shelf.now) (reads c.fetch.new.shelf) c.fetch.ensures.counted in
-    rw (same.1, same.2) (1, c.in_err-file.ensures.numbered 3 (omega arith) (omega arith), one)
+pub returns-in_err-program-clause-shelf : goal.returns-in_err-program-clause-shelf
+returns-in_err-program-clause-shelf g c =
+    let s = g.S.Shelf in
+    let same = err_from_is_err_and c.from_residual-in_err-program.result c.from_residual-in_err-program.ensures.1 in
+    let one = reads_on s 0 first_file _ _ _ (omega arith) (begins s c.args.shelf.now) c.in_ok-file.ensures.shelf in
+    let two = reads_on s 1 second_file _ _ _ (omega arith) one c.in_ok-text.ensures.shelf in
+    rw (same.1, same.2) (stops_program s _ second_file _ _ _ (omega arith) (omega arith) refl two c.in_err-program.ensures.refusal)
 
-pub returns-in_err-text-clause-read : goal.returns-in_err-text-clause-read
-returns-in_err-text-clause-read g c =
-    let reads = g.S.Shelf.reads in
-    let result = c.from_residual-in_err-text.result in
-    let same = err_from_is_err_and result c.from_residual-in_err-text.ensures.1 in
-    let one = one_read (reads c.args.shelf.now) (reads c.fetch.new.shelf) c.fetch.ensures.counted in
-    let two = one_more 1 (reads c.args.shelf.now) (reads c.fetch.new.shelf) (reads c.fetch-2.new.shelf) (omega arith) one c.fetch-2.ensures.counted in
-    rw (same.1, same.2) (2, c.in_err-text.ensures.numbered 3 (omega arith) (omega arith), two)
+pub returns-in_err-memory-clause-shelf : goal.returns-in_err-memory-clause-shelf
+returns-in_err-memory-clause-shelf g c =
+    let s = g.S.Shelf in
+    let same = err_from_is_err_and c.from_residual-in_err-memory.result c.from_residual-in_err-memory.ensures.1 in
+    let one = reads_on s 0 first_file _ _ _ (omega arith) (begins s c.args.shelf.now) c.in_ok-file.ensures.shelf in
+    let two = reads_on s 1 second_file _ _ _ (omega arith) one c.in_ok-text.ensures.shelf in
+    rw (same.1, same.2) (stops_at s _ 2 third_file _ _ _ _ refl (omega arith) (omega arith) two c.in_err-memory.ensures.shelf)
 
-pub returns-in_err-program-clause-read : goal.returns-in_err-program-clause-read
-returns-in_err-program-clause-read g c =
-    let reads = g.S.Shelf.reads in
-    let result = c.from_residual-in_err-program.result in
-    let same = err_from_is_err_and result c.from_residual-in_err-program.ensures.1 in
-    let one = one_read (reads c.args.shelf.now) (reads c.fetch.new.shelf) c.fetch.ensures.counted in
-    let two = one_more 1 (reads c.args.shelf.now) (reads c.fetch.new.shelf) (reads c.fetch-2.new.shelf) (omega arith) one c.fetch-2.ensures.counted in
-    rw (same.1, same.2) (2, c.in_err-program.ensures.read, two)
-
-pub returns-in_err-memory-clause-read : goal.returns-in_err-memory-clause-read
-returns-in_err-memory-clause-read g c =
-    let reads = g.S.Shelf.reads in
-    let result = c.from_residual-in_err-memory.result in
-    let same = err_from_is_err_and result c.from_residual-in_err-memory.ensures.1 in
-    let one = one_read (reads c.args.shelf.now) (reads c.fetch.new.shelf) c.fetch.ensures.counted in
-    let two = one_more 1 (reads c.args.shelf.now) (reads c.fetch.new.shelf) (reads c.fetch-2.new.shelf) (omega arith) one c.fetch-2.ensures.counted in
-    let three = one_more 2 (reads c.args.shelf.now) (reads c.fetch-2.new.shelf) (reads c.fetch-3.new.shelf) (omega arith) two c.fetch-3.ensures.counted in
-    rw (same.1, same.2) (3, c.in_err-memory.ensures.numbered 3 (omega arith) (omega arith), three)
-
-pub returns-clause-read : goal.returns-clause-read
-returns-clause-read g c =
-    let reads = g.S.Shelf.reads in
-    let one = one_read (reads c.args.shelf.now) (reads c.fetch.new.shelf) c.fetch.ensures.counted in
-    let two = one_more 1 (reads c.args.shelf.now) (reads c.fetch.new.shelf) (reads c.fetch-2.new.shelf) (omega arith) one c.fetch-2.ensures.counted in
-    let three = one_more 2 (reads c.args.shelf.now) (reads c.fetch-2.new.shelf) (reads c.fetch-3.new.shelf) (omega arith) two c.fetch-3.ensures.counted in
-    (3, c.run_on.ensures.read, three)
+pub returns-clause-shelf : goal.returns-clause-shelf
+returns-clause-shelf g c =
+    let s = g.S.Shelf in
+    let one = reads_on s 0 first_file _ _ _ (omega arith) (begins s c.args.shelf.now) c.in_ok-file.ensures.shelf in
+    let two = reads_on s 1 second_file _ _ _ (omega arith) one c.in_ok-text.ensures.shelf in
+    let three = reads_on s 2 third_file _ _ _ (omega arith) two c.in_ok-memory.ensures.shelf in
+    run_last s _ _ _ _ refl three c.run_on.ensures.refusal

@@ -1,80 +1,105 @@
-use Rattle.std.proofs.Common.{◌≢◌, refl, sym, subst, Option, Some, None, ℕ, List, Result, Ok, Err}
-use Rattle.std.specs.Prelude.{IsOk, Vec}
-use Rattle.std.specs.declared.alloc.Global.{Global}
-use Rattle.std.specs.Option.{IfSome}
+use Rattle.std.proofs.Common.{◌≡◌, ◌≢◌, ◌∙◌, sym, subst, ap, length, Option, Some, None}
+use Rattle.std.specs.Option.{IfSome, option_map}
 use Rattle.vg_outside.specs.Shelf.{Held}
 use Rattle.vg_top.specs.declared.ending.Ending.{Ending}
-use Rattle.vg_top.specs.declared.ending.Ending.TheVariants.{Usage, Instructions, Kernel, Program, Absent, ReadFault, TooLarge, Bindings, Trap, WriteFault, Memory}
+use Rattle.vg_top.specs.declared.ending.Ending.TheVariants.{WriteFault}
 use Rattle.vg_top.specs.declared.status.Status.{Status}
+use Rattle.vg_top.specs.declared.status.Status.TheVariants as status
+use Rattle.vg_top.specs.Causes.{MayEnd}
 use Rattle.vg_top.specs.Ending.{status_of}
-use Rattle.vg_top.specs.Files.{Tells}
-use Rattle.vg_top.specs.Request.{request_of}
-use Rattle.vg_top.specs.Reads.{Reads, files_of}
-use Rattle.vg_top.specs.Verdict.{Outcome, verdict, VecAnswers, Ends, EndedBy}
+use Rattle.vg_top.specs.Line.{Says, line_of}
+use Rattle.vg_top.specs.Request.{Asked, asked_of, files_in, request_of}
+use Rattle.vg_top.specs.Works.{Reads}
+use Rattle.vg_top.specs.Verdict.{asked_outcome, status_told, EndedBy}
+use Rattle.vg_top.proofs.Endings.{usage_from, written_may, unwritten_may, stopped_may, status_from_verdict, not_rose, not_read_fault, not_write_fault}
 use Rattle.vg_top.proofs.top.vegen.Goals as goal
 use Rattle.vg_top.proofs.top.vegen.Goals.{in-Ok+in-Err-write, in-Err}
 
--- a failed write is told by a count, and not by the verdict
-write_fault : (holds : Option Held) (words : List (List ℕ)) → IfSome holds (λ held. EndedBy (Some WriteFault) (verdict held words))
-write_fault None words = tt
-write_fault (Some held) words = tt
+-- the answer was written
+pub returns-in-Ok-write-clause-causes : goal.returns-in-Ok-write-clause-causes
+returns-in-Ok-write-clause-causes g c =
+    subst (λ (a : Option Asked). MayEnd a status.Ok) c.request_of-request.ensures
+    (written_may (option_map asked_of c.request_of-request.result) c.in-Ok.ensures.shelf.may_end)
 
-pub returns-clause-said : goal.returns-clause-said
-returns-clause-said g c =
-    let holds = g.S.Shelf.holds c.args.shelf.now in
-    let tells = λ (e : Ending). IfSome holds (λ held. EndedBy (Some e) (verdict held c.args.words.now)) in
-    let reads = g.S.Shelf.reads in
-    let read = λ (e : Ending). Reads (files_of (request_of c.args.words.now)) (reads c.args.shelf.now) (reads c.answer.new.shelf) (Some e) in (
-      Some c.match-answer.ending,
-      sym c.status.ensures,
-      c.say.ensures.says,
-      elim c.match-answer.branch [
-        | in-Ok+in-Err-write w ↦ subst (λ (e : Ending). tells e) (sym w.ending-is) (write_fault holds c.args.words.now)
-        | in-Err w ↦ subst (λ (e : Ending). tells e) (sym w.ending-is) w.in-Err.ensures.told
-      ],
-      elim c.match-answer.branch [
-        | in-Ok+in-Err-write w ↦ subst (λ (e : Ending). read e) (sym w.ending-is) w.in-Ok.ensures.read
-        | in-Err w ↦ subst (λ (e : Ending). read e) (sym w.ending-is) w.in-Err.ensures.read
-      ],
-    )
+pub returns-in-Ok-write-clause-usage : goal.returns-in-Ok-write-clause-usage
+returns-in-Ok-write-clause-usage g c =
+    subst (λ (a : Option Asked). (status.Ok ≡ status.Usage → a ≡ None) × (a ≡ None → status.Ok ≡ status.Usage)) c.request_of-request.ensures
+    (usage_from (option_map asked_of c.request_of-request.result) status.Ok (written_may (option_map asked_of c.request_of-request.result) c.in-Ok.ensures.shelf.may_end))
 
--- a refusal of the answer
-abbrev refused : Ending → Result (Vec ℕ Global) Ending
-refused e = Err e
+-- the ending of the code, which may be that the answer was not written
+pub returns-clause-causes : goal.returns-clause-causes
+returns-clause-causes g c =
+    let asked = option_map asked_of c.request_of-request.result in
+    let may : MayEnd asked (status_of c.match-answer.ending) = elim c.match-answer.branch [
+      | in-Ok+in-Err-write w ↦ subst (λ (e : Ending). MayEnd asked (status_of e)) (sym w.ending-is) (unwritten_may asked w.in-Ok.ensures.shelf.may_end)
+      | in-Err w ↦ subst (λ (e : Ending). MayEnd asked (status_of e)) (sym w.ending-is) (stopped_may asked w.in-Err.ending w.in-Err.ensures.shelf.may_end)
+    ] in
+    subst (λ (s : Status). MayEnd (request_of c.args.words.now) s) (sym c.status.ensures) (subst (λ (a : Option Asked). MayEnd a (status_of c.match-answer.ending)) c.request_of-request.ensures may)
 
--- a refusal ends as the verdict says
-refused_ends : (e : Ending) (v : Result Outcome Ending) → (refused e ≢ refused WriteFault) → Tells VecAnswers (Err e) v → Ends (status_of e) v
-refused_ends (Usage) v other told = (Usage, told, refl)
-refused_ends (Instructions) v other told = (Instructions, told, refl)
-refused_ends (Kernel n f) v other told = (Kernel n f, told, refl)
-refused_ends (Program f) v other told = (Program f, told, refl)
-refused_ends (Absent n) v other told = (Absent n, told, refl)
-refused_ends (ReadFault n) v other told = tt
-refused_ends (TooLarge n) v other told = (TooLarge n, told, refl)
-refused_ends (Bindings) v other told = (Bindings, told, refl)
-refused_ends (Trap) v other told = (Trap, told, refl)
-refused_ends (WriteFault) v other told = absurd (other refl)
-refused_ends (Memory) v other told = tt
+pub returns-clause-usage : goal.returns-clause-usage
+returns-clause-usage g c = usage_from (request_of c.args.words.now) c.status.result (returns-clause-causes g c)
 
-refused_held : (holds : Option Held) (words : List (List ℕ)) (e : Ending) → (refused e ≢ refused WriteFault) → IfSome holds (λ held. Tells VecAnswers (Err e) (verdict held words)) → IfSome holds (λ held. Ends (status_of e) (verdict held words))
-refused_held None words e other told = tt
-refused_held (Some held) words e other told = refused_ends e (verdict held words) other told
+-- the ending against the verdict
+abbrev ended : Option Held → Option Asked → Ending → Type 0
+ended holds a e = IfSome holds (λ held. EndedBy (Some e) (asked_outcome held a))
 
-answered_is : (v : Result Outcome Ending) (bytes : Vec ℕ Global) → Tells VecAnswers (Ok bytes) v → IsOk v
-answered_is (Ok outcome) bytes told = refl
-answered_is (Err e) bytes told = absurd told
+unwritten_ended : (holds : Option Held) (a : Option Asked) → ended holds a WriteFault
+unwritten_ended None a = tt
+unwritten_ended (Some held) a = tt
 
-unwritten_held : (holds : Option Held) (words : List (List ℕ)) (bytes : Vec ℕ Global) → IfSome holds (λ held. Tells VecAnswers (Ok bytes) (verdict held words)) → IfSome holds (λ held. Ends (status_of WriteFault) (verdict held words))
-unwritten_held None words bytes told = tt
-unwritten_held (Some held) words bytes told = answered_is (verdict held words) bytes told
+-- where it is not one of the outside, the status is the verdict's
+told_by : (holds : Option Held) (a : Option Asked) (e : Ending) → ended holds a e → status_of e ≢ status.NoMemory → status_of e ≢ status.ReadFault → status_of e ≢ status.WriteFault
+    → IfSome holds (λ held. status_of e ≡ status_told (asked_outcome held a))
+told_by None a e told memory read write = tt
+told_by (Some held) a e told memory read write = status_from_verdict e (asked_outcome held a) told memory read write
 
 pub returns-clause-told : goal.returns-clause-told
 returns-clause-told g c =
     let holds = g.S.Shelf.holds c.args.shelf.now in
-    let words = c.args.words.now in
-    let ends = λ (s : Status). IfSome holds (λ held. Ends s (verdict held words)) in
-    subst ends (sym c.status.ensures)
-    (elim c.match-answer.branch [
-      | in-Ok+in-Err-write w ↦ subst (λ (e : Ending). ends (status_of e)) (sym w.ending-is) (unwritten_held holds words w.in-Ok.bytes w.in-Ok.ensures.told)
-      | in-Err w ↦ subst (λ (e : Ending). ends (status_of e)) (sym w.ending-is) (refused_held holds words w.in-Err.ending w.in-Err.ensures.unwritten w.in-Err.ensures.told)
-    ])
+    let asked = option_map asked_of c.request_of-request.result in
+    let ending = c.match-answer.ending in
+    let told : ended holds asked ending = elim c.match-answer.branch [
+      | in-Ok+in-Err-write w ↦ subst (λ (e : Ending). ended holds asked e) (sym w.ending-is) (unwritten_ended holds asked)
+      | in-Err w ↦ subst (λ (e : Ending). ended holds asked e) (sym w.ending-is) w.in-Err.ensures.told
+    ] in
+    subst (λ (s : Status). s ≢ status.NoMemory → s ≢ status.ReadFault → s ≢ status.WriteFault → IfSome holds (λ held. s ≡ status_told (asked_outcome held (request_of c.args.words.now)))) (sym c.status.ensures)
+    (told_by holds (request_of c.args.words.now) ending (subst (λ (a : Option Asked). ended holds a ending) c.request_of-request.ensures told))
+
+-- counts that stayed tell that nothing went wrong outside
+pub returns-clause-complete : goal.returns-clause-complete
+returns-clause-complete g c = λ shelf_same shelf_below out_same out_below memory.
+    let asked = option_map asked_of c.request_of-request.result in
+    let faults = g.O.Sink.faults in
+    let read : status_of c.match-answer.ending ≢ status.ReadFault = elim c.match-answer.branch [
+      | in-Ok+in-Err-write w ↦ subst (λ (e : Ending). status_of e ≢ status.ReadFault) (sym w.ending-is) (λ is. absurd (cc))
+      | in-Err w ↦ subst (λ (e : Ending). status_of e ≢ status.ReadFault) (sym w.ending-is) (not_read_fault w.in-Err.ending _ _ w.in-Err.ensures.shelf.fault shelf_same shelf_below)
+    ] in
+    let write : status_of c.match-answer.ending ≢ status.WriteFault = elim c.match-answer.branch [
+      | in-Ok+in-Err-write w ↦ λ _. not_rose _ _ w.in-Err-write.ensures.fault (ap faults (sym w.out-is) ∙ out_same) out_below
+      | in-Err w ↦ subst (λ (e : Ending). status_of e ≢ status.WriteFault) (sym w.ending-is) (not_write_fault asked w.in-Err.ending w.in-Err.ensures.shelf.may_end)
+    ] in
+    returns-clause-told g c memory
+    (subst (λ (s : Status). s ≢ status.ReadFault) (sym c.status.ensures) read)
+    (subst (λ (s : Status). s ≢ status.WriteFault) (sym c.status.ensures) write)
+
+pub returns-clause-said : goal.returns-clause-said
+returns-clause-said g c =
+    let holds = g.S.Shelf.holds c.args.shelf.now in
+    let reads = g.S.Shelf.reads in
+    let asked = option_map asked_of c.request_of-request.result in
+    let ending = c.match-answer.ending in
+    let told : ended holds asked ending = elim c.match-answer.branch [
+      | in-Ok+in-Err-write w ↦ subst (λ (e : Ending). ended holds asked e) (sym w.ending-is) (unwritten_ended holds asked)
+      | in-Err w ↦ subst (λ (e : Ending). ended holds asked e) (sym w.ending-is) w.in-Err.ensures.told
+    ] in
+    let read : Reads (length (files_in asked)) (reads c.args.shelf.now) (reads c.answer.new.shelf) (Some ending) = elim c.match-answer.branch [
+      | in-Ok+in-Err-write w ↦ subst (λ (e : Ending). Reads (length (files_in asked)) (reads c.args.shelf.now) (reads c.answer.new.shelf) (Some e)) (sym w.ending-is) w.in-Ok.ensures.shelf.read
+      | in-Err w ↦ subst (λ (e : Ending). Reads (length (files_in asked)) (reads c.args.shelf.now) (reads c.answer.new.shelf) (Some e)) (sym w.ending-is) w.in-Err.ensures.shelf.read
+    ] in
+    let same = c.request_of-request.ensures in (
+      Some ending,
+      sym c.status.ensures,
+      subst (λ (a : Option Asked). Says g.E.Sink (line_of (files_in a) ending) c.args.err.now c.say.new.err) same c.say.ensures.says,
+      subst (λ (a : Option Asked). ended holds a ending) same told,
+      subst (λ (a : Option Asked). Reads (length (files_in a)) (reads c.args.shelf.now) (reads c.answer.new.shelf) (Some ending)) same read,
+    )

@@ -1,0 +1,97 @@
+-- Endings, statuses and the verdict.
+use Rattle.std.proofs.Common.{◌≡◌, ◌≢◌, ℕ, ◌-◌, ◌<◌, ◌^◌, Option, Some, None, Result, refl, sym, ◌∙◌, ap, arith}
+use Rattle.vg_outside.specs.Count.{Rose}
+use Rattle.vg_top.specs.declared.ending.Ending.{Ending}
+use Rattle.vg_top.specs.declared.ending.Ending.TheVariants.{Usage, Instructions, Kernel, Program, Absent, ReadFault, TooLarge, Bindings, Trap, WriteFault, Memory}
+use Rattle.vg_top.specs.declared.status.Status.{Status}
+use Rattle.vg_top.specs.declared.status.Status.TheVariants as status
+use Rattle.vg_top.specs.Causes.{MayEnd, MayStop}
+use Rattle.vg_top.specs.Ending.{status_of}
+use Rattle.vg_top.specs.Request.{Asked}
+use Rattle.vg_top.specs.Verdict.{Outcome, EndedBy, status_told}
+use Rattle.vg_top.specs.Works.{CountsFault}
+
+-- words that are no request have one status, and no request has it
+pub usage_from : (a : Option Asked) (s : Status) → MayEnd a s → (s ≡ status.Usage → a ≡ None) × (a ≡ None → s ≡ status.Usage)
+usage_from None s may = (λ _. refl, λ _. may)
+usage_from (Some x) status.Ok may = (λ e. absurd (cc), λ e. absurd (cc))
+usage_from (Some x) status.Usage may = absurd may
+usage_from (Some x) status.InstructionsRefused may = (λ e. absurd (cc), λ e. absurd (cc))
+usage_from (Some x) status.KernelRefused may = (λ e. absurd (cc), λ e. absurd (cc))
+usage_from (Some x) status.ProgramRefused may = (λ e. absurd (cc), λ e. absurd (cc))
+usage_from (Some x) status.InputAbsent may = (λ e. absurd (cc), λ e. absurd (cc))
+usage_from (Some x) status.ReadFault may = (λ e. absurd (cc), λ e. absurd (cc))
+usage_from (Some x) status.WriteFault may = (λ e. absurd (cc), λ e. absurd (cc))
+usage_from (Some x) status.BindingsRefused may = (λ e. absurd (cc), λ e. absurd (cc))
+usage_from (Some x) status.Trap may = (λ e. absurd (cc), λ e. absurd (cc))
+usage_from (Some x) status.TooLarge may = (λ e. absurd (cc), λ e. absurd (cc))
+usage_from (Some x) status.NoMemory may = (λ e. absurd (cc), λ e. absurd (cc))
+
+-- an answer that was written, and one that was not
+pub written_may : (a : Option Asked) → MayStop a None → MayEnd a status.Ok
+written_may None may = absurd (cc)
+written_may (Some x) may = tt
+
+pub unwritten_may : (a : Option Asked) → MayStop a None → MayEnd a (status_of WriteFault)
+unwritten_may None may = absurd (cc)
+unwritten_may (Some x) may = tt
+
+-- an ending of the work is one of the whole
+pub stopped_may : (a : Option Asked) (e : Ending) → MayStop a (Some e) → MayEnd a (status_of e)
+stopped_may None e may = let k : e ≡ Usage = cc in ap status_of k
+stopped_may (Some x) Usage may = may
+stopped_may (Some x) (Instructions n) may = may
+stopped_may (Some x) (Kernel n f) may = may
+stopped_may (Some x) (Program n f) may = may
+stopped_may (Some x) (Absent n) may = may
+stopped_may (Some x) (ReadFault n) may = may
+stopped_may (Some x) (TooLarge n) may = may
+stopped_may (Some x) Bindings may = may
+stopped_may (Some x) Trap may = may
+stopped_may (Some x) WriteFault may = absurd may
+stopped_may (Some x) Memory may = may
+
+-- the status of the ending that the verdict names
+pub status_from_verdict : (e : Ending) (v : Result Outcome Ending) → EndedBy (Some e) v → status_of e ≢ status.NoMemory → status_of e ≢ status.ReadFault → status_of e ≢ status.WriteFault → status_of e ≡ status_told v
+status_from_verdict Usage v told memory read write = sym (ap status_told told)
+status_from_verdict (Instructions n) v told memory read write = sym (ap status_told told)
+status_from_verdict (Kernel n f) v told memory read write = sym (ap status_told told)
+status_from_verdict (Program n f) v told memory read write = sym (ap status_told told)
+status_from_verdict (Absent n) v told memory read write = sym (ap status_told told)
+status_from_verdict (ReadFault n) v told memory read write = absurd (read refl)
+status_from_verdict (TooLarge n) v told memory read write = sym (ap status_told told)
+status_from_verdict Bindings v told memory read write = sym (ap status_told told)
+status_from_verdict Trap v told memory read write = sym (ap status_told told)
+status_from_verdict WriteFault v told memory read write = absurd (write refl)
+status_from_verdict Memory v told memory read write = absurd (memory refl)
+
+-- a count that stayed did not rise, below its last value
+pub not_rose : (before now : ℕ) → Rose before now → now ≡ before → before < 2 ^ 64 - 1 → ⊥
+not_rose before now rose same below = omega arith
+
+pub not_read_fault : (e : Ending) (before now : ℕ) → CountsFault before now (Some e) → now ≡ before → before < 2 ^ 64 - 1 → status_of e ≢ status.ReadFault
+not_read_fault Usage before now counts same below = λ is. absurd (cc)
+not_read_fault (Instructions n) before now counts same below = λ is. absurd (cc)
+not_read_fault (Kernel n f) before now counts same below = λ is. absurd (cc)
+not_read_fault (Program n f) before now counts same below = λ is. absurd (cc)
+not_read_fault (Absent n) before now counts same below = λ is. absurd (cc)
+not_read_fault (ReadFault n) before now counts same below = λ is. not_rose before now counts same below
+not_read_fault (TooLarge n) before now counts same below = λ is. absurd (cc)
+not_read_fault Bindings before now counts same below = λ is. absurd (cc)
+not_read_fault Trap before now counts same below = λ is. absurd (cc)
+not_read_fault WriteFault before now counts same below = λ is. absurd (cc)
+not_read_fault Memory before now counts same below = λ is. absurd (cc)
+
+pub not_write_fault : (a : Option Asked) (e : Ending) → MayStop a (Some e) → status_of e ≢ status.WriteFault
+not_write_fault None e may = λ is. let k : e ≡ Usage = cc in let same : status.Usage ≡ status.WriteFault = sym (ap status_of k) ∙ is in absurd (cc)
+not_write_fault (Some x) Usage may = λ is. absurd (cc)
+not_write_fault (Some x) (Instructions n) may = λ is. absurd (cc)
+not_write_fault (Some x) (Kernel n f) may = λ is. absurd (cc)
+not_write_fault (Some x) (Program n f) may = λ is. absurd (cc)
+not_write_fault (Some x) (Absent n) may = λ is. absurd (cc)
+not_write_fault (Some x) (ReadFault n) may = λ is. absurd (cc)
+not_write_fault (Some x) (TooLarge n) may = λ is. absurd (cc)
+not_write_fault (Some x) Bindings may = λ is. absurd (cc)
+not_write_fault (Some x) Trap may = λ is. absurd (cc)
+not_write_fault (Some x) WriteFault may = λ is. may
+not_write_fault (Some x) Memory may = λ is. absurd (cc)

@@ -1,0 +1,53 @@
+-- Which commands may end how. It is a fact on the words alone, whatever the files hold.
+use Rattle.std.specs.Prelude.{◌≡◌, Bool, true, false, Option, Some, None}
+use Rattle.vg_top.specs.declared.ending.Ending.{Ending}
+use Rattle.vg_top.specs.declared.ending.Ending.TheVariants.{Usage, WriteFault}
+use Rattle.vg_top.specs.declared.status.Status.{Status}
+use Rattle.vg_top.specs.declared.status.Status.TheVariants as status
+use Rattle.vg_top.specs.Ending.{status_of}
+use Rattle.vg_top.specs.Request.{Asked, compile, run, eval}
+
+-- the commands that read a file of instructions
+abbrev pub reads_instructions : Asked → Bool
+reads_instructions (compile instructions kernel) = true
+reads_instructions (run instructions program memory bindings) = true
+reads_instructions (eval kernel memory bindings) = false
+
+-- the commands that read a kernel
+abbrev pub reads_kernel : Asked → Bool
+reads_kernel (compile instructions kernel) = true
+reads_kernel (run instructions program memory bindings) = false
+reads_kernel (eval kernel memory bindings) = true
+
+-- the commands that read a program
+abbrev pub reads_program : Asked → Bool
+reads_program (compile instructions kernel) = false
+reads_program (run instructions program memory bindings) = true
+reads_program (eval kernel memory bindings) = false
+
+-- the commands that bind parameters and run something on a memory
+abbrev pub runs : Asked → Bool
+runs (compile instructions kernel) = false
+runs (run instructions program memory bindings) = true
+runs (eval kernel memory bindings) = true
+
+-- A request may end so: its instructions, its kernel, its program are refused only where it reads
+-- them, and bindings are refused and runs trap only where it runs something. Words that are no
+-- request have one ending.
+abbrev pub MayEnd : Option Asked → Status → Type 0
+MayEnd None s = s ≡ status.Usage
+MayEnd (Some asked) status.Usage = ⊥
+MayEnd (Some asked) status.InstructionsRefused = reads_instructions asked ≡ true
+MayEnd (Some asked) status.KernelRefused = reads_kernel asked ≡ true
+MayEnd (Some asked) status.ProgramRefused = reads_program asked ≡ true
+MayEnd (Some asked) status.BindingsRefused = runs asked ≡ true
+MayEnd (Some asked) status.Trap = runs asked ≡ true
+MayEnd (Some asked) s = Unit {0}
+
+-- The work on what was asked for may end so: with an answer, or with an ending that its command may
+-- have. Nothing is written in it.
+abbrev pub MayStop : Option Asked → Option Ending → Type 0
+MayStop None ending = ending ≡ Some Usage
+MayStop (Some asked) None = Unit {0}
+MayStop (Some asked) (Some WriteFault) = ⊥
+MayStop (Some asked) (Some e) = MayEnd (Some asked) (status_of e)
