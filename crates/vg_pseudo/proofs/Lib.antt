@@ -1,0 +1,6 @@
+mod DefineLists
+mod ItemLists
+mod Joins
+mod Linking
+mod Tables
+mod Taking

@@ -1,8 +1,13 @@
 //! Expressions of operation texts.
 
+ghost use Rattle.std.specs.Prelude.{◌≡◌};
+ghost use Rattle.vg_pseudo.specs.Spots.{spot_of, with_outer};
+ghost use Rattle.vg_pseudo.specs.Tree.{expression_of};
+
 use crate::operators::{BinaryOp, UnaryOp};
 use crate::spot::Spot;
 use vg_base::{Name, Width};
+use vg_text::Place;
 
 /// An expression. Contracts see it as its tree. Parentheses are no part of it, but for its spot.
 #[cycle(expression)]
@@ -83,6 +88,44 @@ impl Drop for Arguments {
                     self = Box::into_inner(rest)
                 }
             }
+        }
+    }
+}
+
+impl Expr {
+    /// Where it stands.
+    pub fn spot(&self) -> Spot
+        ensures { result ≡ spot_of (expression_of self.now) }
+    {
+        match *self {
+            Expr::Number { spot, .. } => spot,
+            Expr::Name { spot, .. } => spot,
+            Expr::Slice { spot, .. } => spot,
+            Expr::Bit { spot, .. } => spot,
+            Expr::Element { spot, .. } => spot,
+            Expr::Part { spot, .. } => spot,
+            Expr::Unary { spot, .. } => spot,
+            Expr::Binary { spot, .. } => spot,
+            Expr::Choice { spot, .. } => spot,
+            Expr::Call { spot, .. } => spot,
+        }
+    }
+
+    /// The same in parentheses that begin at a place.
+    pub(crate) fn with_outer(self, place: Place) -> Expr
+        ensures { expression_of result ≡ with_outer place (expression_of self) }
+    {
+        match self {
+            Expr::Number { spot, value } => Expr::Number { spot: spot.around(place), value },
+            Expr::Name { spot, name } => Expr::Name { spot: spot.around(place), name },
+            Expr::Slice { spot, name, high, low } => Expr::Slice { spot: spot.around(place), name, high, low },
+            Expr::Bit { spot, name, index } => Expr::Bit { spot: spot.around(place), name, index },
+            Expr::Element { spot, name, size, index } => Expr::Element { spot: spot.around(place), name, size, index },
+            Expr::Part { spot, name, size } => Expr::Part { spot: spot.around(place), name, size },
+            Expr::Unary { spot, op, operand } => Expr::Unary { spot: spot.around(place), op, operand },
+            Expr::Binary { spot, op, left, right } => Expr::Binary { spot: spot.around(place), op, left, right },
+            Expr::Choice { spot, condition, first, second } => Expr::Choice { spot: spot.around(place), condition, first, second },
+            Expr::Call { spot, name, arguments } => Expr::Call { spot: spot.around(place), name, arguments },
         }
     }
 }

@@ -1,5 +1,9 @@
 //! Statements of operation texts.
 
+ghost use Rattle.std.specs.Prelude.{◌≡◌};
+ghost use Rattle.vg_pseudo.specs.Statements.{followed};
+ghost use Rattle.vg_pseudo.specs.Tree.{statements_of};
+
 use crate::expression::Expr;
 use vg_base::Name;
 use vg_text::Place;
@@ -134,6 +138,46 @@ impl Drop for Stmt {
                     drop(body);
                     self = Box::into_inner(arms)
                 }
+            }
+        }
+    }
+}
+
+impl Stmt {
+    /// One statement, way or arm, with these behind it in place of its own.
+    pub(crate) fn followed(self, next: Stmt) -> Stmt
+        ensures { statements_of result ≡ followed (statements_of self) (statements_of next) }
+    {
+        match self {
+            Stmt::End => Stmt::End,
+            Stmt::Assign { place, target, value, mut rest } => {
+                *rest = next;
+                Stmt::Assign { place, target, value, rest }
+            }
+            Stmt::AssignAbove { place, name, low, value, mut rest } => {
+                *rest = next;
+                Stmt::AssignAbove { place, name, low, value, rest }
+            }
+            Stmt::For { place, variable, first, last, body, mut rest } => {
+                *rest = next;
+                Stmt::For { place, variable, first, last, body, rest }
+            }
+            Stmt::If { ways, mut rest } => {
+                *rest = next;
+                Stmt::If { ways, rest }
+            }
+            Stmt::Way { condition, body, mut ways } => {
+                *ways = next;
+                Stmt::Way { condition, body, ways }
+            }
+            Stmt::Else { body } => Stmt::Else { body },
+            Stmt::Case { selector, arms, mut rest } => {
+                *rest = next;
+                Stmt::Case { selector, arms, rest }
+            }
+            Stmt::Arm { number, body, mut arms } => {
+                *arms = next;
+                Stmt::Arm { number, body, arms }
             }
         }
     }

@@ -1,0 +1,26 @@
+-- Refusals by their numbers, names and places.
+use Rattle.std.specs.Prelude.{ℕ, List, Option, Some, None, codes}
+use Rattle.vg_text.specs.declared.place.Place.{Place}
+use Rattle.vg_pseudo.specs.declared.fault.PseudoFault.{PseudoFault}
+use Rattle.vg_pseudo.specs.declared.fault.PseudoFault.TheVariants.{Token, Shape, NestingTooDeep, Memory}
+
+-- the number of a refusal; want of memory has none
+abbrev pub number_of_fault : PseudoFault → Option ℕ
+number_of_fault (Token p) = Some 1
+number_of_fault (Shape p) = Some 2
+number_of_fault (NestingTooDeep p) = Some 3
+number_of_fault (Memory e) = None
+
+-- the name of a refusal
+abbrev pub name_of_fault : PseudoFault → List ℕ
+name_of_fault (Token p) = codes "Token"
+name_of_fault (Shape p) = codes "Shape"
+name_of_fault (NestingTooDeep p) = codes "NestingTooDeep"
+name_of_fault (Memory e) = codes "Memory"
+
+-- the place of a refusal
+abbrev pub place_of_fault : PseudoFault → Option Place
+place_of_fault (Token p) = Some p
+place_of_fault (Shape p) = Some p
+place_of_fault (NestingTooDeep p) = Some p
+place_of_fault (Memory e) = None
