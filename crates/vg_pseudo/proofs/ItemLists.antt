@@ -1,5 +1,5 @@
 -- Lists of items, one step of reading them.
-use Rattle.std.proofs.Common.{◌≡◌, ℕ, zero, suc, ◌<◌, Bool, true, false, List, [], ◌∷◌, ◌++◌, Result, Ok, Err, refl, sym, ◌∙◌, subst, arith}
+use Rattle.std.proofs.Common.{◌≡◌, ℕ, zero, suc, ◌<◌, Bool, true, false, List, [], ◌∷◌, ◌++◌, Result, Ok, refl, sym, ◌∙◌, subst, arith}
 use Rattle.vg_base.specs.Bind.{◌>>=◌}
 use Rattle.vg_text.specs.Words.{Reading}
 use Rattle.vg_pseudo.specs.declared.fault.PseudoFault.{PseudoFault}

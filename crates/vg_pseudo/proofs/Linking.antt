@@ -1,5 +1,5 @@
 -- Arguments linked from the last to the first.
-use Rattle.std.proofs.Common.{◌≡◌, ◌<◌, ℕ, List, [], ◌∷◌, ◌++◌, ◌-◌, length, map, take, refl, sym, ◌∙◌, ap, arith}
+use Rattle.std.proofs.Common.{◌≡◌, ℕ, List, [], ◌∷◌, ◌++◌, ◌-◌, length, map, take, refl, ◌∙◌, ap, arith}
 use Rattle.std.proofs.lemmas.List.{map-append}
 use Rattle.vg_pseudo.specs.declared.parts.Part as code_part
 use Rattle.vg_pseudo.specs.declared.blocks.Block as code_block

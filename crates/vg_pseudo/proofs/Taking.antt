@@ -1,5 +1,5 @@
 -- What is taken leaves fewer words.
-use Rattle.std.proofs.Common.{◌≡◌, ℕ, suc, ◌-◌, ◌<◌, ◌≤◌, Bool, true, false, List, [], ◌∷◌, Result, Ok, Err, Option, Some, None, inl, inr, refl, sym, ◌∙◌, ap, subst, arith}
+use Rattle.std.proofs.Common.{◌≡◌, ℕ, ◌-◌, ◌<◌, Bool, true, false, List, [], ◌∷◌, Result, Ok, Err, inl, inr, refl, sym, ◌∙◌, ap, subst, arith}
 use Rattle.std.specs.Prelude.{codes}
 use Rattle.std.specs.Option.{option_map_or}
 use Rattle.std.specs.Str.{bytes_eq}
@@ -8,10 +8,9 @@ use Rattle.vg_text.specs.declared.place.Place.{Place}
 use Rattle.vg_text.specs.Token.{Lexemes, token, finish, fault}
 use Rattle.vg_text.specs.Number.{decimal_value}
 use Rattle.vg_text.specs.Words.{Reading, Spelled, word_at, word_from}
-use Rattle.vg_pseudo.specs.declared.fault.PseudoFault.{PseudoFault}
 use Rattle.vg_base.proofs.Bind.{bind_ok, either_way}
 use Rattle.vg_pseudo.specs.Reader.{words_in, unread, or_token, next_at, accept_at}
-use Rattle.vg_pseudo.specs.Words.{is_free, begins_statement, number_of}
+use Rattle.vg_pseudo.specs.Words.{begins_statement, number_of}
 use Rattle.vg_pseudo.specs.Statements.{statement_follows, arm_follows, else_if_follows}
 
 -- two texts that test as the same are the same

@@ -1,14 +1,13 @@
 -- Reading an expression from left to right, with the first fault that is met. An expression may have 64 nodes one below
 -- the other, parentheses counted. That it has more is met at the first word of the operand, or at the operator, that
 -- makes what was read so deep; the place of the fault is `whole`, where the whole expression begins.
-use Rattle.std.specs.Prelude.{ℕ, zero, suc, ◌+◌, max, Bool, true, false, List, [], ◌∷◌, length, Option, Some, None, Result, Ok, Err, nat_le, nat_lt, nat_eq, codes, if◌then◌else◌}
+use Rattle.std.specs.Prelude.{ℕ, zero, suc, ◌+◌, max, Bool, true, List, [], ◌∷◌, length, Option, Some, None, Result, Ok, Err, nat_le, nat_lt, nat_eq, codes, if◌then◌else◌}
 use Rattle.std.specs.Option.{option_map_or}
 use Rattle.std.specs.Str.{bytes_eq}
 use Rattle.vg_base.specs.Bind.{◌>>=◌, or_fault}
 use Rattle.vg_base.specs.declared.width.Width.{Width}
 use Rattle.vg_text.specs.declared.place.Place.{Place}
 use Rattle.vg_text.specs.Words.{Reading, Spelled}
-use Rattle.vg_pseudo.specs.declared.spot.Spot.{Spot}
 use Rattle.vg_pseudo.specs.declared.operators.UnaryOp.{UnaryOp}
 use Rattle.vg_pseudo.specs.declared.operators.BinaryOp.{BinaryOp}
 use Rattle.vg_pseudo.specs.declared.definitions.Callee.{Callee}

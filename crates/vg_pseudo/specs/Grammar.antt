@@ -1,8 +1,7 @@
 -- The language of operation texts: which words spell which operation, one production after the other. How the words are
 -- read is in `Reader`, `Expressions`, `Statements` and `Operations`; here is only what they may be.
-use Rattle.std.specs.Prelude.{◌≡◌, ℕ, suc, ◌+◌, ◌≤◌, ◌<◌, max, Bool, true, false, List, [], ◌∷◌, ◌++◌, length, Option, Some, None, is_some, Result, Ok, IsTrue, ◌⊎◌, codes}
+use Rattle.std.specs.Prelude.{◌≡◌, ℕ, suc, ◌+◌, ◌≤◌, ◌<◌, max, Bool, true, false, List, [], ◌∷◌, ◌++◌, length, Option, Some, None, is_some, Ok, IsTrue, ◌⊎◌, codes}
 use Rattle.vg_base.specs.declared.width.Width.{Width}
-use Rattle.vg_text.specs.declared.place.Place.{Place}
 use Rattle.vg_text.specs.Words.{Reading, Spelled, word_at}
 use Rattle.vg_pseudo.specs.declared.operators.UnaryOp.{UnaryOp}
 use Rattle.vg_pseudo.specs.declared.operators.BinaryOp.{BinaryOp}
@@ -52,14 +51,14 @@ mutual
         → IsExpression context 7 ls l
         → Is closing (codes "]")
         → IsExpression context 0 (w ∷ opening ∷ (hs ++ colon ∷ (ls ++ closing ∷ [])))
-          (above_two (slice (spot_at w.place) w.bytes h.expression l.expression) h l)
+        (above_two (slice (spot_at w.place) w.bytes h.expression l.expression) h l)
     indexed : (w opening closing : Spelled) (ks : Words) (k : Part)
         → IsName w
         → Is opening (codes "[")
         → IsExpression context 7 ks k
         → Is closing (codes "]")
         → IsExpression context 0 (w ∷ opening ∷ (ks ++ closing ∷ []))
-          (above_one (bit (spot_at w.place) w.bytes k.expression) k)
+        (above_one (bit (spot_at w.place) w.bytes k.expression) k)
     placed : (w dot text opening closing : Spelled) (size : Width) (ks : Words) (k : Part)
         → IsName w
         → Is dot (codes ".")
@@ -68,7 +67,7 @@ mutual
         → IsExpression context 7 ks k
         → Is closing (codes "]")
         → IsExpression context 0 (w ∷ dot ∷ text ∷ opening ∷ (ks ++ closing ∷ []))
-          (above_one (element (spot_at w.place) w.bytes size k.expression) k)
+        (above_one (element (spot_at w.place) w.bytes size k.expression) k)
     parted : (w dot text : Spelled) (size : Width)
         → IsName w
         → Is dot (codes ".")
@@ -79,7 +78,7 @@ mutual
         → IsExpression context 8 xs x
         → Is closing (codes ")")
         → IsExpression context 0 (opening ∷ (xs ++ closing ∷ []))
-          (above_one (with_outer opening.place x.expression) x)
+        (above_one (with_outer opening.place x.expression) x)
     prefixed : (op : UnaryOp) (w : Spelled) (xs : Words) (x : Part)
         → prefix_named w.bytes ≡ Some op
         → IsExpression context 0 xs x
@@ -90,7 +89,7 @@ mutual
         → IsExpression context 8 xs x
         → Is closing (codes ")")
         → IsExpression context 0 (w ∷ opening ∷ (xs ++ closing ∷ []))
-          (above_one (unary (spot_at w.place) op x.expression) x)
+        (above_one (unary (spot_at w.place) op x.expression) x)
     function_of_two : (op : BinaryOp) (w opening comma closing : Spelled) (xs ys : Words) (x y : Part)
         → function_named w.bytes ≡ Some (functions.Two op)
         → Is opening (codes "(")
@@ -99,7 +98,7 @@ mutual
         → IsExpression context 8 ys y
         → Is closing (codes ")")
         → IsExpression context 0 (w ∷ opening ∷ (xs ++ comma ∷ (ys ++ closing ∷ [])))
-          (above_two (binary (spot_at w.place) op x.expression y.expression) x y)
+        (above_two (binary (spot_at w.place) op x.expression y.expression) x y)
     called : (w opening closing : Spelled) (calls : ℕ) (xs rest : Words) (x : Part) (ps : List Part)
         → IsName w
         → Is opening (codes "(")
@@ -109,7 +108,7 @@ mutual
         → takes (callee_of context.known w.bytes) (length (x ∷ ps)) ≡ true
         → Is closing (codes ")")
         → IsExpression context 0 (w ∷ opening ∷ (xs ++ (rest ++ closing ∷ [])))
-          (call_of w (linked (x ∷ ps) (linked_none calls)))
+        (call_of w (linked (x ∷ ps) (linked_none calls)))
     tighter : (level : ℕ) (xs : Words) (x : Part)
         → IsExpression context level xs x
         → IsExpression context (suc level) xs x
@@ -120,14 +119,14 @@ mutual
         → (suc level ≡ 4 → ⊥)
         → IsExpression context level ys y
         → IsExpression context (suc level) (xs ++ w ∷ ys)
-          (above_two (binary (spot_at (outer_of x.expression)) op x.expression y.expression) x y)
+        (above_two (binary (spot_at (outer_of x.expression)) op x.expression y.expression) x y)
     compared : (op : BinaryOp) (w : Spelled) (xs ys : Words) (x y : Part)
         → IsExpression context 3 xs x
         → operator_named w.bytes ≡ Some op
         → level_of op ≡ 4
         → IsExpression context 3 ys y
         → IsExpression context 4 (xs ++ w ∷ ys)
-          (above_two (binary (spot_at (outer_of x.expression)) op x.expression y.expression) x y)
+        (above_two (binary (spot_at (outer_of x.expression)) op x.expression y.expression) x y)
     chosen : (mark colon : Spelled) (cs xs ys : Words) (c x y : Part)
         → IsExpression context 7 cs c
         → Is mark (codes "?")
@@ -135,7 +134,7 @@ mutual
         → Is colon (codes ":")
         → IsExpression context 8 ys y
         → IsExpression context 8 (cs ++ mark ∷ (xs ++ colon ∷ ys))
-          (above_three (choice (spot_at (outer_of c.expression)) c.expression x.expression y.expression) c x y)
+        (above_three (choice (spot_at (outer_of c.expression)) c.expression x.expression y.expression) c x y)
 
   pub data AreMore (context : Context) : Words → List Part → Type 0 where
     none : AreMore context [] []
@@ -183,9 +182,9 @@ mutual
         → IsWhole context es e
         → AreStatements context (suc room) rest s calls
         → AreStatements context (suc room) (w ∷ (ts ++ sign ∷ (es ++ rest)))
-          (assign w.place t.expression e.expression s) (max (max t.calls e.calls) calls)
+        (assign w.place t.expression e.expression s) (max (max t.calls e.calls) calls)
     assigned_above : (room calls : ℕ) (w opening greatest colon closing sign : Spelled) (ls es rest : Words)
-          (l e : Part) (s : Statements)
+        (l e : Part) (s : Statements)
         → IsName w
         → Is opening (codes "[")
         → Is greatest (codes "MAX")
@@ -196,10 +195,10 @@ mutual
         → IsWhole context es e
         → AreStatements context (suc room) rest s calls
         → AreStatements context (suc room)
-          (w ∷ opening ∷ greatest ∷ colon ∷ (ls ++ closing ∷ sign ∷ (es ++ rest)))
-          (above w.place w.bytes l.expression e.expression s) (max (max l.calls e.calls) calls)
+        (w ∷ opening ∷ greatest ∷ colon ∷ (ls ++ closing ∷ sign ∷ (es ++ rest)))
+        (above w.place w.bytes l.expression e.expression s) (max (max l.calls e.calls) calls)
     repeated : (room calls calls' : ℕ) (w variable sign to closing : Spelled) (xs ys body rest : Words)
-          (x y : Part) (s t : Statements)
+        (x y : Part) (s t : Statements)
         → Is w (codes "FOR")
         → IsName variable
         → Is sign (codes ":=")
@@ -210,9 +209,9 @@ mutual
         → Is closing (codes "ENDFOR")
         → AreStatements context (suc room) rest t calls'
         → AreStatements context (suc room)
-          (w ∷ variable ∷ sign ∷ (xs ++ to ∷ (ys ++ (body ++ closing ∷ rest))))
-          (repeat w.place variable.bytes x.expression y.expression s t)
-          (max (max (max x.calls y.calls) calls) calls')
+        (w ∷ variable ∷ sign ∷ (xs ++ to ∷ (ys ++ (body ++ closing ∷ rest))))
+        (repeat w.place variable.bytes x.expression y.expression s t)
+        (max (max (max x.calls y.calls) calls) calls')
     chosen_way : (room calls calls' : ℕ) (w closing : Spelled) (inside rest : Words) (ways s : Statements)
         → Is w (codes "IF")
         → AreWays context room inside ways calls
@@ -220,7 +219,7 @@ mutual
         → AreStatements context (suc room) rest s calls'
         → AreStatements context (suc room) (w ∷ (inside ++ closing ∷ rest)) (choose ways s) (max calls calls')
     picked_arm : (room calls calls' : ℕ) (w of closing : Spelled) (es inside rest : Words) (e : Part)
-          (arms s : Statements)
+        (arms s : Statements)
         → Is w (codes "CASE")
         → IsWhole context es e
         → Is of (codes "OF")
@@ -228,7 +227,7 @@ mutual
         → Is closing (codes "ESAC")
         → AreStatements context (suc room) rest s calls'
         → AreStatements context (suc room) (w ∷ (es ++ of ∷ (inside ++ closing ∷ rest)))
-          (pick e.expression arms s) (max (max e.calls calls) calls')
+        (pick e.expression arms s) (max (max e.calls calls) calls')
 
   pub data AreWays (context : Context) : ℕ → Words → Statements → ℕ → Type 0 where
     last_way : (room calls : ℕ) (es body : Words) (e : Part) (s : Statements)
@@ -242,7 +241,7 @@ mutual
         → BeginsNot (codes "IF") rest
         → AreStatements context room rest t calls'
         → AreWays context room (es ++ (body ++ other ∷ rest)) (way e.expression s (last t))
-          (max (max e.calls calls) calls')
+        (max (max e.calls calls) calls')
     way_and_more : (room calls calls' : ℕ) (other again : Spelled) (es body rest : Words) (e : Part) (s ways : Statements)
         → IsWhole context es e
         → AreStatements context room body s calls
@@ -250,7 +249,7 @@ mutual
         → Is again (codes "IF")
         → AreWays context room rest ways calls'
         → AreWays context room (es ++ (body ++ other ∷ again ∷ rest)) (way e.expression s ways)
-          (max (max e.calls calls) calls')
+        (max (max e.calls calls) calls')
 
   pub data AreArms (context : Context) : ℕ → Words → Statements → ℕ → Type 0 where
     no_arm : (room : ℕ) → AreArms context room [] stop 0

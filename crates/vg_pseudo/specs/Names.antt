@@ -143,4 +143,4 @@ meaning_of None None None = nothing
 abbrev pub named : Scope → List ℕ → Meaning
 named s n =
     meaning_of (first_place (λ m. bytes_eq m n) s.turns) (last_register 0 None s.registers n)
-      (first_place (λ m. bytes_eq m n) s.variables)
+    (first_place (λ m. bytes_eq m n) s.variables)

@@ -1,8 +1,7 @@
 -- Reading a whole operation from left to right, with the first fault that is met.
 use Rattle.std.specs.Prelude.{ℕ, suc, ◌+◌, max, Bool, true, false, List, [], ◌∷◌, ◌++◌, length, zero, Option, Some, None, Result, Ok, Err, nat_eq, codes, if◌then◌else◌}
-use Rattle.std.specs.Str.{bytes_eq}
 use Rattle.vg_base.specs.Bind.{◌>>=◌}
-use Rattle.vg_text.specs.Words.{Reading, Spelled}
+use Rattle.vg_text.specs.Words.{Reading}
 use Rattle.vg_pseudo.specs.declared.definitions.Callee.{Callee}
 use Rattle.vg_pseudo.specs.declared.operation.DefineParam.{DefineParam}
 use Rattle.vg_pseudo.specs.declared.fault.PseudoFault.{PseudoFault}
@@ -63,10 +62,13 @@ define_at context r = do
   word ← expect_at (codes "RETURN") body.1
   answer ← whole_at context word.1
   closed ← expect_at (codes "}") answer.1
-  Ok (record {
-    define = record { name = name.0.bytes; params = params.0; body = body.0.statements; answer = answer.0.expression };
-    depth = max body.0.calls answer.0.calls + 1;
-  }, closed.1)
+  Ok (
+    record {
+      define = record { name = name.0.bytes; params = params.0; body = body.0.statements; answer = answer.0.expression };
+      depth = max body.0.calls answer.0.calls + 1;
+    },
+    closed.1,
+  )
 
 -- what is known of a DEFINE
 abbrev pub callee : Defined → Callee

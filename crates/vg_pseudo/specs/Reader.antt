@@ -1,6 +1,6 @@
 -- Reading an operation from left to right, word by word: single words, and lists. Each function reads a part at the front
 -- of what is left and gives it with what is left behind it, or the first fault that it meets.
-use Rattle.std.specs.Prelude.{ℕ, zero, suc, Bool, true, false, List, [], ◌∷◌, ◌++◌, Option, Some, None, Result, Ok, Err, codes, if◌then◌else◌}
+use Rattle.std.specs.Prelude.{ℕ, zero, suc, Bool, true, false, List, [], ◌∷◌, ◌++◌, Result, Ok, Err, if◌then◌else◌}
 use Rattle.std.specs.Str.{bytes_eq}
 use Rattle.vg_base.specs.Bind.{◌>>=◌, or_fault}
 use Rattle.vg_text.specs.declared.place.Place.{Place}

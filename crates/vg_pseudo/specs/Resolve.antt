@@ -133,7 +133,8 @@ inside s n =
       registers = s.registers;
       variables = s.variables;
       turns = n ∷ s.turns;
-      functions = s.functions }
+      functions = s.functions;
+    }
 
 abbrev pub code_of : Scope → Statements → Result Code NameFault
 code_of s tree.stop = Ok stop
@@ -213,7 +214,8 @@ local_register given as' n = record {
   is_variable = true;
   signed_slices = false;
   signed_whole = signed_in given as' (length as') n;
-  span = one_element (map (λ a. a.form) (assigned_to n as')) }
+  span = one_element (map (λ a. a.form) (assigned_to n as'));
+}
 
 -- the names of a body that begins with these registers, in which these names stand with brackets
 abbrev pub scope_of : List Register → List (List ℕ) → List (List ℕ) → Statements → Scope
@@ -222,13 +224,15 @@ scope_of given marked functions body =
       registers = given ++ map (local_register given as') (register_locals marked as');
       variables = number_locals marked as';
       turns = [];
-      functions = functions }
+      functions = functions;
+    }
 
 abbrev pub body_in : Scope → Code → Body
 body_in s c = record {
   widths = map (λ r. r.width) s.registers;
   numbers = length s.variables;
-  code = c }
+  code = c;
+}
 
 -- a parameter of a DEFINE has as many bits as are written, else 512
 abbrev pub define_register : DefineParam → Register
@@ -238,12 +242,13 @@ define_register p = record {
   is_variable = false;
   signed_slices = false;
   signed_whole = false;
-  span = option_map (λ h. h + 1) p.high }
+  span = option_map (λ h. h + 1) p.high;
+}
 
 abbrev pub define_scope : List (List ℕ) → Define → Scope
 define_scope before d =
     scope_of (map define_register d.params) (bracketed_in [] d.body ++ bracketed [] d.answer)
-      before d.body
+    before d.body
 
 abbrev pub function_of : List (List ℕ) → Define → Result Function NameFault
 function_of before d = do
@@ -267,7 +272,8 @@ param_register p = record {
   is_variable = false;
   signed_slices = p.is_signed;
   signed_whole = p.is_signed;
-  span = Some p.register }
+  span = Some p.register;
+}
 
 -- the immediate, of 8 bits
 abbrev pub imm_registers : Option ImmRange → List Register
@@ -278,7 +284,8 @@ imm_registers (Some i) = record {
   is_variable = false;
   signed_slices = false;
   signed_whole = false;
-  span = Some 8 } ∷ []
+  span = Some 8;
+} ∷ []
 
 abbrev pub result_register : Header → Register
 result_register h = record {
@@ -287,7 +294,8 @@ result_register h = record {
   is_variable = true;
   signed_slices = false;
   signed_whole = false;
-  span = Some h.register }
+  span = Some h.register;
+}
 
 -- what stands before dst among the registers
 abbrev pub operand_registers : Header → List Register
@@ -296,7 +304,7 @@ operand_registers h = map param_register h.params ++ imm_registers h.imm
 abbrev pub operation_scope : Header → Operation → Scope
 operation_scope h o =
     scope_of (operand_registers h ++ result_register h ∷ []) (bracketed_in [] o.body)
-      (map (λ d. d.name) o.defines) o.body
+    (map (λ d. d.name) o.defines) o.body
 
 -- the operation of an entry with its names resolved, or its first name that cannot be
 abbrev pub resolve : Header → Operation → Result Resolved NameFault
@@ -306,4 +314,5 @@ resolve h o = do
   Ok (record {
     functions = functions;
     body = body_in (operation_scope h o) code;
-    result = length (operand_registers h) })
+    result = length (operand_registers h);
+  })

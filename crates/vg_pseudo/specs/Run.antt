@@ -20,8 +20,9 @@ abbrev pub written : ℕ → ℕ → ℕ → ℤ → State → State
 written r low width z s =
     record {
       registers = set s.registers r
-        (replaced low (number.bits width (residue width z)) (get_or s.registers r []));
-      numbers = s.numbers }
+          (replaced low (number.bits width (residue width z)) (get_or s.registers r []));
+      numbers = s.numbers;
+    }
 
 -- what an assignment leaves: a slice keeps the low bits of the number, a number variable the whole
 -- number
@@ -48,7 +49,7 @@ abbrev mutual
   run fs ts (skip at rest) s = run fs ts rest s
   run fs ts (repeat at a b body rest) s =
       run fs ts rest (turned (λ z u. run fs (z ∷ ts) body u) (value (seen fs ts s) a)
-        (count (value (seen fs ts s) a) (value (seen fs ts s) b)) s)
+      (count (value (seen fs ts s) a) (value (seen fs ts s) b)) s)
   run fs ts (choose ways rest) s = run fs ts rest (run fs ts ways s)
   run fs ts (way c body ways) s =
       if int_eq (value (seen fs ts s) c) (pos 0) then run fs ts ways s else run fs ts body s

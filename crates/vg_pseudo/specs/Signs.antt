@@ -64,8 +64,9 @@ signed_in given as' zero n = is_signed_register (λ r. r.signed_whole) given n
 signed_in given as' (suc k) n =
     is_signed_register (λ r. r.signed_whole) given n
     || list_any (λ a. bytes_eq a.name n && is_signed (record {
-         slices = is_signed_register (λ r. r.signed_slices) given;
-         whole = signed_in given as' k }) a.turns a.value) as'
+      slices = is_signed_register (λ r. r.signed_slices) given;
+      whole = signed_in given as' k;
+    }) a.turns a.value) as'
 
 -- what is signed is shown so in finitely many steps
 abbrev pub IsSigned : List Register → List Assignment → List ℕ → Type 0

@@ -1,5 +1,5 @@
 -- Reading statements from left to right, with the first fault that is met. Statements may nest 64 deep.
-use Rattle.std.specs.Prelude.{ℕ, zero, suc, max, Bool, true, false, List, [], ◌∷◌, Result, Ok, Err, codes, if◌then◌else◌}
+use Rattle.std.specs.Prelude.{ℕ, zero, suc, max, true, false, List, [], ◌∷◌, Result, Ok, Err, codes, if◌then◌else◌}
 use Rattle.std.specs.Option.{option_map_or}
 use Rattle.std.specs.Str.{bytes_eq}
 use Rattle.vg_base.specs.Bind.{◌>>=◌}
@@ -73,10 +73,13 @@ above_at context word r = do
   closed ← expect_at (codes "]") low.1
   sign ← expect_at (codes ":=") closed.1
   value ← whole_at context sign.1
-  Ok (record {
-    statements = above word.place word.bytes low.0.expression value.0.expression stop;
-    calls = max low.0.calls value.0.calls;
-  }, value.1)
+  Ok (
+    record {
+      statements = above word.place word.bytes low.0.expression value.0.expression stop;
+      calls = max low.0.calls value.0.calls;
+    },
+    value.1,
+  )
 
 -- whether `[MAX:` comes next, which is taken then
 unfoldable pub above_follows : Follows
@@ -107,20 +110,26 @@ for_at context body place r = do
   bound ← whole_at context to.1
   inside ← body bound.1
   closed ← expect_at (codes "ENDFOR") inside.1
-  Ok (record {
-    statements = repeat place variable.0.bytes first.0.expression bound.0.expression inside.0.statements stop;
-    calls = max (max first.0.calls bound.0.calls) inside.0.calls;
-  }, closed.1)
+  Ok (
+    record {
+      statements = repeat place variable.0.bytes first.0.expression bound.0.expression inside.0.statements stop;
+      calls = max (max first.0.calls bound.0.calls) inside.0.calls;
+    },
+    closed.1,
+  )
 
 -- a condition and the statements that it guards
 unfoldable pub way_at : Context → Body → Reading → Result (Block × Reading) PseudoFault
 way_at context body r = do
   condition ← whole_at context r
   inside ← body condition.1
-  Ok (record {
-    statements = way condition.0.expression inside.0.statements stop;
-    calls = max condition.0.calls inside.0.calls;
-  }, inside.1)
+  Ok (
+    record {
+      statements = way condition.0.expression inside.0.statements stop;
+      calls = max condition.0.calls inside.0.calls;
+    },
+    inside.1,
+  )
 
 -- whether ELSE IF comes next, which is taken then
 unfoldable pub else_if_follows : Follows
@@ -144,10 +153,13 @@ if_at context body r = do
   ways ← items_behind else_if_follows (way_at context body) (first.0 ∷ []) first.1
   other ← else_at body ways.1
   closed ← expect_at (codes "FI") other.1
-  Ok (record {
-    statements = choose (chained ways.0 other.0).statements stop;
-    calls = (chained ways.0 other.0).calls;
-  }, closed.1)
+  Ok (
+    record {
+      statements = choose (chained ways.0 other.0).statements stop;
+      calls = (chained ways.0 other.0).calls;
+    },
+    closed.1,
+  )
 
 -- whether an arm follows
 abbrev pub arm_follows : Follows
@@ -168,10 +180,13 @@ case_at context body r = do
   of ← expect_at (codes "OF") selector.1
   arms ← items_behind arm_follows (arm_at body) [] of.1
   closed ← expect_at (codes "ESAC") arms.1
-  Ok (record {
-    statements = pick selector.0.expression (chained arms.0 nothing).statements stop;
-    calls = max selector.0.calls (chained arms.0 nothing).calls;
-  }, closed.1)
+  Ok (
+    record {
+      statements = pick selector.0.expression (chained arms.0 nothing).statements stop;
+      calls = max selector.0.calls (chained arms.0 nothing).calls;
+    },
+    closed.1,
+  )
 
 -- a statement that begins with this word
 unfoldable pub word_at_head : Context → Body → Spelled → Reading → Result (Block × Reading) PseudoFault

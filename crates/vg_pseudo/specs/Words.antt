@@ -1,10 +1,10 @@
 -- The words of operation texts.
-use Rattle.std.specs.Prelude.{ℕ, ◌^◌, Bool, true, false, not, ◌||◌, ◌&&◌, List, [], ◌∷◌, ◌++◌, length, take, drop, Option, Some, None, is_some, nat_lt, codes, if◌then◌else◌}
+use Rattle.std.specs.Prelude.{ℕ, ◌^◌, Bool, not, ◌||◌, ◌&&◌, List, length, take, drop, Option, Some, None, is_some, nat_lt, codes, if◌then◌else◌}
 use Rattle.std.specs.Option.{option_map}
 use Rattle.std.specs.Str.{bytes_eq}
 use Rattle.vg_base.specs.declared.width.Width.{Width}
 use Rattle.vg_base.specs.declared.width.Width.TheVariants.{W8, W16, W32, W64}
-use Rattle.vg_text.specs.Byte.{is_name_text, is_digit}
+use Rattle.vg_text.specs.Byte.{is_name_text}
 use Rattle.vg_text.specs.Number.{value_in, decimal_value}
 use Rattle.vg_pseudo.specs.declared.operators.UnaryOp.{UnaryOp}
 use Rattle.vg_pseudo.specs.declared.operators.UnaryOp.TheVariants.{Not, Negate, Absolute, Signed, SignExtend, ZeroExtend, Saturate, SaturateUnsigned, Truncate}

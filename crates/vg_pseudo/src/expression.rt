@@ -14,9 +14,15 @@ use vg_text::Place;
 #[derive(Debug, Drop)]
 pub enum Expr {
     /// A number, below 2^127.
-    Number { spot: Spot, value: u128 },
+    Number {
+        spot: Spot,
+        value: u128,
+    },
     /// `name`
-    Name { spot: Spot, name: Name },
+    Name {
+        spot: Spot,
+        name: Name,
+    },
     /// `name[high:low]`
     Slice {
         spot: Spot,
@@ -38,7 +44,11 @@ pub enum Expr {
         index: Box<Expr>,
     },
     /// `name.elem`
-    Part { spot: Spot, name: Name, size: Width },
+    Part {
+        spot: Spot,
+        name: Name,
+        size: Width,
+    },
     Unary {
         spot: Spot,
         op: UnaryOp,
@@ -116,16 +126,82 @@ impl Expr {
         ensures { expression_of result ≡ with_outer place (expression_of self) }
     {
         match self {
-            Expr::Number { spot, value } => Expr::Number { spot: spot.around(place), value },
-            Expr::Name { spot, name } => Expr::Name { spot: spot.around(place), name },
-            Expr::Slice { spot, name, high, low } => Expr::Slice { spot: spot.around(place), name, high, low },
-            Expr::Bit { spot, name, index } => Expr::Bit { spot: spot.around(place), name, index },
-            Expr::Element { spot, name, size, index } => Expr::Element { spot: spot.around(place), name, size, index },
-            Expr::Part { spot, name, size } => Expr::Part { spot: spot.around(place), name, size },
-            Expr::Unary { spot, op, operand } => Expr::Unary { spot: spot.around(place), op, operand },
-            Expr::Binary { spot, op, left, right } => Expr::Binary { spot: spot.around(place), op, left, right },
-            Expr::Choice { spot, condition, first, second } => Expr::Choice { spot: spot.around(place), condition, first, second },
-            Expr::Call { spot, name, arguments } => Expr::Call { spot: spot.around(place), name, arguments },
+            Expr::Number { spot, value } => Expr::Number {
+                spot: spot.around(place),
+                value,
+            },
+            Expr::Name { spot, name } => Expr::Name {
+                spot: spot.around(place),
+                name,
+            },
+            Expr::Slice {
+                spot,
+                name,
+                high,
+                low,
+            } => Expr::Slice {
+                spot: spot.around(place),
+                name,
+                high,
+                low,
+            },
+            Expr::Bit { spot, name, index } => Expr::Bit {
+                spot: spot.around(place),
+                name,
+                index,
+            },
+            Expr::Element {
+                spot,
+                name,
+                size,
+                index,
+            } => Expr::Element {
+                spot: spot.around(place),
+                name,
+                size,
+                index,
+            },
+            Expr::Part { spot, name, size } => Expr::Part {
+                spot: spot.around(place),
+                name,
+                size,
+            },
+            Expr::Unary { spot, op, operand } => Expr::Unary {
+                spot: spot.around(place),
+                op,
+                operand,
+            },
+            Expr::Binary {
+                spot,
+                op,
+                left,
+                right,
+            } => Expr::Binary {
+                spot: spot.around(place),
+                op,
+                left,
+                right,
+            },
+            Expr::Choice {
+                spot,
+                condition,
+                first,
+                second,
+            } => Expr::Choice {
+                spot: spot.around(place),
+                condition,
+                first,
+                second,
+            },
+            Expr::Call {
+                spot,
+                name,
+                arguments,
+            } => Expr::Call {
+                spot: spot.around(place),
+                name,
+                arguments,
+            },
         }
     }
 }

@@ -107,7 +107,11 @@ fn part_leaf(alloc: Global, word: Word<'_>, size: Width) -> Result<Part, PseudoF
 }
 
 /// What a call counts for.
-fn counted(definitions: &Definitions, callee: Option<Callee>, place: Place) -> Result<u8, PseudoFault>
+fn counted(
+    definitions: &Definitions,
+    callee: Option<Callee>,
+    place: Place,
+) -> Result<u8, PseudoFault>
     ensures { Gives (λ n. n) result (counted definitions.now callee place) }
 {
     let Some(callee) = callee else {

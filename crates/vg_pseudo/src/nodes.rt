@@ -39,7 +39,12 @@ pub(crate) fn bit(alloc: Global, word: Word<'_>, index: Part) -> Result<Part, Ps
 }
 
 /// `name[high:low]`
-pub(crate) fn slice(alloc: Global, word: Word<'_>, high: Part, low: Part) -> Result<Part, PseudoFault>
+pub(crate) fn slice(
+    alloc: Global,
+    word: Word<'_>,
+    high: Part,
+    low: Part,
+) -> Result<Part, PseudoFault>
     requires high { high.depth ≤ 64 }
     requires low { low.depth ≤ 64 }
     ensures node { Gives part_of result (Ok (above_two (slice (spot_at word.entry.place) word.entry.bytes.now (part_of high).expression (part_of low).expression) (part_of high) (part_of low))) }
@@ -60,7 +65,12 @@ pub(crate) fn slice(alloc: Global, word: Word<'_>, high: Part, low: Part) -> Res
 }
 
 /// `name.elem[index]`
-pub(crate) fn element(alloc: Global, word: Word<'_>, size: Width, index: Part) -> Result<Part, PseudoFault>
+pub(crate) fn element(
+    alloc: Global,
+    word: Word<'_>,
+    size: Width,
+    index: Part,
+) -> Result<Part, PseudoFault>
     requires { index.depth ≤ 64 }
     ensures node { Gives part_of result (Ok (above_one (element (spot_at word.entry.place) word.entry.bytes.now size (part_of index).expression) (part_of index))) }
     ensures deep { IfOk result (λ p. p.depth ≡ index.depth + 1) }
@@ -80,7 +90,12 @@ pub(crate) fn element(alloc: Global, word: Word<'_>, size: Width, index: Part) -
 }
 
 /// An operator or a function of one operand, which begins at a place.
-pub(crate) fn unary(alloc: Global, op: UnaryOp, place: Place, operand: Part) -> Result<Part, PseudoFault>
+pub(crate) fn unary(
+    alloc: Global,
+    op: UnaryOp,
+    place: Place,
+    operand: Part,
+) -> Result<Part, PseudoFault>
     requires { operand.depth ≤ 64 }
     ensures node { Gives part_of result (Ok (above_one (unary (spot_at place) op (part_of operand).expression) (part_of operand))) }
     ensures deep { IfOk result (λ p. p.depth ≡ operand.depth + 1) }
@@ -98,7 +113,13 @@ pub(crate) fn unary(alloc: Global, op: UnaryOp, place: Place, operand: Part) -> 
 }
 
 /// An operator or a function of two operands, which begins at a place.
-pub(crate) fn binary(alloc: Global, op: BinaryOp, place: Place, left: Part, right: Part) -> Result<Part, PseudoFault>
+pub(crate) fn binary(
+    alloc: Global,
+    op: BinaryOp,
+    place: Place,
+    left: Part,
+    right: Part,
+) -> Result<Part, PseudoFault>
     requires left { left.depth ≤ 64 }
     requires right { right.depth ≤ 64 }
     ensures node { Gives part_of result (Ok (above_two (binary (spot_at place) op (part_of left).expression (part_of right).expression) (part_of left) (part_of right))) }
@@ -118,7 +139,12 @@ pub(crate) fn binary(alloc: Global, op: BinaryOp, place: Place, left: Part, righ
 }
 
 /// `condition ? first : second`
-pub(crate) fn choice(alloc: Global, condition: Part, first: Part, second: Part) -> Result<Part, PseudoFault>
+pub(crate) fn choice(
+    alloc: Global,
+    condition: Part,
+    first: Part,
+    second: Part,
+) -> Result<Part, PseudoFault>
     requires condition { condition.depth ≤ 64 }
     requires first { first.depth ≤ 64 }
     requires second { second.depth ≤ 64 }
@@ -176,7 +202,13 @@ fn linked(alloc: Global, parts: Vec<Part>, calls: u8, room: u32) -> Result<Linke
 }
 
 /// A call of a DEFINE with these arguments.
-pub(crate) fn call_node(alloc: Global, word: Word<'_>, calls: u8, parts: Vec<Part>, room: u32) -> Result<Part, PseudoFault>
+pub(crate) fn call_node(
+    alloc: Global,
+    word: Word<'_>,
+    calls: u8,
+    parts: Vec<Part>,
+    room: u32,
+) -> Result<Part, PseudoFault>
     requires few { room ≤ 64 }
     requires deep { All (λ p. p.depth ≤ room) parts.items }
     ensures node { Gives part_of result (Ok (call_of (spelled_of word.entry) (linked (map part_of parts.items) (linked_none calls)))) }

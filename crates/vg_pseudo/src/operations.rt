@@ -151,7 +151,11 @@ fn callee(defined: &Defined) -> Callee
 }
 
 /// One DEFINE more is known.
-fn register(alloc: Global, definitions: &mut Definitions, defined: &Defined) -> Result<(), AllocError>
+fn register(
+    alloc: Global,
+    definitions: &mut Definitions,
+    defined: &Defined,
+) -> Result<(), AllocError>
     ensures ok { OnOk result (definitions.new ≡ record { known = with_callee definitions.old.known (defined_of defined.now).define.name (callee (defined_of defined.now)); inside = definitions.old.inside }) }
 {
     let callee = callee(defined);

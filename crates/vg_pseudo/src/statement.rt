@@ -42,7 +42,10 @@ pub enum Stmt {
         rest: Box<Stmt>,
     },
     /// `IF .. FI` by its ways: `Way`s, then `Else`.
-    If { ways: Box<Stmt>, rest: Box<Stmt> },
+    If {
+        ways: Box<Stmt>,
+        rest: Box<Stmt>,
+    },
     /// `IF condition body` or `ELSE IF condition body`, and the ways behind it.
     Way {
         condition: Expr,
@@ -50,7 +53,9 @@ pub enum Stmt {
         ways: Box<Stmt>,
     },
     /// The last way, empty where the text has no ELSE of its own.
-    Else { body: Box<Stmt> },
+    Else {
+        body: Box<Stmt>,
+    },
     /// `CASE selector OF .. ESAC` by its arms: `Arm`s, then `End`.
     Case {
         selector: Expr,
@@ -150,32 +155,88 @@ impl Stmt {
     {
         match self {
             Stmt::End => Stmt::End,
-            Stmt::Assign { place, target, value, mut rest } => {
+            Stmt::Assign {
+                place,
+                target,
+                value,
+                mut rest,
+            } => {
                 *rest = next;
-                Stmt::Assign { place, target, value, rest }
+                Stmt::Assign {
+                    place,
+                    target,
+                    value,
+                    rest,
+                }
             }
-            Stmt::AssignAbove { place, name, low, value, mut rest } => {
+            Stmt::AssignAbove {
+                place,
+                name,
+                low,
+                value,
+                mut rest,
+            } => {
                 *rest = next;
-                Stmt::AssignAbove { place, name, low, value, rest }
+                Stmt::AssignAbove {
+                    place,
+                    name,
+                    low,
+                    value,
+                    rest,
+                }
             }
-            Stmt::For { place, variable, first, last, body, mut rest } => {
+            Stmt::For {
+                place,
+                variable,
+                first,
+                last,
+                body,
+                mut rest,
+            } => {
                 *rest = next;
-                Stmt::For { place, variable, first, last, body, rest }
+                Stmt::For {
+                    place,
+                    variable,
+                    first,
+                    last,
+                    body,
+                    rest,
+                }
             }
             Stmt::If { ways, mut rest } => {
                 *rest = next;
                 Stmt::If { ways, rest }
             }
-            Stmt::Way { condition, body, mut ways } => {
+            Stmt::Way {
+                condition,
+                body,
+                mut ways,
+            } => {
                 *ways = next;
-                Stmt::Way { condition, body, ways }
+                Stmt::Way {
+                    condition,
+                    body,
+                    ways,
+                }
             }
             Stmt::Else { body } => Stmt::Else { body },
-            Stmt::Case { selector, arms, mut rest } => {
+            Stmt::Case {
+                selector,
+                arms,
+                mut rest,
+            } => {
                 *rest = next;
-                Stmt::Case { selector, arms, rest }
+                Stmt::Case {
+                    selector,
+                    arms,
+                    rest,
+                }
             }
-            Stmt::Arm { number, body, mut arms } => {
+            Stmt::Arm {
+                number,
+                body,
+                mut arms,
+            } => {
                 *arms = next;
                 Stmt::Arm { number, body, arms }
             }

@@ -266,10 +266,7 @@ fn is_operator_word(bytes: &[u8]) -> bool
 fn is_reserved(bytes: &[u8]) -> bool
     ensures { result ≡ is_reserved bytes.now }
 {
-    is_statement_word(bytes)
-        | is_header_word(bytes)
-        | is_operator_word(bytes)
-        | is_function(bytes)
+    is_statement_word(bytes) | is_header_word(bytes) | is_operator_word(bytes) | is_function(bytes)
 }
 
 /// Whether a word may be a name.

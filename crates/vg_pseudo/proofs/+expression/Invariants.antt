@@ -1,4 +1,4 @@
-use Rattle.std.proofs.Common.{◌≡◌, ◌≤◌}
+use Rattle.std.proofs.Common.{◌≤◌}
 use Rattle.vg_pseudo.specs.declared.expression.Arguments.{size-Arguments}
 use Rattle.vg_pseudo.proofs.+expression.Given as goal
 

@@ -1,4 +1,4 @@
-use Rattle.std.proofs.Common.{◌≡◌, vec_len, sym, ◌∙◌, ap, map, [], ◌∷◌}
+use Rattle.std.proofs.Common.{vec_len, sym, ◌∙◌, ap, map}
 use Rattle.vg_pseudo.specs.Views.{block_of}
 use Rattle.vg_pseudo.specs.Statements.{chained}
 use Rattle.vg_pseudo.proofs.Linking.{chained-nothing, chained-step, emptied}

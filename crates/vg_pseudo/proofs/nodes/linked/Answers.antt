@@ -1,4 +1,4 @@
-use Rattle.std.proofs.Common.{◌≡◌, ◌≤◌, Some, vec_len, sym, ◌∙◌, ap, map, [], ◌∷◌, Ok, subst, arith}
+use Rattle.std.proofs.Common.{◌≤◌, Some, vec_len, sym, ◌∙◌, ap, map, Ok, arith}
 use Rattle.std.proofs.lemmas.List.Elements.{All-pop}
 use Rattle.vg_pseudo.specs.declared.parts.Part as code_part
 use Rattle.vg_pseudo.specs.Views.{part_of, linked_of}

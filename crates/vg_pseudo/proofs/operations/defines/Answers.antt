@@ -1,14 +1,13 @@
-use Rattle.std.proofs.Common.{◌≡◌, ◌<◌, ◌≤◌, [], ◌∷◌, ◌++◌, map, Ok, sym, ◌∙◌, ap, subst, arith}
-use Rattle.std.specs.Prelude.{codes, List}
+use Rattle.std.proofs.Common.{◌≡◌, map, Ok, ◌∙◌, ap, subst, arith}
+use Rattle.std.specs.Prelude.{codes}
 use Rattle.std.proofs.lemmas.List.{map-append}
 use Rattle.vg_text.specs.Lexing.{reading}
-use Rattle.vg_text.specs.Words.{Reading}
-use Rattle.vg_pseudo.specs.Definitions.{Context, Known}
+use Rattle.vg_pseudo.specs.Definitions.{Context}
 use Rattle.vg_pseudo.specs.Reads.{Fails}
-use Rattle.vg_pseudo.specs.Tree.{Define, define_of}
+use Rattle.vg_pseudo.specs.Tree.{define_of}
 use Rattle.vg_pseudo.specs.Views.{defined_of}
-use Rattle.vg_pseudo.specs.Operations.{Defines, define_at, defines_at}
-use Rattle.vg_pseudo.proofs.DefineLists.{GoesOn, as_inside, test-fails, ends, item-fails, goes_on}
+use Rattle.vg_pseudo.specs.Operations.{define_at, defines_at}
+use Rattle.vg_pseudo.proofs.DefineLists.{as_inside, test-fails, ends, item-fails, goes_on}
 use Rattle.vg_pseudo.proofs.Taking.{accepted-fewer}
 use Rattle.vg_pseudo.proofs.operations.defines.Goals as goal
 

@@ -1,9 +1,9 @@
 -- what is read from here on is what was to be read
-use Rattle.std.proofs.Common.{◌≡◌, ◌≤◌, ◌<◌, ℕ, true, map}
+use Rattle.std.proofs.Common.{◌≡◌, true, map}
 use Rattle.vg_text.specs.Lexing.{reading}
 use Rattle.vg_pseudo.specs.Reader.{unread}
 use Rattle.vg_pseudo.specs.Tree.{define_of}
-use Rattle.vg_pseudo.specs.Operations.{Defines, defines_at}
+use Rattle.vg_pseudo.specs.Operations.{defines_at}
 use Rattle.vg_pseudo.proofs.DefineLists.{GoesOn}
 use Rattle.vg_pseudo.proofs.operations.defines.Given as goal
 

@@ -1,4 +1,4 @@
-use Rattle.std.proofs.Common.{◌≡◌, ◌<◌, ◌≤◌, [], ◌∷◌, Ok, subst, arith}
+use Rattle.std.proofs.Common.{◌≡◌, [], Ok, subst, arith}
 use Rattle.std.specs.Prelude.{codes, List}
 use Rattle.vg_text.specs.Lexing.{reading}
 use Rattle.vg_pseudo.specs.declared.operation.DefineParam.{DefineParam}

@@ -1,4 +1,3 @@
-use Rattle.std.proofs.Common.{◌≡◌}
 use Rattle.vg_text.specs.Lexing.{reading, spelled_of}
 use Rattle.vg_pseudo.proofs.Taking.{word-fewer}
 use Rattle.vg_pseudo.proofs.reading.next.Goals as goal

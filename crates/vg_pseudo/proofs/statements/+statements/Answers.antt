@@ -1,4 +1,4 @@
-use Rattle.std.proofs.Common.{◌≡◌, ◌<◌, ◌≤◌, [], ◌∷◌, map, Ok, ap, subst, arith}
+use Rattle.std.proofs.Common.{◌≡◌, map, Ok, ap, subst, arith}
 use Rattle.std.specs.Prelude.{List}
 use Rattle.std.proofs.lemmas.List.{map-append}
 use Rattle.vg_text.specs.Lexing.{reading}

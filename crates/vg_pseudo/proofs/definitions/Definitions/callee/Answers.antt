@@ -1,4 +1,4 @@
-use Rattle.std.proofs.Common.{◌≡◌, ◌∙◌, sym}
+use Rattle.std.proofs.Common.{◌∙◌, sym}
 use Rattle.std.specs.Prelude.{vec_items}
 use Rattle.vg_pseudo.proofs.Tables.{callee_at}
 use Rattle.vg_pseudo.proofs.definitions.Definitions.callee.Goals as goal

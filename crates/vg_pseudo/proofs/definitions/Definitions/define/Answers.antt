@@ -1,4 +1,4 @@
-use Rattle.std.proofs.Common.{◌≡◌, refl, ap, ◌∙◌}
+use Rattle.std.proofs.Common.{refl, ap, ◌∙◌}
 use Rattle.std.specs.Prelude.{vec_items, List}
 use Rattle.vg_pseudo.specs.Definitions.{Known}
 use Rattle.vg_pseudo.proofs.Tables.{listed, stored}

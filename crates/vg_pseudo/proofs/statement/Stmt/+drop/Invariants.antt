@@ -1,4 +1,4 @@
-use Rattle.std.proofs.Common.{◌≡◌, ◌≤◌}
+use Rattle.std.proofs.Common.{◌≤◌}
 use Rattle.vg_pseudo.specs.declared.statement.Stmt.{size-Stmt}
 use Rattle.vg_pseudo.proofs.statement.Stmt.+drop.Given as goal
 
