@@ -1,5 +1,5 @@
 -- What an instance of an instruction means: the bits of dst behind its operation.
-use Rattle.std.specs.Prelude.{ℕ, zero, suc, ℤ, pos, List, [], ◌∷◌, ◌++◌, get_or}
+use Rattle.std.specs.Prelude.{ℕ, zero, suc, ℤ, pos, List, [], ◌∷◌, ◌++◌, take, get_or}
 use Rattle.vg_base.specs.Bits.{bits}
 use Rattle.vg_pseudo.specs.Resolved.{Body, Function, Resolved}
 use Rattle.vg_pseudo.specs.Value.{State, value, bits_in, answered}
@@ -17,9 +17,9 @@ abbrev pub zeros : ℕ → List ℤ
 zeros zero = []
 zeros (suc n) = pos 0 ∷ zeros n
 
--- a body as it begins
+-- a body as it begins, its parameters given
 abbrev pub begun : Body → List ℕ → State
-begun b given = record { registers = entered b.widths given; numbers = zeros b.numbers }
+begun b given = record { registers = entered b.widths (take b.parameters given); numbers = zeros b.numbers }
 
 -- a body behind its statements
 abbrev pub ended : Functions → Body → List ℕ → State

@@ -227,9 +227,10 @@ scope_of given marked functions body =
       functions = functions;
     }
 
-abbrev pub body_in : Scope → Code → Body
-body_in s c = record {
+abbrev pub body_in : ℕ → Scope → Code → Body
+body_in parameters s c = record {
   widths = map (λ r. r.width) s.registers;
+  parameters = parameters;
   numbers = length s.variables;
   code = c;
 }
@@ -254,7 +255,7 @@ abbrev pub function_of : List (List ℕ) → Define → Result Function NameFaul
 function_of before d = do
   code ← code_of (define_scope before d) d.body
   answer ← resolved (define_scope before d) d.answer
-  Ok (record { body = body_in (define_scope before d) code; answer = answer })
+  Ok (record { body = body_in (length d.params) (define_scope before d) code; answer = answer })
 
 -- the DEFINEs in their order, each behind those of these names
 abbrev pub functions_of : List (List ℕ) → List Define → Result (List Function) NameFault
@@ -313,6 +314,6 @@ resolve h o = do
   code ← code_of (operation_scope h o) o.body
   Ok (record {
     functions = functions;
-    body = body_in (operation_scope h o) code;
+    body = body_in (length (operand_registers h)) (operation_scope h o) code;
     result = length (operand_registers h);
   })

@@ -49,11 +49,12 @@ pub data Code : Type 0 where
   pick : Expr → Code → Code → Code
   arm : ℕ → Code → Code → Code
 
--- A body: the widths of its registers in bits, how many number variables it has, and its
--- statements. Parameters come first among the registers; behind those of the operation the
--- immediate, where there is one, and dst.
+-- A body: the widths of its registers in bits, how many of them are parameters, how many number
+-- variables it has, and its statements. Parameters come first among the registers; behind those of
+-- the operation the immediate, where there is one, which counts as one of them, and then dst.
 pub record Body : Type 0 where
   pub widths : List ℕ
+  pub parameters : ℕ
   pub numbers : ℕ
   pub code : Code
 

@@ -50,12 +50,17 @@ abbrev mutual
   run fs ts (repeat at a b body rest) s =
       run fs ts rest (turned (λ z u. run fs (z ∷ ts) body u) (value (seen fs ts s) a)
       (count (value (seen fs ts s) a) (value (seen fs ts s) b)) s)
-  run fs ts (choose ways rest) s = run fs ts rest (run fs ts ways s)
-  run fs ts (way c body ways) s =
-      if int_eq (value (seen fs ts s) c) (pos 0) then run fs ts ways s else run fs ts body s
-  run fs ts (last body) s = run fs ts body s
+  run fs ts (choose ways rest) s = run fs ts rest (run_ways fs ts ways s)
+  run fs ts (way c body ways) s = s
+  run fs ts (last body) s = s
   run fs ts (pick e arms rest) s = run fs ts rest (run_arm fs ts (value (seen fs ts s) e) arms s)
   run fs ts (arm n body arms) s = s
+
+  pub run_ways : Functions → List ℤ → Code → State → State
+  run_ways fs ts (way c body ways) s =
+      if int_eq (value (seen fs ts s) c) (pos 0) then run_ways fs ts ways s else run fs ts body s
+  run_ways fs ts (last body) s = run fs ts body s
+  run_ways fs ts _ s = s
 
   pub run_arm : Functions → List ℤ → ℤ → Code → State → State
   run_arm fs ts z (arm n body arms) s =

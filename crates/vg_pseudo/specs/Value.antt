@@ -1,5 +1,5 @@
 -- The value of an expression: an exact whole number, of any size and sign.
-use Rattle.std.specs.Prelude.{ℕ, ◌*◌, ℤ, pos, ◌+ℤ◌, Bool, true, false, List, [], ◌∷◌, Option, Some, None, get_or, if◌then◌else◌}
+use Rattle.std.specs.Prelude.{ℕ, ◌+◌, ◌*◌, ℤ, pos, ◌+ℤ◌, Bool, true, false, List, [], ◌∷◌, Option, Some, None, get_or, if◌then◌else◌}
 use Rattle.std.specs.Ordering.{int_eq}
 use Rattle.vg_base.specs.Bits.{num, signed_at}
 use Rattle.vg_bits.specs.Range.{range}
@@ -39,6 +39,12 @@ bits_from s r low width =
 abbrev pub count : ℤ → ℤ → ℕ
 count first last = natural ((last +ℤ negative first) +ℤ pos 1)
 
+-- How many bits there are between two indices: one more than n, where the high index is the low one
+-- with `+ n` behind it.
+abbrev pub slice_width : Option ℕ → ℤ → ℤ → ℕ
+slice_width (Some n) low high = n + 1
+slice_width None low high = count low high
+
 -- Signed, SignExtendN and ZeroExtendN of a slice form read its bits; all else takes its number.
 abbrev pub unary_value : UnaryOp → Option Bits → ℤ → ℤ
 unary_value Signed (Some b) x = read true b
@@ -58,7 +64,8 @@ abbrev mutual
   value s (counter at k) = get_or s.turns k (pos 0)
   value s (variable at k) = get_or s.state.numbers k (pos 0)
   value s (slice at is_signed r n h l) =
-      read is_signed (bits_from s.state r (natural (value s l)) (count (value s l) (value s h)))
+      read is_signed
+      (bits_from s.state r (natural (value s l)) (slice_width n (value s l) (value s h)))
   value s (element at is_signed r size k) =
       read is_signed (bits_from s.state r (natural (value s k) * size) size)
   value s (front at is_signed r width) = read is_signed (bits_from s.state r 0 width)
@@ -70,7 +77,7 @@ abbrev mutual
   -- the bits of a slice form; other expressions have none
   pub bits_in : Sight → Expr → Option Bits
   bits_in s (slice at is_signed r n h l) =
-      Some (bits_from s.state r (natural (value s l)) (count (value s l) (value s h)))
+      Some (bits_from s.state r (natural (value s l)) (slice_width n (value s l) (value s h)))
   bits_in s (element at is_signed r size k) =
       Some (bits_from s.state r (natural (value s k) * size) size)
   bits_in s (front at is_signed r width) = Some (bits_from s.state r 0 width)
