@@ -1,0 +1,10 @@
+mod Calls
+mod Covers
+mod Ends
+mod Intervals
+mod Judging
+mod Operators
+mod Statements
+mod Walking
+mod Words
+mod Writing

@@ -1,0 +1,14 @@
+//! Which operations are accepted, and what they are when they are written out.
+//!
+//! An operation is looked at in the order in which it runs, once for each immediate: `specs/Judge.antt` says what is
+//! known of its expressions, `specs/Walk.antt` of its statements, and `specs/Acceptance.antt` what is refused first. The
+//! same walk makes the script of an instance, and [`scripts_mean_their_texts`] says that the script does what the text means.
+#![tactic(auto)]
+
+pub mod fault;
+pub mod law;
+pub mod span;
+
+pub use fault::RangeFault;
+pub use law::scripts_mean_their_texts;
+pub use span::Span;

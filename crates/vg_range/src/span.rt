@@ -1,0 +1,8 @@
+//! Intervals of whole numbers.
+
+/// The whole numbers from the least to the greatest.
+#[derive(Clone, Copy, Debug, PartialEq, Eq)]
+pub struct Span {
+    pub least: i128,
+    pub greatest: i128,
+}
