@@ -4,6 +4,7 @@ mod Ends
 mod Intervals
 mod Judging
 mod Operators
+mod Resolving
 mod Statements
 mod Walking
 mod Words

@@ -6,3 +6,4 @@ pub mod Meant
 pub mod Proper
 pub mod Walk
 pub mod Words
+pub mod Written

@@ -10,5 +10,5 @@ pub mod law;
 pub mod span;
 
 pub use fault::RangeFault;
-pub use law::scripts_mean_their_texts;
+pub use law::{resolved_operations_are_proper, scripts_mean_their_texts};
 pub use span::Span;
