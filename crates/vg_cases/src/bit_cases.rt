@@ -1,7 +1,7 @@
 //! Registers: bits that are read, put and moved, and whole numbers at both ends of their widths.
 
 use std::process::Abort;
-use vg_bits::{Reg, signed, unsigned};
+use vg_bits::{Outcome, Reg, signed, unsigned};
 
 // Answers of get on bytes 0x81, in which the lowest and the highest bit are set.
 fn check_get<const B: usize>(rt: &impl Abort, rows: &[(usize, usize, u128)]) {
