@@ -1,0 +1,4 @@
+pub mod Content
+pub mod Hashed
+pub mod Laws
+pub mod Pool
