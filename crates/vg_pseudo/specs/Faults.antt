@@ -11,12 +11,12 @@ number_of_fault (Shape p) = Some 2
 number_of_fault (NestingTooDeep p) = Some 3
 number_of_fault (Memory e) = None
 
--- the name of a refusal
+-- the number and the name of a refusal, as `2 Shape`
 abbrev pub name_of_fault : PseudoFault → List ℕ
-name_of_fault (Token p) = codes "Token"
-name_of_fault (Shape p) = codes "Shape"
-name_of_fault (NestingTooDeep p) = codes "NestingTooDeep"
-name_of_fault (Memory e) = codes "Memory"
+name_of_fault (Token p) = codes "1 Token"
+name_of_fault (Shape p) = codes "2 Shape"
+name_of_fault (NestingTooDeep p) = codes "3 NestingTooDeep"
+name_of_fault (Memory e) = codes "memory"
 
 -- the place of a refusal
 abbrev pub place_of_fault : PseudoFault → Option Place

@@ -12,18 +12,18 @@ use vg_text::Place;
 #[derive(Debug, Drop, Error)]
 pub enum PseudoFault {
     /// A byte that may stand nowhere, a name of more than 64 bytes, or a number of 2^127 or more.
-    #[error("1 Token at {}:{}", .place.line, .place.column)]
+    #[error("{} at {}:{}", self.name(), .place.line, .place.column)]
     Token { place: Place },
     /// A token that does not fit what stands before it. A function or a DEFINE that is given another number of arguments
     /// than it takes is refused at its name, when the parenthesis behind them has been read.
-    #[error("2 Shape at {}:{}", .place.line, .place.column)]
+    #[error("{} at {}:{}", self.name(), .place.line, .place.column)]
     Shape { place: Place },
     /// An expression of more than 64 nodes one below the other, parentheses counted, at its first token; a statement
     /// inside 64 others, at its first token; or in a DEFINE a call of a DEFINE of depth 64, at its name.
-    #[error("3 NestingTooDeep at {}:{}", .place.line, .place.column)]
+    #[error("{} at {}:{}", self.name(), .place.line, .place.column)]
     NestingTooDeep { place: Place },
     /// There was no memory, which says nothing of the text.
-    #[error("no memory")]
+    #[error("{}", self.name())]
     Memory(AllocError),
 }
 
@@ -42,15 +42,15 @@ impl PseudoFault {
         }
     }
 
-    /// The name of the refusal.
-    pub fn name(&self) -> &'static [u8]
+    /// The number and the name of the refusal, as `2 Shape`. Want of memory is `memory`.
+    pub fn name(&self) -> &'static str
         ensures { result.now ≡ name_of_fault self.now }
     {
         match self {
-            PseudoFault::Token { .. } => b"Token",
-            PseudoFault::Shape { .. } => b"Shape",
-            PseudoFault::NestingTooDeep { .. } => b"NestingTooDeep",
-            PseudoFault::Memory(_) => b"Memory",
+            PseudoFault::Token { .. } => "1 Token",
+            PseudoFault::Shape { .. } => "2 Shape",
+            PseudoFault::NestingTooDeep { .. } => "3 NestingTooDeep",
+            PseudoFault::Memory(_) => "memory",
         }
     }
 
