@@ -1,4 +1,5 @@
 mod DefineLists
+pub mod Functions
 mod ItemLists
 mod Joins
 mod Linking

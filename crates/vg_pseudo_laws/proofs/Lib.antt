@@ -1,0 +1,9 @@
+mod BlocksFound
+mod ChoicesFound
+mod ExpressionsFound
+mod FormsFound
+mod ListsFound
+mod OperandsFound
+mod OperationsFound
+mod Standing
+mod StatementsFound

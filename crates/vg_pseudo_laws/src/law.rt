@@ -1,0 +1,9 @@
+//! The reader of operation texts against their grammar.
+
+ghost use Rattle.vg_pseudo_laws.specs.Laws.{IsSound};
+
+/// What is read as an operation is in the grammar: the words between the front of what was left and what
+/// is left behind the operation spell it.
+pub fn what_is_read_is_in_the_grammar()
+    ensures { IsSound }
+{}

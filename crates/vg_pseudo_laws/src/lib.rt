@@ -1,0 +1,6 @@
+//! Laws of the operation pseudocode, each a function that costs nothing to call.
+#![tactic(auto)]
+
+mod law;
+
+pub use law::what_is_read_is_in_the_grammar;
