@@ -3,9 +3,13 @@ mod Covers
 mod Ends
 mod Intervals
 mod Judging
+mod LastRegister
+mod Listing
 mod Operators
+mod Places
 mod Resolving
 mod Statements
+mod Stepping
 mod Walking
 mod Words
 mod Writing
