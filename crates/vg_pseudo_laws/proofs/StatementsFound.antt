@@ -25,7 +25,7 @@ item : {context : Context} {room : ℕ} {r q : Reading} {first : Spelled} {rest 
 item {context} {room} {r} {q} {first} {rest} {b} reads is = record { first = first; rest = rest; is = is; reads = reads }
 
 -- the words of a loop before others
-loop_words : (first bound inside rest : Words) (to closing : Spelled) → (first ++ to ∷ (bound ++ (inside ++ closing ∷ []))) ++ rest ≡ first ++ to ∷ (bound ++ (inside ++ closing ∷ rest))
+pub loop_words : (first bound inside rest : Words) (to closing : Spelled) → (first ++ to ∷ (bound ++ (inside ++ closing ∷ []))) ++ rest ≡ first ++ to ∷ (bound ++ (inside ++ closing ∷ rest))
 loop_words first bound inside rest to closing = simp append_assoc
 
 -- the same words are the same statements
