@@ -4,4 +4,4 @@ mod ItemLists
 mod Joins
 mod Linking
 mod Tables
-mod Taking
+pub mod Taking

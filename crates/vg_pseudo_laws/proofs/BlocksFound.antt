@@ -6,7 +6,8 @@ use Rattle.vg_pseudo.specs.Definitions.{Context}
 use Rattle.vg_pseudo.specs.Grammar.{Words, AreStatements, done}
 use Rattle.vg_pseudo.specs.Reader.{next_at, items_behind}
 use Rattle.vg_pseudo.specs.Statements.{Block, followed_by, chained, nothing, Body, statement_follows, block_at}
-use Rattle.vg_pseudo_laws.proofs.Standing.{Reads, ok_once}
+use Rattle.vg_pseudo.proofs.Taking.{ok_once}
+use Rattle.vg_pseudo_laws.proofs.Standing.{Reads}
 use Rattle.vg_pseudo_laws.proofs.ListsFound.{FoundItem, Many, nothing as no_items, another, SoundItems, items-found}
 
 -- what words with a block may be

@@ -15,7 +15,8 @@ use Rattle.vg_pseudo.specs.Grammar.{Words, Is, IsWhole, BeginsNot, AreStatements
 use Rattle.vg_pseudo.specs.Reader.{or_token, next_at, expect_at, accept_at, number_at, items_behind}
 use Rattle.vg_pseudo.specs.Expressions.{Part, whole_at}
 use Rattle.vg_pseudo.specs.Statements.{Block, chained, nothing, Body, way_at, else_if_follows, else_at, if_at, arm_follows, arm_at}
-use Rattle.vg_pseudo_laws.proofs.Standing.{Reads, ◌▷◌, no-words, Found-word, ok_once, fault-some, this-word, this-found, tested-found, expect-found}
+use Rattle.vg_pseudo.proofs.Taking.{ok_once}
+use Rattle.vg_pseudo_laws.proofs.Standing.{Reads, ◌▷◌, no-words, FoundWord, fault-some, this-word, this-found, tested-found, expect-found}
 use Rattle.vg_pseudo_laws.proofs.ListsFound.{FoundItem, Many, SoundItems, items-found}
 use Rattle.vg_pseudo_laws.proofs.ExpressionsFound.{whole-found}
 use Rattle.vg_pseudo_laws.proofs.BlocksFound.{Kind, Before, chain-found, all-found, FoundBlock, SoundBody}
@@ -63,7 +64,7 @@ else_if-found r x e =
     left : (let y : Result (Bool × Reading) PseudoFault = Ok (false, r) in y ≡ Ok x) → (x.0 ≡ false) × (x.1 ≡ r)
     left h = subst (λ (y : Bool × Reading). (y.0 ≡ false) × (y.1 ≡ r)) (ok_once _ x h) (refl, refl)
 
-    taken : (m q : Reading) → Found-word (codes "ELSE") r m → Found-word (codes "IF") m q → (let y : Result (Bool × Reading) PseudoFault = Ok (true, q) in y ≡ Ok x) → (x.0 ≡ true) × FoundElseIf r x.1
+    taken : (m q : Reading) → FoundWord (codes "ELSE") r m → FoundWord (codes "IF") m q → (let y : Result (Bool × Reading) PseudoFault = Ok (true, q) in y ≡ Ok x) → (x.0 ≡ true) × FoundElseIf r x.1
     taken m q a b h =
         subst (λ (y : Bool × Reading). (y.0 ≡ true) × FoundElseIf r y.1) (ok_once _ x h)
         (refl, record { other = a.word; again = b.word; is_other = a.is; is_again = b.is; reads = a.reads ▷ b.reads })
@@ -239,7 +240,7 @@ module _ (context : Context) (room : ℕ) (body : Body) (sound : SoundBody conte
 
   -- ways of parts that were found
   ways-whole : (r m n q : Reading) (first : Block) (ways : List Block) (other : Block) → FoundWay context room r (first, m) → (items : List Block) (words : Words) → ways ≡ first ∷ items → Many (Before (Behind context room)) words items → Reads words m n
-      → FoundTail (Behind context room) n (other, q) → (p : Reading) → Found-word (codes "FI") q p
+      → FoundTail (Behind context room) n (other, q) → (p : Reading) → FoundWord (codes "FI") q p
       → FoundWays context room r (record { statements = choose (chained ways other).statements stop; calls = (chained ways other).calls }, p)
   unfolding chained
   ways-whole r m n q first ways other f items words all many reads t p closing =

@@ -14,7 +14,8 @@ use Rattle.vg_pseudo.specs.Words.{level_of, operator_named}
 use Rattle.vg_pseudo.specs.Grammar.{tighter, joined, compared, chosen}
 use Rattle.vg_pseudo.specs.Reader.{next_at, expect_at, accept_at}
 use Rattle.vg_pseudo.specs.Expressions.{Part, Inner, operator_of, operator_at, join_at, joined_one, joined_at, compared_at, choice_at, chosen_at, behind_at, level_at, expression_at, whole_at, own_index_at}
-use Rattle.vg_pseudo_laws.proofs.Standing.{Reads, ◌▷◌, Found-word, ok_once, tested-found, expect-found, accept-found}
+use Rattle.vg_pseudo.proofs.Taking.{ok_once}
+use Rattle.vg_pseudo_laws.proofs.Standing.{Reads, ◌▷◌, FoundWord, tested-found, expect-found, accept-found}
 use Rattle.vg_pseudo_laws.proofs.FormsFound.{Found, Sound, SoundIndex}
 use Rattle.vg_pseudo_laws.proofs.OperandsFound.{operand-found}
 
@@ -125,7 +126,7 @@ module _ (context : Context) (whole : Place) (room : ℕ) (inner : Inner) (sound
         | inr none ↦ kept 4 r q o.0.1 left x (looser 3 r (left, q) f) none.1 (rw none.0 at o.2)
       ]
 
-  choice-found : (r q m : Reading) (condition : Part) (x : Part × Reading) → Found context (suc room) 7 r (condition, q) → condition.depth ≤ room → Found-word (codes "?") q m → choice_at inner condition m ≡ Ok x → Found context (suc room) 8 r x
+  choice-found : (r q m : Reading) (condition : Part) (x : Part × Reading) → Found context (suc room) 7 r (condition, q) → condition.depth ≤ room → FoundWord (codes "?") q m → choice_at inner condition m ≡ Ok x → Found context (suc room) 8 r x
   unfolding choice_at
   choice-found r q m condition x f few mark e =
       let y = bind_ok (inner 8 m) _ e in

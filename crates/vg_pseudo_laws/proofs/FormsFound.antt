@@ -13,7 +13,8 @@ use Rattle.vg_pseudo.specs.Words.{element_named}
 use Rattle.vg_pseudo.specs.Grammar.{Words, Is, IsName, IsExpression, named, sliced, indexed, placed, parted, is_target}
 use Rattle.vg_pseudo.specs.Reader.{next_at, expect_at, accept_at}
 use Rattle.vg_pseudo.specs.Expressions.{Part, Inner, Index, leaf, above_two, slice_end, bracket_at, element_end, element_at, form_at}
-use Rattle.vg_pseudo_laws.proofs.Standing.{Reads, ◌▷◌, no-words, Found-word, ok_once, fault-some, tested-found, expect-found, accept-found}
+use Rattle.vg_pseudo.proofs.Taking.{ok_once}
+use Rattle.vg_pseudo_laws.proofs.Standing.{Reads, ◌▷◌, no-words, FoundWord, fault-some, tested-found, expect-found, accept-found}
 
 -- An expression was read: its words, and how deep it is at most.
 pub record Found (context : Context) (most level : ℕ) (r : Reading) (x : Part × Reading) : Type 0 where
@@ -71,7 +72,7 @@ sliced-found context room w opening colon hs high r m n q x name_is opening_is h
     })
 
 -- brackets behind a name
-bracket-found : (context : Context) (room : ℕ) (index : Index) → SoundIndex context room index → (w : Spelled) (r m : Reading) (x : Part × Reading) → IsName w → Found-word (codes "[") r m → bracket_at index w m ≡ Ok x → FoundForm context (suc room) w r x
+bracket-found : (context : Context) (room : ℕ) (index : Index) → SoundIndex context room index → (w : Spelled) (r m : Reading) (x : Part × Reading) → IsName w → FoundWord (codes "[") r m → bracket_at index w m ≡ Ok x → FoundForm context (suc room) w r x
 unfolding bracket_at
 bracket-found context room index sound w r m x name_is opening e =
     let h = bind_ok (index m) _ e in
@@ -100,7 +101,7 @@ nothing_is_no_element : is_some (element_named []) ≡ false
 nothing_is_no_element = refl
 
 element-end-found : (context : Context) (room : ℕ) (index : Index) → SoundIndex context room index → (w text : Spelled) (size : Width) (r m n q : Reading) (x : Part × Reading)
-    → IsName w → (dot : Found-word (codes ".") r m) → element_named text.bytes ≡ Some size → Reads (text ∷ []) m n → Found-word (codes "[") n q → element_end index w size q ≡ Ok x → FoundForm context (suc room) w r x
+    → IsName w → (dot : FoundWord (codes ".") r m) → element_named text.bytes ≡ Some size → Reads (text ∷ []) m n → FoundWord (codes "[") n q → element_end index w size q ≡ Ok x → FoundForm context (suc room) w r x
 unfolding element_end
 element-end-found context room index sound w text size r m n q x name_is dot text_is second opening e =
     let k = bind_ok (index q) _ e in
@@ -116,7 +117,7 @@ element-end-found context room index sound w text size r m n q x name_is dot tex
       target = refl;
     })
 
-element-found : (context : Context) (room : ℕ) (index : Index) → SoundIndex context room index → (w : Spelled) (r m : Reading) (x : Part × Reading) → IsName w → Found-word (codes ".") r m → element_at index w m ≡ Ok x → FoundForm context (suc room) w r x
+element-found : (context : Context) (room : ℕ) (index : Index) → SoundIndex context room index → (w : Spelled) (r m : Reading) (x : Part × Reading) → IsName w → FoundWord (codes ".") r m → element_at index w m ≡ Ok x → FoundForm context (suc room) w r x
 unfolding element_at
 element-found context room index sound w r m x name_is dot e =
     let t = bind_ok (next_at m) _ e in

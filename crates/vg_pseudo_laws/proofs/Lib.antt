@@ -10,6 +10,7 @@ mod ListsAgain
 mod ListsFound
 mod OperandsAgain
 mod OperandsFound
+mod OperationsAgain
 mod OperationsFound
 mod Standing
 mod StatementsAgain

@@ -6,7 +6,8 @@ use Rattle.vg_text.specs.Words.{Reading, Spelled}
 use Rattle.vg_pseudo.specs.declared.fault.PseudoFault.{PseudoFault}
 use Rattle.vg_pseudo.specs.Grammar.{Words}
 use Rattle.vg_pseudo.specs.Reader.{unread, Follows, items_from, items_behind}
-use Rattle.vg_pseudo_laws.proofs.Standing.{Reads, ◌▷◌, no-words, Reads-fewer, ok_once}
+use Rattle.vg_pseudo.proofs.Taking.{ok_once}
+use Rattle.vg_pseudo_laws.proofs.Standing.{Reads, ◌▷◌, no-words, Reads-fewer}
 
 -- An item was read: its words, of which there is one at least, and what is said of them.
 pub record FoundItem {X : Type 0} (One : Words → X → Type 0) (r : Reading) (x : X × Reading) : Type 0 where

@@ -20,7 +20,8 @@ use Rattle.vg_pseudo.specs.Grammar.{Words, Is, IsName, Counts, IsExpression, lit
 use Rattle.vg_pseudo.specs.Reader.{next_at, expect_at, accept_at, items_behind}
 use Rattle.vg_pseudo.specs.Expressions.{Part, Inner, form_at, leaf, parenthesised_at, prefixed_at, arguments_at, function_of, function_at, linked, linked_none, call_of, counted, takes, call_at, free_at, named_at, plain_at, operand_at}
 use Rattle.vg_pseudo.proofs.Functions.{function_of-found}
-use Rattle.vg_pseudo_laws.proofs.Standing.{Reads, ◌▷◌, Found-word, ok_once, fault-some, true_fact, this-word, tested-found, expect-found, accept-found}
+use Rattle.vg_pseudo.proofs.Taking.{ok_once}
+use Rattle.vg_pseudo_laws.proofs.Standing.{Reads, ◌▷◌, FoundWord, fault-some, true_fact, this-word, tested-found, expect-found, accept-found}
 use Rattle.vg_pseudo_laws.proofs.ListsFound.{FoundItem, Many, nothing, another, SoundItems, items-found}
 use Rattle.vg_pseudo_laws.proofs.FormsFound.{Found, Sound, form-found}
 
@@ -139,7 +140,7 @@ module _ (context : Context) (room : ℕ) (inner : Inner) (sound : Sound context
   no_more none e = refl
   no_more (more comma xs rest x ps is one are) e = cc
 
-  of_one-found : (w : Spelled) (r m q : Reading) (parts : List Part × Reading) (x node : Part) (opening : Found-word (codes "(") m q) (f : FoundArguments context room q parts)
+  of_one-found : (w : Spelled) (r m q : Reading) (parts : List Part × Reading) (x node : Part) (opening : FoundWord (codes "(") m q) (f : FoundArguments context room q parts)
       → parts.0 ≡ x ∷ []
       → ((xs : Words) (closing : Spelled) → IsExpression context 8 xs x → Is closing (codes ")") → IsExpression context 0 (w ∷ opening.word ∷ (xs ++ closing ∷ [])) node)
       → node.depth ≡ x.depth + 1 → Reads (w ∷ []) r m → Found context (suc room) 0 r (node, parts.1)
@@ -175,7 +176,7 @@ module _ (context : Context) (room : ℕ) (inner : Inner) (sound : Sound context
         same = ap (λ (ws : Words). comma ∷ (xs ++ ws)) last;
       }
 
-  of_two-found : (w : Spelled) (r m q : Reading) (parts : List Part × Reading) (x y node : Part) (opening : Found-word (codes "(") m q) (f : FoundArguments context room q parts)
+  of_two-found : (w : Spelled) (r m q : Reading) (parts : List Part × Reading) (x y node : Part) (opening : FoundWord (codes "(") m q) (f : FoundArguments context room q parts)
       → parts.0 ≡ x ∷ y ∷ []
       → ((xs ys : Words) (comma closing : Spelled) → IsExpression context 8 xs x → Is comma (codes ",") → IsExpression context 8 ys y → Is closing (codes ")") → IsExpression context 0 (w ∷ opening.word ∷ (xs ++ comma ∷ (ys ++ closing ∷ []))) node)
       → node.depth ≤ suc room → Reads (w ∷ []) r m → Found context (suc room) 0 r (node, parts.1)
@@ -232,7 +233,7 @@ module _ (context : Context) (room : ℕ) (inner : Inner) (sound : Sound context
       ]
   counted-found place None calls e = sym (ok_once _ _ e)
 
-  call-found : (w : Spelled) (r m : Reading) (x : Part × Reading) → IsName w → Found-word (codes "(") r m → call_at context inner w m ≡ Ok x → (rest : Words) × IsExpression context 0 (w ∷ rest) x.0 × Reads rest r x.1 × (x.0.depth ≤ suc room)
+  call-found : (w : Spelled) (r m : Reading) (x : Part × Reading) → IsName w → FoundWord (codes "(") r m → call_at context inner w m ≡ Ok x → (rest : Words) × IsExpression context 0 (w ∷ rest) x.0 × Reads rest r x.1 × (x.0.depth ≤ suc room)
   unfolding call_at linked
   call-found w r m x name_is opening e =
       let k = bind_ok (counted context (callee_of context.known w.bytes) w.place) _ e in

@@ -14,7 +14,8 @@ use Rattle.vg_pseudo.specs.Expressions.{whole_at}
 use Rattle.vg_pseudo.specs.Statements.{statements_at}
 use Rattle.vg_pseudo.specs.Operations.{zero_at, high_at, param_at, params_at, Defined, define_at, Defines, and_define, defines_from, defines_at, operation_at}
 use Rattle.vg_pseudo.specs.Grammar.{Words, Is, IsParam, AreMoreParams, AreParams, IsDefine, AreDefines, IsOperation, IsOperationText}
-use Rattle.vg_pseudo_laws.proofs.Standing.{Reads, ◌▷◌, no-words, Found-word, ok_once, tested-found, expect-found, accept-found, name-found}
+use Rattle.vg_pseudo.proofs.Taking.{ok_once}
+use Rattle.vg_pseudo_laws.proofs.Standing.{Reads, ◌▷◌, no-words, FoundWord, tested-found, expect-found, accept-found, name-found}
 use Rattle.vg_pseudo_laws.proofs.ListsFound.{FoundItem, Many, nothing, another, SoundItems, items-found}
 use Rattle.vg_pseudo_laws.proofs.ExpressionsFound.{whole-found}
 use Rattle.vg_pseudo_laws.proofs.ChoicesFound.{FoundNumber, number-found, nothing_is_no_number}
@@ -162,7 +163,7 @@ record FoundDefine (known : List Known) (r : Reading) (x : Defined × Reading) :
   is : IsDefine known words x.0.define x.0.depth
   reads : Reads words r x.1
 
-define-found : (known : List Known) (r m : Reading) (x : Defined × Reading) → Found-word (codes "DEFINE") r m → define_at (record { known = known; inside = true }) m ≡ Ok x → FoundDefine known r x
+define-found : (known : List Known) (r m : Reading) (x : Defined × Reading) → FoundWord (codes "DEFINE") r m → define_at (record { known = known; inside = true }) m ≡ Ok x → FoundDefine known r x
 unfolding define_at
 define-found known r m x w e =
     let context : Context = record { known = known; inside = true } in

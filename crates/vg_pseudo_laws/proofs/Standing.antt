@@ -13,14 +13,7 @@ use Rattle.vg_pseudo.specs.declared.fault.PseudoFault.TheVariants.{Shape}
 use Rattle.vg_pseudo.specs.Grammar.{Words, Is, IsName, Stand}
 use Rattle.vg_pseudo.specs.Reader.{or_token, words_in, unread, next_at, expect_at, accept_at, name_at}
 use Rattle.vg_pseudo.specs.Words.{is_free}
-
--- two texts that test as the same are the same
-pub same_text : (a b : List ℕ) → bytes_eq a b ≡ true → a ≡ b
-same_text a b e = (bytes_eq-Decides a b).0 e
-
--- what went well gave one thing
-pub ok_once : {A E : Type 0} (x y : A) → (let r : Result A E = Ok x in r ≡ Ok y) → x ≡ y
-ok_once x y e = cc
+use Rattle.vg_pseudo.proofs.Taking.{same_text, ok_once, word-taken}
 
 -- what was there
 pub fault-some : {X : Type 0} (o : Option X) (f : PseudoFault) (x : X) → or_fault o f ≡ Ok x → o ≡ Some x
@@ -79,14 +72,6 @@ first-fewer w ws r q (m, read, some, rest) =
 pub Reads-fewer : {w : Spelled} {ws : Words} {r q : Reading} → Reads (w ∷ ws) r q → unread q < unread r
 Reads-fewer {w} {ws} {r} {q} h = first-fewer w ws r q h.stand
 
--- what the reader took as a word
-pub word-taken : (r : Reading) (x : Spelled × Reading) → next_at r ≡ Ok x → word_at r ≡ Ok x
-word-taken r x e = or_same (word_at r) x e
-  where
-    or_same : (y : Result (Spelled × Reading) Place) (x : Spelled × Reading) → or_token y ≡ Ok x → y ≡ Ok x
-    or_same (Ok z) x e = ap Ok (ok_once z x e)
-    or_same (Err p) x e = cc
-
 -- the end has no bytes
 end-empty : (r : Reading) (x : Spelled × Reading) → word_at r ≡ Ok x → x.0.is_end ≡ true → x.0.bytes ≡ []
 end-empty r x e k = by r.text r.left e
@@ -116,27 +101,27 @@ this-word b bs r x e t =
     (same, next-found r x e (λ none. let no_word : [] ≡ b ∷ bs = sym none ∙ same in cc))
 
 -- a word of this text
-pub record Found-word (text : List ℕ) (r q : Reading) : Type 0 where
+pub record FoundWord (text : List ℕ) (r q : Reading) : Type 0 where
   pub word : Spelled
   pub is : Is word text
   pub reads : Reads (word ∷ []) r q
 
-pub this-found : (b : ℕ) (bs : List ℕ) (r : Reading) (x : Spelled × Reading) → next_at r ≡ Ok x → bytes_eq x.0.bytes (b ∷ bs) ≡ true → Found-word (b ∷ bs) r x.1
+pub this-found : (b : ℕ) (bs : List ℕ) (r : Reading) (x : Spelled × Reading) → next_at r ≡ Ok x → bytes_eq x.0.bytes (b ∷ bs) ≡ true → FoundWord (b ∷ bs) r x.1
 this-found b bs r x e t = let w = this-word b bs r x e t in record { word = x.0; is = w.0; reads = w.1 }
 
 -- this very word
-pub expect-found : (b : ℕ) (bs : List ℕ) (r : Reading) (x : Spelled × Reading) → expect_at (b ∷ bs) r ≡ Ok x → Found-word (b ∷ bs) r x.1
+pub expect-found : (b : ℕ) (bs : List ℕ) (r : Reading) (x : Spelled × Reading) → expect_at (b ∷ bs) r ≡ Ok x → FoundWord (b ∷ bs) r x.1
 expect-found b bs r x e =
     let w = bind_ok (next_at r) _ e in
     let t = tested_ok (bytes_eq w.0.0.bytes (b ∷ bs)) (Ok w.0) (Shape w.0.0.place) w.2 in
-    subst (λ (y : Spelled × Reading). Found-word (b ∷ bs) r y.1) (ok_once w.0 x t.1) (this-found b bs r w.0 w.1 t.0)
+    subst (λ (y : Spelled × Reading). FoundWord (b ∷ bs) r y.1) (ok_once w.0 x t.1) (this-found b bs r w.0 w.1 t.0)
 
 -- whether this very word came next
-pub accept-found : (b : ℕ) (bs : List ℕ) (r : Reading) (x : Bool × Reading) → accept_at (b ∷ bs) r ≡ Ok x → ((x.0 ≡ true) × Found-word (b ∷ bs) r x.1) ⊎ ((x.0 ≡ false) × (x.1 ≡ r))
+pub accept-found : (b : ℕ) (bs : List ℕ) (r : Reading) (x : Bool × Reading) → accept_at (b ∷ bs) r ≡ Ok x → ((x.0 ≡ true) × FoundWord (b ∷ bs) r x.1) ⊎ ((x.0 ≡ false) × (x.1 ≡ r))
 accept-found b bs r x e =
     let w = bind_ok (next_at r) _ e in
     elim (either_way (bytes_eq w.0.0.bytes (b ∷ bs)) (Ok (true, w.0.1)) (Ok (false, r)) w.2) [
-      | inl is ↦ inl (subst (λ (y : Bool × Reading). (y.0 ≡ true) × Found-word (b ∷ bs) r y.1) (ok_once (true, w.0.1) x is.1) (refl, this-found b bs r w.0 w.1 is.0))
+      | inl is ↦ inl (subst (λ (y : Bool × Reading). (y.0 ≡ true) × FoundWord (b ∷ bs) r y.1) (ok_once (true, w.0.1) x is.1) (refl, this-found b bs r w.0 w.1 is.0))
       | inr other ↦ inr (subst (λ (y : Bool × Reading). (y.0 ≡ false) × (y.1 ≡ r)) (ok_once (false, r) x other.1) (refl, refl))
     ]
 

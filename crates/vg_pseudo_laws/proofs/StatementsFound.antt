@@ -13,7 +13,8 @@ use Rattle.vg_pseudo.specs.Grammar.{Words, Is, IsName, AreStatements, assigned, 
 use Rattle.vg_pseudo.specs.Reader.{next_at, expect_at, name_at, items_behind}
 use Rattle.vg_pseudo.specs.Expressions.{Part, form_at, whole_at, own_index_at}
 use Rattle.vg_pseudo.specs.Statements.{Block, chained, nothing, Body, assigned_at, above_at, above_follows, assignment_at, for_at, if_at, arm_follows, arm_at, case_at, word_at_head, block_at, statement_at, statements_at}
-use Rattle.vg_pseudo_laws.proofs.Standing.{Reads, ◌▷◌, Found-word, ok_once, true_fact, this-word, this-found, tested-found, expect-found, name-found}
+use Rattle.vg_pseudo.proofs.Taking.{ok_once}
+use Rattle.vg_pseudo_laws.proofs.Standing.{Reads, ◌▷◌, FoundWord, true_fact, this-word, this-found, tested-found, expect-found, name-found}
 use Rattle.vg_pseudo_laws.proofs.ListsFound.{FoundItem}
 use Rattle.vg_pseudo_laws.proofs.FormsFound.{FoundForm, form-found}
 use Rattle.vg_pseudo_laws.proofs.ExpressionsFound.{whole-found, own_index-found}
@@ -64,7 +65,7 @@ above_follows-found r x e =
     left : (let y : Result (Bool × Reading) PseudoFault = Ok (false, r) in y ≡ Ok x) → (x.0 ≡ false) × (x.1 ≡ r)
     left h = subst (λ (y : Bool × Reading). (y.0 ≡ false) × (y.1 ≡ r)) (ok_once _ x h) (refl, refl)
 
-    taken : (m n q : Reading) → Found-word (codes "[") r m → Found-word (codes "MAX") m n → Found-word (codes ":") n q → (let y : Result (Bool × Reading) PseudoFault = Ok (true, q) in y ≡ Ok x) → (x.0 ≡ true) × FoundAbove r x.1
+    taken : (m n q : Reading) → FoundWord (codes "[") r m → FoundWord (codes "MAX") m n → FoundWord (codes ":") n q → (let y : Result (Bool × Reading) PseudoFault = Ok (true, q) in y ≡ Ok x) → (x.0 ≡ true) × FoundAbove r x.1
     taken m n q a b c h =
         subst (λ (y : Bool × Reading). (y.0 ≡ true) × FoundAbove r y.1) (ok_once _ x h)
         (refl, record { opening = a.word; greatest = b.word; colon = c.word; is_opening = a.is; is_greatest = b.is; is_colon = c.is; reads = a.reads ▷ b.reads ▷ c.reads })
@@ -138,14 +139,14 @@ module _ (context : Context) (room : ℕ) where
         (repeated room i.0.0.calls t.calls w n.0.0 sign.word to.word closing.word first.words bound.words inside.words rest a.0.0 b.0.0 i.0.0.statements t.statements
         head.0 variable.0 sign.is (first.is, first.deep) to.is (bound.is, bound.deep) inside.are closing.is are)))
 
-    if-found : (r m : Reading) (x : Block × Reading) → Found-word (codes "IF") r m → if_at context body m ≡ Ok x → FoundItem (Before (Statement context (suc room))) r x
+    if-found : (r m : Reading) (x : Block × Reading) → FoundWord (codes "IF") r m → if_at context body m ≡ Ok x → FoundItem (Before (Statement context (suc room))) r x
     if-found r m x w e =
         let f = ways-found context room body sound m x e in
         subst (λ (b : Block). FoundItem (Before (Statement context (suc room))) r (b, x.1)) (sym f.same)
         (item (w.reads ▷ f.reads)
         (λ rest t are. simp append_assoc (chosen_way room f.calls t.calls w.word f.closing f.words rest f.ways t.statements w.is f.are f.is_closing are)))
 
-    case-found : (r m : Reading) (x : Block × Reading) → Found-word (codes "CASE") r m → case_at context body m ≡ Ok x → FoundItem (Before (Statement context (suc room))) r x
+    case-found : (r m : Reading) (x : Block × Reading) → FoundWord (codes "CASE") r m → case_at context body m ≡ Ok x → FoundItem (Before (Statement context (suc room))) r x
     unfolding case_at
     case-found r m x w e =
         let s = bind_ok (whole_at context m) _ e in

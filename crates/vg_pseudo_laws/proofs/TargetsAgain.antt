@@ -17,7 +17,8 @@ use Rattle.vg_pseudo.specs.Grammar.{Words, Is, IsName, IsExpression, IsTarget, i
 use Rattle.vg_pseudo.specs.Reader.{next_at, expect_at, accept_at}
 use Rattle.vg_pseudo.specs.Expressions.{Part, Inner, leaf, function_at, named_at, plain_at, operand_at, level_at, expression_at, own_index_at}
 use Rattle.vg_pseudo.specs.Statements.{above_follows}
-use Rattle.vg_pseudo_laws.proofs.Standing.{Reads, ok_once, same_text}
+use Rattle.vg_pseudo.proofs.Taking.{ok_once, same_text}
+use Rattle.vg_pseudo_laws.proofs.Standing.{Reads}
 use Rattle.vg_pseudo_laws.proofs.WordsAgain.{Next, next-again, no-more, Parts, split, stops, Ends, ends-text}
 use Rattle.vg_pseudo_laws.proofs.FormsAgain.{GivesIndex, GivesForm, named-form, indexed-form, sliced-form, parted-form, placed-form}
 use Rattle.vg_pseudo_laws.proofs.LanguageRead.{own_index-again}

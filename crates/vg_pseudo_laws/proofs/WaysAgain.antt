@@ -12,7 +12,8 @@ use Rattle.vg_pseudo.specs.Grammar.{Words, Is, IsWhole, BeginsNot}
 use Rattle.vg_pseudo.specs.Reader.{next_at, expect_at, accept_at, items_behind}
 use Rattle.vg_pseudo.specs.Expressions.{Part, whole_at}
 use Rattle.vg_pseudo.specs.Statements.{Block, followed_by, chained, nothing, Body, way_at, else_if_follows, else_at, if_at}
-use Rattle.vg_pseudo_laws.proofs.Standing.{Reads, ◌▷◌, Reads-fewer, same_text}
+use Rattle.vg_pseudo.proofs.Taking.{same_text}
+use Rattle.vg_pseudo_laws.proofs.Standing.{Reads, ◌▷◌, Reads-fewer}
 use Rattle.vg_pseudo_laws.proofs.WordsAgain.{Next, next-again, no-more, Parts, split, expect-again, accept-again, accept-not, Ends}
 use Rattle.vg_pseudo_laws.proofs.ListsAgain.{Steps, ended, step, steps-again}
 use Rattle.vg_pseudo_laws.proofs.LanguageRead.{whole-again}

@@ -3,4 +3,4 @@
 
 mod law;
 
-pub use law::what_is_read_is_in_the_grammar;
+pub use law::{what_is_in_the_grammar_is_read, what_is_read_is_in_the_grammar};
