@@ -1,23 +1,18 @@
 -- Statements, ways and arms that are in the language are read.
-use Rattle.std.proofs.Common.{◌≡◌, ℕ, zero, suc, ◌+◌, ◌<◌, ◌≤◌, Bool, true, false, List, [], ◌∷◌, ◌++◌, Option, Some, None, Result, Ok, Err, refl, sym, ◌∙◌, ap, subst, inl, inr, ◌⊎◌, arith}
-use Rattle.std.specs.Prelude.{codes, max, is_some, IsTrue, if◌then◌else◌, ◌||◌}
-use Rattle.std.specs.Option.{option_map_or}
+use Rattle.std.proofs.Common.{◌≡◌, ℕ, Bool, true, false, List, [], ◌∷◌, ◌++◌, Some, None, Ok, refl, sym, ◌∙◌, ap, subst, inl, inr}
+use Rattle.std.specs.Prelude.{codes, ◌||◌}
 use Rattle.std.specs.Str.{bytes_eq}
 use Rattle.std.proofs.lemmas.Bool.{cases_Bool}
-use Rattle.vg_base.specs.Bind.{◌>>=◌, or_fault}
 use Rattle.vg_base.proofs.Bind.{bind_to}
 use Rattle.vg_text.specs.Byte.{begins_digit}
 use Rattle.vg_text.specs.Words.{Reading, Spelled}
-use Rattle.vg_pseudo.specs.declared.fault.PseudoFault.{PseudoFault}
-use Rattle.vg_pseudo.specs.declared.fault.PseudoFault.TheVariants.{Shape}
-use Rattle.vg_pseudo.specs.Definitions.{Context}
 use Rattle.vg_pseudo.specs.Words.{is_free, begins_statement, number_of}
-use Rattle.vg_pseudo.specs.Grammar.{Words, Is, IsName}
-use Rattle.vg_pseudo.specs.Reader.{next_at, expect_at, accept_at, number_at}
+use Rattle.vg_pseudo.specs.Grammar.{Words, Is}
+use Rattle.vg_pseudo.specs.Reader.{next_at, expect_at, number_at}
 use Rattle.vg_pseudo.specs.Tree.{stop, arm}
-use Rattle.vg_pseudo.specs.Statements.{Block, followed_by, chained, nothing, Body, statement_follows, block_at, arm_follows, arm_at, else_if_follows}
-use Rattle.vg_pseudo_laws.proofs.Standing.{Reads, ◌▷◌, Reads-fewer}
-use Rattle.vg_pseudo_laws.proofs.WordsAgain.{Next, next-again, no-more, Parts, split, expect-again, Free, free-is, stops, Ends, ends-text, ends-name, ends-number, not_text, number-begins}
+use Rattle.vg_pseudo.specs.Statements.{Block, followed_by, chained, nothing, Body, statement_follows, block_at, arm_follows, arm_at}
+use Rattle.vg_pseudo_laws.proofs.Standing.{Reads, Reads-fewer}
+use Rattle.vg_pseudo_laws.proofs.WordsAgain.{next-again, no-more, split, expect-again, free-is, stops, Ends, ends-text, ends-number, not_text, number-begins}
 use Rattle.vg_pseudo_laws.proofs.ListsAgain.{Steps, ended, step, steps-again}
 
 -- what stands behind statements: a word that ends them
@@ -63,10 +58,10 @@ one-statement statement w ws rest b t is reads end_first others = record {
   same = ap (followed_by b) others.same;
   begins = λ r m h end. (let a = next-again h in end_first a.behind r a.next);
   steps = λ r m h over. (
-    let a = split (w ∷ ws) h in
-    let first = next-again a.first in
-    step r r a.middle m b others.items (bind_to (next_at r) _ first.next (ap (λ (t : Bool). Ok (t, r)) is)) (reads r a.middle a.first (others.begins a.middle m a.second over.ends)) (Reads-fewer a.first) (others.steps a.middle m a.second over)
-  );
+      let a = split (w ∷ ws) h in
+      let first = next-again a.first in
+      step r r a.middle m b others.items (bind_to (next_at r) _ first.next (ap (λ (t : Bool). Ok (t, r)) is)) (reads r a.middle a.first (others.begins a.middle m a.second over.ends)) (Reads-fewer a.first) (others.steps a.middle m a.second over)
+      );
 }
 
 -- a word of a text that ends statements
@@ -126,8 +121,8 @@ one-arm body w colon n ws rest b t is colon_is law others = record {
   same = ap (followed_by (record { statements = arm n b.statements stop; calls = b.calls })) others.same;
   begins = λ r m h over. (let a = next-again h in over-number w n a.behind r a.next is);
   steps = λ r m h over none. (
-    let a = split (w ∷ colon ∷ ws) h in
-    let first = next-again a.first in
-    step r r a.middle m _ others.items (bind_to (next_at r) _ first.next (rw is refl)) (arm-again body w colon n ws b r a.middle is colon_is law a.first (others.begins a.middle m a.second over)) (Reads-fewer a.first) (others.steps a.middle m a.second over none)
-  );
+      let a = split (w ∷ colon ∷ ws) h in
+      let first = next-again a.first in
+      step r r a.middle m _ others.items (bind_to (next_at r) _ first.next (rw is refl)) (arm-again body w colon n ws b r a.middle is colon_is law a.first (others.begins a.middle m a.second over)) (Reads-fewer a.first) (others.steps a.middle m a.second over none)
+      );
 }

@@ -1,9 +1,8 @@
 -- Expressions that are in the language are read. An expression of a level is read up to the operators of the level, which
 -- join it to what stands behind.
-use Rattle.std.proofs.Common.{◌≡◌, ℕ, zero, suc, ◌+◌, ◌<◌, ◌≤◌, Bool, true, false, List, [], ◌∷◌, ◌++◌, length, Option, Some, None, Result, Ok, Err, refl, sym, ◌∙◌, ap, subst, inl, inr, ◌⊎◌, arith}
-use Rattle.std.specs.Prelude.{codes, max, is_some, IsTrue, nat_le, nat_eq, if◌then◌else◌}
+use Rattle.std.proofs.Common.{◌≡◌, ℕ, zero, suc, ◌+◌, ◌<◌, ◌≤◌, false, List, ◌∷◌, ◌++◌, Option, Some, None, Result, Ok, refl, sym, ◌∙◌, subst, inl, inr, arith}
+use Rattle.std.specs.Prelude.{codes, nat_eq, if◌then◌else◌}
 use Rattle.std.specs.Option.{option_map_or}
-use Rattle.std.specs.Str.{bytes_eq}
 use Rattle.std.proofs.lemmas.Bool.{le-leb, eq-eqb, eqb-true, cases_Bool}
 use Rattle.vg_base.specs.Bind.{◌>>=◌}
 use Rattle.vg_base.proofs.Bind.{bind_to}
@@ -11,7 +10,6 @@ use Rattle.vg_text.specs.declared.place.Place.{Place}
 use Rattle.vg_text.specs.Words.{Reading, Spelled}
 use Rattle.vg_pseudo.specs.declared.operators.BinaryOp.{BinaryOp}
 use Rattle.vg_pseudo.specs.declared.fault.PseudoFault.{PseudoFault}
-use Rattle.vg_pseudo.specs.declared.fault.PseudoFault.TheVariants.{NestingTooDeep}
 use Rattle.vg_pseudo.specs.Tree.{binary, choice}
 use Rattle.vg_pseudo.specs.Spots.{spot_at, outer_of}
 use Rattle.vg_pseudo.specs.Definitions.{Context}
@@ -20,7 +18,7 @@ use Rattle.vg_pseudo.specs.Grammar.{Words, Is}
 use Rattle.vg_pseudo.specs.Reader.{next_at, expect_at, accept_at}
 use Rattle.vg_pseudo.specs.Expressions.{Part, Inner, above_two, above_three, operator_of, operator_at, join_at, joined_one, joined_at, compared_at, choice_at, chosen_at, behind_at, level_at, expression_at}
 use Rattle.vg_pseudo_laws.proofs.Standing.{Reads}
-use Rattle.vg_pseudo_laws.proofs.WordsAgain.{Next, next-again, Parts, split, expect-again, accept-again, accept-not, Ends, ends-tighter, ends-text, ends-operator, ends-mark}
+use Rattle.vg_pseudo_laws.proofs.WordsAgain.{next-again, split, expect-again, accept-again, accept-not, Ends, ends-tighter, ends-text, ends-operator, ends-mark}
 use Rattle.vg_pseudo_laws.proofs.OperandsAgain.{Gives, GivesOperand}
 
 -- the operator of a word that binds as this level does
@@ -161,9 +159,9 @@ module _ (context : Context) where
       let reaches = joined-reaches op w level xs ys x y left named binds right in
       record {
         closes = λ whole room r m h end deep. (
-          let f = reaches repeats whole room r m h (ends-tighter level m end few) deep in
-          f.read ∙ joined-ends whole (expression_at context whole room) room level f.joins _ m end
-        );
+            let f = reaches repeats whole room r m h (ends-tighter level m end few) deep in
+            f.read ∙ joined-ends whole (expression_at context whole room) room level f.joins _ m end
+            );
         reaches = reaches;
         some = omega arith;
       }
@@ -173,12 +171,12 @@ module _ (context : Context) where
   unfolding level_at compared_at
   compared-law op w xs ys x y left named binds right = record {
     closes = λ whole room r m h end deep. (
-      let a = split xs h in
-      let b = next-again a.second in
-      bind_to (at_level whole room 3 r) _ (left.closes whole room r a.middle a.first (ends-operator 3 op w b.behind a.middle b.next named (omega arith)) (omega arith))
-      (bind_to (operator_at 4 a.middle) _ (operator-taken 4 w a.middle b.behind op b.next (operator-is 4 w.bytes op named binds))
-      (one-joined whole (expression_at context whole room) room 3 x op ys y b.behind m (omega arith) (gives 3 ys y right whole room (omega arith)) b.rest (ends-tighter 3 m end (omega arith))))
-    );
+        let a = split xs h in
+        let b = next-again a.second in
+        bind_to (at_level whole room 3 r) _ (left.closes whole room r a.middle a.first (ends-operator 3 op w b.behind a.middle b.next named (omega arith)) (omega arith))
+        (bind_to (operator_at 4 a.middle) _ (operator-taken 4 w a.middle b.behind op b.next (operator-is 4 w.bytes op named binds))
+        (one-joined whole (expression_at context whole room) room 3 x op ys y b.behind m (omega arith) (gives 3 ys y right whole room (omega arith)) b.rest (ends-tighter 3 m end (omega arith))))
+        );
     reaches = λ other. absurd (other.0 refl);
     some = omega arith;
   }
@@ -188,18 +186,18 @@ module _ (context : Context) where
   unfolding level_at chosen_at choice_at
   chosen-law mark colon cs xs ys c x y condition mark_is first colon_is second = record {
     closes = λ whole room r m h end deep. (
-      let a = split cs h in
-      let b = next-again a.second in
-      let d = split xs b.rest in
-      let e = next-again d.second in
-      let fits : c.depth ≤ room = omega arith in
-      bind_to (at_level whole room 7 r) _ (condition.closes whole room r a.middle a.first (ends-mark mark b.behind a.middle b.next mark_is) (omega arith))
-      (bind_to (accept_at (codes "?") a.middle) _ (accept-again (codes "?") mark a.middle b.behind mark_is b.next)
-      (rw (le-leb c.depth room fits)
-      (bind_to (expression_at context whole room 8 b.behind) _ (gives 8 xs x first whole room (omega arith) b.behind d.middle d.first (ends-text 8 (codes ":") colon e.behind d.middle e.next colon_is refl))
-      (bind_to (expect_at (codes ":") d.middle) _ (expect-again (codes ":") colon d.middle e.behind colon_is e.next)
-      (bind_to (expression_at context whole room 8 e.behind) _ (gives 8 ys y second whole room (omega arith) e.behind m e.rest end) refl)))))
-    );
+        let a = split cs h in
+        let b = next-again a.second in
+        let d = split xs b.rest in
+        let e = next-again d.second in
+        let fits : c.depth ≤ room = omega arith in
+        bind_to (at_level whole room 7 r) _ (condition.closes whole room r a.middle a.first (ends-mark mark b.behind a.middle b.next mark_is) (omega arith))
+        (bind_to (accept_at (codes "?") a.middle) _ (accept-again (codes "?") mark a.middle b.behind mark_is b.next)
+        (rw (le-leb c.depth room fits)
+        (bind_to (expression_at context whole room 8 b.behind) _ (gives 8 xs x first whole room (omega arith) b.behind d.middle d.first (ends-text 8 (codes ":") colon e.behind d.middle e.next colon_is refl))
+        (bind_to (expect_at (codes ":") d.middle) _ (expect-again (codes ":") colon d.middle e.behind colon_is e.next)
+        (bind_to (expression_at context whole room 8 e.behind) _ (gives 8 ys y second whole room (omega arith) e.behind m e.rest end) refl)))))
+        );
     reaches = λ other. absurd (other.1 refl);
     some = omega arith;
   }

@@ -1,8 +1,8 @@
 -- Forms that begin with a name are read.
-use Rattle.std.proofs.Common.{◌≡◌, ℕ, suc, ◌+◌, ◌≤◌, Bool, true, false, List, [], ◌∷◌, ◌++◌, Some, Result, Ok, refl, sym, ◌∙◌, ap, subst, arith}
+use Rattle.std.proofs.Common.{◌≡◌, ℕ, false, List, [], ◌∷◌, ◌++◌, Some, Ok, refl, ◌∙◌, ap}
 use Rattle.std.specs.Prelude.{codes}
 use Rattle.std.specs.Str.{bytes_eq}
-use Rattle.vg_base.specs.Bind.{◌>>=◌, or_fault}
+use Rattle.vg_base.specs.Bind.{or_fault}
 use Rattle.vg_base.proofs.Bind.{bind_to}
 use Rattle.vg_base.specs.declared.width.Width.{Width}
 use Rattle.vg_text.specs.Words.{Reading, Spelled}
@@ -14,7 +14,7 @@ use Rattle.vg_pseudo.specs.Grammar.{Words, Is}
 use Rattle.vg_pseudo.specs.Reader.{next_at, expect_at, accept_at}
 use Rattle.vg_pseudo.specs.Expressions.{Part, Index, leaf, above_one, above_two, slice_end, bracket_at, element_end, element_at, form_at}
 use Rattle.vg_pseudo_laws.proofs.Standing.{Reads}
-use Rattle.vg_pseudo_laws.proofs.WordsAgain.{Next, next-again, no-more, Parts, split, expect-again, accept-again, accept-not, Ends, ends-text}
+use Rattle.vg_pseudo_laws.proofs.WordsAgain.{next-again, no-more, split, expect-again, accept-again, accept-not, Ends, ends-text}
 
 -- an index of these words is read
 abbrev pub GivesIndex : Index → Words → Part → Type 0

@@ -1,6 +1,6 @@
 -- Each expression of the language is read.
-use Rattle.std.proofs.Common.{◌≡◌, ℕ, zero, suc, ◌+◌, ◌<◌, ◌≤◌, Bool, true, false, List, [], ◌∷◌, ◌++◌, length, Some, Ok, refl, sym, ◌∙◌, ap, subst, arith, append-nil}
-use Rattle.std.specs.Prelude.{codes, max}
+use Rattle.std.proofs.Common.{◌≡◌, ℕ, zero, suc, ◌≤◌, true, false, List, [], ◌∷◌, ◌++◌, length, Some, Ok, refl, ◌∙◌, ap, subst, arith, append-nil}
+use Rattle.std.specs.Prelude.{codes}
 use Rattle.std.specs.Str.{bytes_eq}
 use Rattle.vg_base.proofs.Bind.{bind_to, bind_ok}
 use Rattle.vg_base.specs.declared.width.Width.{Width}
@@ -18,8 +18,8 @@ use Rattle.vg_pseudo.specs.Reader.{next_at, accept_at}
 use Rattle.vg_pseudo.specs.Expressions.{Part, Inner, level_at, operand_at, above_one, above_two, function_of, linked, linked_none, call_of, takes, expression_at, whole_at, own_index_at}
 use Rattle.vg_pseudo_laws.proofs.Standing.{Reads}
 use Rattle.vg_pseudo_laws.proofs.WordsAgain.{next-again, no-more, accept-not, Ends}
-use Rattle.vg_pseudo_laws.proofs.FormsAgain.{GivesIndex, GivesForm, named-form, indexed-form, sliced-form, parted-form, placed-form}
-use Rattle.vg_pseudo_laws.proofs.OperandsAgain.{Gives, GivesOperand, GivesArguments, literal-operand, form-operand, parenthesised-operand, prefixed-operand, function-operand, called-operand, GivesMore, no-arguments, more-arguments, arguments-again}
+use Rattle.vg_pseudo_laws.proofs.FormsAgain.{GivesIndex, named-form, indexed-form, sliced-form, parted-form, placed-form}
+use Rattle.vg_pseudo_laws.proofs.OperandsAgain.{Gives, GivesArguments, literal-operand, form-operand, parenthesised-operand, prefixed-operand, function-operand, called-operand, GivesMore, no-arguments, more-arguments, arguments-again}
 use Rattle.vg_pseudo_laws.proofs.ExpressionsAgain.{Law, Repeats, gives, operand-law, tighter-law, joined-law, compared-law, chosen-law}
 
 -- what stands behind a name is no call

@@ -1,6 +1,5 @@
 -- Lists of items are read, one item after the other.
-use Rattle.std.proofs.Common.{◌≡◌, ℕ, zero, suc, ◌<◌, Bool, true, false, List, [], ◌∷◌, ◌++◌, Result, Ok, refl, sym, ◌∙◌, ap, subst, arith, append_assoc, append-nil}
-use Rattle.vg_base.specs.Bind.{◌>>=◌}
+use Rattle.std.proofs.Common.{◌≡◌, ℕ, zero, suc, ◌<◌, true, false, List, [], ◌∷◌, ◌++◌, Result, Ok, sym, ◌∙◌, ap, arith, append_assoc, append-nil}
 use Rattle.vg_base.proofs.Bind.{bind_to}
 use Rattle.vg_text.specs.Words.{Reading}
 use Rattle.vg_pseudo.specs.declared.fault.PseudoFault.{PseudoFault}

@@ -1,28 +1,24 @@
 -- Operands that are in the language are read.
-use Rattle.std.proofs.Common.{◌≡◌, ℕ, zero, suc, ◌+◌, ◌<◌, ◌≤◌, Bool, true, false, List, [], ◌∷◌, ◌++◌, length, Option, Some, None, Result, Ok, Err, refl, sym, ◌∙◌, ap, subst, inl, inr, ◌⊎◌, arith}
-use Rattle.std.specs.Prelude.{codes, max, is_some, IsTrue, nat_lt, if◌then◌else◌, not}
+use Rattle.std.proofs.Common.{◌≡◌, ℕ, Bool, true, false, List, [], ◌∷◌, ◌++◌, length, Option, Some, None, Result, Ok, Err, refl, sym, ap, subst, inl, inr}
+use Rattle.std.specs.Prelude.{codes, is_some, if◌then◌else◌}
 use Rattle.std.specs.Option.{option_map_or}
 use Rattle.std.specs.Str.{bytes_eq}
 use Rattle.std.proofs.lemmas.Bool.{lt-ltb}
-use Rattle.vg_base.specs.Bind.{◌>>=◌, or_fault}
 use Rattle.vg_base.proofs.Bind.{bind_to}
-use Rattle.vg_text.specs.declared.place.Place.{Place}
-use Rattle.vg_text.specs.Number.{decimal_value}
 use Rattle.vg_text.specs.Byte.{begins_digit}
 use Rattle.vg_text.specs.Words.{Reading, Spelled}
 use Rattle.vg_pseudo.specs.declared.operators.UnaryOp.{UnaryOp}
-use Rattle.vg_pseudo.specs.declared.operators.BinaryOp.{BinaryOp}
 use Rattle.vg_pseudo.specs.declared.fault.PseudoFault.{PseudoFault}
 use Rattle.vg_pseudo.specs.declared.fault.PseudoFault.TheVariants.{Shape}
-use Rattle.vg_pseudo.specs.Tree.{number, unary, binary}
+use Rattle.vg_pseudo.specs.Tree.{number, unary}
 use Rattle.vg_pseudo.specs.Spots.{spot_at, with_outer}
 use Rattle.vg_pseudo.specs.Definitions.{Context, callee_of}
 use Rattle.vg_pseudo.specs.Words.{prefix_named, function_named, number_of, is_free}
-use Rattle.vg_pseudo.specs.Grammar.{Words, Is, IsName, Counts, IsExpression, AreMore}
+use Rattle.vg_pseudo.specs.Grammar.{Words, Is, IsName, Counts}
 use Rattle.vg_pseudo.specs.Reader.{next_at, expect_at, accept_at, items_behind}
-use Rattle.vg_pseudo.specs.Expressions.{Part, Inner, Linked, form_at, leaf, above_one, above_two, parenthesised_at, prefixed_at, arguments_at, function_of, function_at, linked, linked_none, call_of, counted, takes, call_at, free_at, named_at, plain_at, operand_at}
+use Rattle.vg_pseudo.specs.Expressions.{Part, Inner, leaf, above_one, parenthesised_at, prefixed_at, arguments_at, function_of, function_at, linked, linked_none, call_of, counted, takes, call_at, free_at, named_at, plain_at, operand_at}
 use Rattle.vg_pseudo_laws.proofs.Standing.{Reads, ◌▷◌, Reads-fewer}
-use Rattle.vg_pseudo_laws.proofs.WordsAgain.{Next, next-again, no-more, Parts, split, expect-again, accept-again, accept-not, not_text, number-begins, number-digit, prefix-not, Free, free-is, Named, function-is, Ends, ends-text}
+use Rattle.vg_pseudo_laws.proofs.WordsAgain.{next-again, no-more, split, expect-again, accept-again, accept-not, not_text, number-begins, prefix-not, free-is, function-is, Ends, ends-text}
 use Rattle.vg_pseudo_laws.proofs.ListsAgain.{Steps, ended, step, steps-again}
 use Rattle.vg_pseudo_laws.proofs.FormsAgain.{GivesForm}
 

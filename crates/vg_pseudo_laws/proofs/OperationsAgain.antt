@@ -1,25 +1,23 @@
 -- Operations that are in the language are read.
-use Rattle.std.proofs.Common.{◌≡◌, ℕ, zero, suc, ◌+◌, ◌<◌, ◌≤◌, Bool, true, false, List, [], ◌∷◌, ◌++◌, length, Option, Some, None, Result, Ok, Err, refl, sym, ◌∙◌, ap, subst, arith, append_assoc, append-nil}
-use Rattle.std.specs.Prelude.{codes, max, nat_eq, is_some, IsTrue, if◌then◌else◌}
+use Rattle.std.proofs.Common.{◌≡◌, ℕ, zero, suc, ◌+◌, ◌<◌, true, false, List, [], ◌∷◌, ◌++◌, Option, Some, None, Ok, refl, sym, ◌∙◌, ap, subst, arith, append_assoc, append-nil}
+use Rattle.std.specs.Prelude.{codes, max, is_some, IsTrue}
 use Rattle.std.specs.Str.{bytes_eq}
-use Rattle.vg_base.specs.Bind.{◌>>=◌}
 use Rattle.vg_base.proofs.Bind.{bind_to}
 use Rattle.vg_text.specs.Words.{Reading, Spelled}
 use Rattle.vg_pseudo.specs.declared.operation.DefineParam.{DefineParam}
-use Rattle.vg_pseudo.specs.declared.fault.PseudoFault.{PseudoFault}
 use Rattle.vg_pseudo.specs.Tree.{Statements, Define, Operation}
-use Rattle.vg_pseudo.specs.Definitions.{Known, Context, with_callee}
+use Rattle.vg_pseudo.specs.Definitions.{Known, Context}
 use Rattle.vg_pseudo.specs.Words.{is_free, number_of}
 use Rattle.vg_pseudo.specs.Reader.{next_at, expect_at, accept_at, name_at, number_at, items_behind, unread}
 use Rattle.vg_pseudo.specs.Expressions.{whole_at}
 use Rattle.vg_pseudo.specs.Statements.{statements_at}
-use Rattle.vg_pseudo.specs.Operations.{zero_at, high_at, param_at, params_at, Defined, define_at, callee, Defines, and_define, defines_from, defines_at, operation_at}
+use Rattle.vg_pseudo.specs.Operations.{zero_at, high_at, param_at, params_at, Defined, define_at, Defines, and_define, defines_from, defines_at, operation_at}
 use Rattle.vg_pseudo.specs.Grammar.{Words, Is, IsName, IsParam, AreMoreParams, AreParams, IsDefine, AreDefines, IsOperation, IsOperationText, AreStatements, done, assigned, assigned_above, repeated, chosen_way, picked_arm}
 use Rattle.vg_pseudo_laws.proofs.Standing.{Reads, ◌▷◌, Reads-fewer}
-use Rattle.vg_pseudo_laws.proofs.WordsAgain.{Next, next-again, no-more, Parts, split, expect-again, accept-again, accept-not, name-again, not_text, Ends, ends-text}
+use Rattle.vg_pseudo_laws.proofs.WordsAgain.{next-again, no-more, split, expect-again, accept-again, accept-not, name-again, not_text, ends-text}
 use Rattle.vg_pseudo_laws.proofs.ListsAgain.{Steps, ended, step, steps-again}
 use Rattle.vg_pseudo_laws.proofs.LanguageRead.{whole-again}
-use Rattle.vg_pseudo_laws.proofs.BlocksAgain.{Over, over-text, number-again}
+use Rattle.vg_pseudo_laws.proofs.BlocksAgain.{over-text, number-again}
 use Rattle.vg_pseudo_laws.proofs.StatementsAgain.{statements-again}
 
 zero-again : (w : Spelled) (r n : Reading) → number_of w.bytes ≡ Some 0 → next_at r ≡ Ok (w, n) → zero_at r ≡ Ok (0, n)
@@ -112,12 +110,11 @@ params-again (p ∷ ps) ws vs closing (front, rest, is_p, are, same) is r m h =
     let a = split ws h in
     let b = split front (subst (λ (us : Words). Reads us r a.middle) same a.first) in
     let c = next-again a.second in
-    let others = params-steps ps rest are b.middle a.middle b.second (record { word = closing; behind = c.behind; next = c.next; is = is }) in
-    (
+    let others = params-steps ps rest are b.middle a.middle b.second (record { word = closing; behind = c.behind; next = c.next; is = is }) in (
       c.behind,
       bind_to (param_at r) _ (param-again front p is_p r b.middle b.first others.begins)
-      (bind_to (items_behind (accept_at (codes ",")) param_at (p ∷ []) b.middle) _ (steps-again (accept_at (codes ",")) param_at (p ∷ []) others.steps)
-      (bind_to (expect_at (codes ")") a.middle) _ (expect-again (codes ")") closing a.middle c.behind is c.next) refl)),
+          (bind_to (items_behind (accept_at (codes ",")) param_at (p ∷ []) b.middle) _ (steps-again (accept_at (codes ",")) param_at (p ∷ []) others.steps)
+          (bind_to (expect_at (codes ")") a.middle) _ (expect-again (codes ")") closing a.middle c.behind is c.next) refl)),
       c.rest,
     )
 
@@ -151,14 +148,14 @@ define-again known ws d depth is r m h0 =
       behind = a.behind;
       follows = accept-again (codes "DEFINE") is.first r a.behind is.is_first a.next;
       read = bind_to (name_at a.behind) _ (name-again is.named a.behind b.behind is.is_name b.next)
-      (bind_to (expect_at (codes "(") b.behind) _ (expect-again (codes "(") is.opening b.behind c.behind is.is_opening c.next)
-      (bind_to (params_at c.behind) _ p.1
-      (bind_to (expect_at (codes "{") p.0) _ (expect-again (codes "{") is.begin p.0 e.behind is.is_begin e.next)
-      (bind_to (statements_at context e.behind) _ (statements-again context is.inside d.body is.calls is.statements e.behind i.middle i.first over)
-      (bind_to (expect_at (codes "RETURN") i.middle) _ (expect-again (codes "RETURN") is.return i.middle k.behind is.is_return k.next)
-      (bind_to (whole_at context k.behind) _ (whole-again context is.back is.answer is.is_answer k.behind w.middle w.first (ends-text 8 (codes "}") is.end z.behind w.middle z.next is.is_end refl))
-      (bind_to (expect_at (codes "}") w.middle) _ (expect-again (codes "}") is.end w.middle z.behind is.is_end z.next)
-      (ap (λ (x : Defined). Ok (x, z.behind)) same ∙ ap (λ (q : Reading). Ok (record { define = d; depth = depth }, q)) (no-more z.rest)))))))));
+          (bind_to (expect_at (codes "(") b.behind) _ (expect-again (codes "(") is.opening b.behind c.behind is.is_opening c.next)
+          (bind_to (params_at c.behind) _ p.1
+          (bind_to (expect_at (codes "{") p.0) _ (expect-again (codes "{") is.begin p.0 e.behind is.is_begin e.next)
+          (bind_to (statements_at context e.behind) _ (statements-again context is.inside d.body is.calls is.statements e.behind i.middle i.first over)
+          (bind_to (expect_at (codes "RETURN") i.middle) _ (expect-again (codes "RETURN") is.return i.middle k.behind is.is_return k.next)
+          (bind_to (whole_at context k.behind) _ (whole-again context is.back is.answer is.is_answer k.behind w.middle w.first (ends-text 8 (codes "}") is.end z.behind w.middle z.next is.is_end refl))
+          (bind_to (expect_at (codes "}") w.middle) _ (expect-again (codes "}") is.end w.middle z.behind is.is_end z.next)
+          (ap (λ (x : Defined). Ok (x, z.behind)) same ∙ ap (λ (q : Reading). Ok (record { define = d; depth = depth }, q)) (no-more z.rest)))))))));
       fewer = Reads-fewer h;
     }
 

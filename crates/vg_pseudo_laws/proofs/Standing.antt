@@ -1,17 +1,15 @@
 -- The words between two moments of reading, and single words read from left to right.
-use Rattle.std.proofs.Common.{◌≡◌, ℕ, ◌<◌, ◌≤◌, Bool, true, false, List, [], ◌∷◌, ◌++◌, Option, Some, None, Result, Ok, Err, refl, sym, ◌∙◌, ap, subst, inl, inr, ◌⊎◌, arith}
+use Rattle.std.proofs.Common.{◌≡◌, ℕ, ◌<◌, ◌≤◌, Bool, true, false, List, [], ◌∷◌, ◌++◌, Option, Some, None, Ok, refl, sym, ◌∙◌, ap, subst, inl, inr, ◌⊎◌, arith}
 use Rattle.std.specs.Prelude.{IsTrue}
 use Rattle.std.specs.Str.{bytes_eq}
-use Rattle.std.proofs.lemmas.Slice.Eq.{bytes_eq-Decides}
 use Rattle.vg_base.specs.Bind.{or_fault}
 use Rattle.vg_base.proofs.Bind.{bind_ok, tested_ok, either_way}
-use Rattle.vg_text.specs.declared.place.Place.{Place}
 use Rattle.vg_text.specs.Token.{Lexemes, token, finish, fault}
 use Rattle.vg_text.specs.Words.{Reading, Spelled, word_at, word_from}
 use Rattle.vg_pseudo.specs.declared.fault.PseudoFault.{PseudoFault}
 use Rattle.vg_pseudo.specs.declared.fault.PseudoFault.TheVariants.{Shape}
 use Rattle.vg_pseudo.specs.Grammar.{Words, Is, IsName, Stand}
-use Rattle.vg_pseudo.specs.Reader.{or_token, words_in, unread, next_at, expect_at, accept_at, name_at}
+use Rattle.vg_pseudo.specs.Reader.{words_in, unread, next_at, expect_at, accept_at, name_at}
 use Rattle.vg_pseudo.specs.Words.{is_free}
 use Rattle.vg_pseudo.proofs.Taking.{same_text, ok_once, word-taken}
 

@@ -1,24 +1,21 @@
 -- Statements that are in the language are read.
-use Rattle.std.proofs.Common.{◌≡◌, ℕ, zero, suc, ◌+◌, ◌<◌, ◌≤◌, Bool, true, false, List, [], ◌∷◌, ◌++◌, Option, Some, None, Result, Ok, Err, refl, sym, ◌∙◌, ap, subst, arith, append_assoc, append-nil}
-use Rattle.std.specs.Prelude.{codes, max, is_some, IsTrue, if◌then◌else◌, ◌||◌}
+use Rattle.std.proofs.Common.{◌≡◌, ℕ, suc, Bool, true, false, List, [], ◌∷◌, ◌++◌, Ok, refl, ◌∙◌, ap, subst, append_assoc}
+use Rattle.std.specs.Prelude.{codes, max, if◌then◌else◌, ◌||◌}
 use Rattle.std.specs.Option.{option_map_or}
 use Rattle.std.specs.Str.{bytes_eq}
-use Rattle.vg_base.specs.Bind.{◌>>=◌}
 use Rattle.vg_base.proofs.Bind.{bind_to}
 use Rattle.vg_text.specs.Number.{decimal_value}
 use Rattle.vg_text.specs.Words.{Reading, Spelled}
-use Rattle.vg_pseudo.specs.declared.fault.PseudoFault.{PseudoFault}
-use Rattle.vg_pseudo.specs.declared.fault.PseudoFault.TheVariants.{Shape}
-use Rattle.vg_pseudo.specs.Tree.{Expression, Statements, stop, assign, above, repeat, choose, pick}
+use Rattle.vg_pseudo.specs.Tree.{Statements, stop, assign, above, repeat, pick}
 use Rattle.vg_pseudo.specs.Definitions.{Context}
 use Rattle.vg_pseudo.specs.Words.{is_free, begins_statement, number_of}
-use Rattle.vg_pseudo.specs.Grammar.{Words, Is, IsName, IsWhole, IsOwnIndex, IsTarget, AreStatements, done, assigned, assigned_above, repeated, chosen_way, picked_arm, AreWays, last_way, way_and_else, way_and_more, AreArms, no_arm, arm_and_more}
-use Rattle.vg_pseudo.specs.Reader.{next_at, expect_at, accept_at, name_at, items_behind}
+use Rattle.vg_pseudo.specs.Grammar.{Words, Is, IsName, IsWhole, IsOwnIndex, AreStatements, done, assigned, assigned_above, repeated, chosen_way, picked_arm, AreWays, last_way, way_and_else, way_and_more, AreArms, no_arm, arm_and_more}
+use Rattle.vg_pseudo.specs.Reader.{next_at, expect_at, name_at, items_behind}
 use Rattle.vg_pseudo.specs.Expressions.{Part, form_at, whole_at, own_index_at}
-use Rattle.vg_pseudo.specs.Statements.{Block, followed_by, chained, nothing, Body, assigned_at, above_at, above_follows, assignment_at, for_at, if_at, arm_follows, arm_at, case_at, word_at_head, block_at, statement_at, statements_at}
+use Rattle.vg_pseudo.specs.Statements.{Block, followed_by, Body, assigned_at, above_at, above_follows, assignment_at, for_at, if_at, arm_follows, arm_at, case_at, word_at_head, block_at, statement_at, statements_at}
 use Rattle.vg_pseudo_laws.proofs.Standing.{Reads}
 use Rattle.vg_pseudo_laws.proofs.StatementsFound.{loop_words}
-use Rattle.vg_pseudo_laws.proofs.WordsAgain.{Next, next-again, no-more, Parts, split, expect-again, name-again, not_text, Ends, ends-text, ends-name}
+use Rattle.vg_pseudo_laws.proofs.WordsAgain.{next-again, no-more, split, expect-again, name-again, not_text, Ends, ends-text, ends-name}
 use Rattle.vg_pseudo_laws.proofs.ListsAgain.{steps-again}
 use Rattle.vg_pseudo_laws.proofs.LanguageRead.{whole-again, own_index-again}
 use Rattle.vg_pseudo_laws.proofs.BlocksAgain.{Over, over-text, GivesBlock, block-again, no-statements, one-statement, GivesArms, no-arms, one-arm}

@@ -1,10 +1,8 @@
 -- Targets of assignments are read.
-use Rattle.std.proofs.Common.{◌≡◌, ℕ, zero, suc, ◌+◌, ◌<◌, ◌≤◌, Bool, true, false, List, [], ◌∷◌, ◌++◌, Option, Some, None, Result, Ok, Err, refl, sym, ◌∙◌, ap, subst, inl, inr, arith}
-use Rattle.std.specs.Prelude.{codes, max, is_some, IsTrue, if◌then◌else◌}
-use Rattle.std.specs.Option.{option_map_or}
+use Rattle.std.proofs.Common.{◌≡◌, ℕ, zero, suc, ◌≤◌, true, false, List, [], ◌∷◌, ◌++◌, Ok, refl, sym, ◌∙◌, ap, subst, inl, inr, arith}
+use Rattle.std.specs.Prelude.{codes, IsTrue}
 use Rattle.std.specs.Str.{bytes_eq}
 use Rattle.std.proofs.lemmas.Bool.{cases_Bool}
-use Rattle.vg_base.specs.Bind.{◌>>=◌}
 use Rattle.vg_base.proofs.Bind.{bind_to, bind_ok, tested_ok, either_way}
 use Rattle.vg_text.specs.Words.{Reading, Spelled}
 use Rattle.vg_text.specs.declared.place.Place.{Place}
@@ -12,14 +10,14 @@ use Rattle.vg_text.specs.Number.{decimal_value}
 use Rattle.vg_pseudo.specs.Tree.{name}
 use Rattle.vg_pseudo.specs.Spots.{spot_at}
 use Rattle.vg_pseudo.specs.Definitions.{Context}
-use Rattle.vg_pseudo.specs.Words.{is_free, function_named}
-use Rattle.vg_pseudo.specs.Grammar.{Words, Is, IsName, IsExpression, IsTarget, is_target, literal, named, sliced, indexed, placed, parted, parenthesised, prefixed, function_of_one, function_of_two, called, tighter, joined, compared, chosen}
-use Rattle.vg_pseudo.specs.Reader.{next_at, expect_at, accept_at}
-use Rattle.vg_pseudo.specs.Expressions.{Part, Inner, leaf, function_at, named_at, plain_at, operand_at, level_at, expression_at, own_index_at}
+use Rattle.vg_pseudo.specs.Words.{is_free}
+use Rattle.vg_pseudo.specs.Grammar.{Words, Is, IsName, IsExpression, is_target, literal, named, sliced, indexed, placed, parted, parenthesised, prefixed, function_of_one, function_of_two, called, tighter, joined, compared, chosen}
+use Rattle.vg_pseudo.specs.Reader.{next_at, expect_at}
+use Rattle.vg_pseudo.specs.Expressions.{Part, Inner, leaf, function_at, plain_at, operand_at, level_at, expression_at, own_index_at}
 use Rattle.vg_pseudo.specs.Statements.{above_follows}
 use Rattle.vg_pseudo.proofs.Taking.{ok_once, same_text}
 use Rattle.vg_pseudo_laws.proofs.Standing.{Reads}
-use Rattle.vg_pseudo_laws.proofs.WordsAgain.{Next, next-again, no-more, Parts, split, stops, Ends, ends-text}
+use Rattle.vg_pseudo_laws.proofs.WordsAgain.{next-again, no-more, split, stops, Ends, ends-text}
 use Rattle.vg_pseudo_laws.proofs.FormsAgain.{GivesIndex, GivesForm, named-form, indexed-form, sliced-form, parted-form, placed-form}
 use Rattle.vg_pseudo_laws.proofs.LanguageRead.{own_index-again}
 

@@ -1,20 +1,19 @@
 -- The ways of an IF are read.
-use Rattle.std.proofs.Common.{◌≡◌, ℕ, zero, suc, ◌+◌, ◌<◌, ◌≤◌, Bool, true, false, List, [], ◌∷◌, ◌++◌, Option, Some, None, Result, Ok, Err, refl, sym, ◌∙◌, ap, subst, inl, inr, arith}
-use Rattle.std.specs.Prelude.{codes, max, if◌then◌else◌}
+use Rattle.std.proofs.Common.{◌≡◌, ℕ, true, false, List, [], ◌∷◌, ◌++◌, Ok, refl, ◌∙◌, ap, inl, inr, arith}
+use Rattle.std.specs.Prelude.{codes, max}
 use Rattle.std.specs.Str.{bytes_eq}
 use Rattle.std.proofs.lemmas.Bool.{cases_Bool}
-use Rattle.vg_base.specs.Bind.{◌>>=◌}
 use Rattle.vg_base.proofs.Bind.{bind_to}
 use Rattle.vg_text.specs.Words.{Reading, Spelled}
-use Rattle.vg_pseudo.specs.Tree.{Statements, stop, way, last, choose}
+use Rattle.vg_pseudo.specs.Tree.{stop, way, last, choose}
 use Rattle.vg_pseudo.specs.Definitions.{Context}
 use Rattle.vg_pseudo.specs.Grammar.{Words, Is, IsWhole, BeginsNot}
 use Rattle.vg_pseudo.specs.Reader.{next_at, expect_at, accept_at, items_behind}
 use Rattle.vg_pseudo.specs.Expressions.{Part, whole_at}
-use Rattle.vg_pseudo.specs.Statements.{Block, followed_by, chained, nothing, Body, way_at, else_if_follows, else_at, if_at}
+use Rattle.vg_pseudo.specs.Statements.{Block, followed_by, chained, Body, way_at, else_if_follows, else_at, if_at}
 use Rattle.vg_pseudo.proofs.Taking.{same_text}
 use Rattle.vg_pseudo_laws.proofs.Standing.{Reads, ◌▷◌, Reads-fewer}
-use Rattle.vg_pseudo_laws.proofs.WordsAgain.{Next, next-again, no-more, Parts, split, expect-again, accept-again, accept-not, Ends}
+use Rattle.vg_pseudo_laws.proofs.WordsAgain.{next-again, no-more, split, expect-again, accept-again, accept-not, Ends}
 use Rattle.vg_pseudo_laws.proofs.ListsAgain.{Steps, ended, step, steps-again}
 use Rattle.vg_pseudo_laws.proofs.LanguageRead.{whole-again}
 use Rattle.vg_pseudo_laws.proofs.BlocksAgain.{Over, over-text}

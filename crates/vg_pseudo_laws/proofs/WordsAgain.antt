@@ -1,14 +1,13 @@
 -- Words that stand next are read, and what may end an expression.
-use Rattle.std.proofs.Common.{◌≡◌, ℕ, zero, suc, ◌+◌, ◌<◌, ◌≤◌, Bool, true, false, List, [], ◌∷◌, ◌++◌, Option, Some, None, Result, Ok, Err, refl, sym, ◌∙◌, ap, subst, inl, inr, ◌⊎◌, arith}
-use Rattle.std.specs.Prelude.{codes, is_some, IsTrue, not, ◌&&◌, ◌||◌, ◌==◌, take, length}
+use Rattle.std.proofs.Common.{◌≡◌, ℕ, suc, ◌<◌, ◌≤◌, Bool, true, false, List, [], ◌∷◌, ◌++◌, Option, Some, None, Ok, refl, sym, ◌∙◌, ap, subst, inl, inr, arith}
+use Rattle.std.specs.Prelude.{codes, is_some, not, ◌&&◌, ◌||◌, ◌==◌, take, length}
 use Rattle.std.specs.Str.{bytes_eq}
 use Rattle.std.specs.List.{list_all}
 use Rattle.std.proofs.lemmas.Slice.Eq.{bytes_eq-Decides}
 use Rattle.std.proofs.lemmas.Bool.{cases_Bool}
-use Rattle.vg_base.proofs.Bind.{bind_to, either_way}
 use Rattle.vg_text.specs.Byte.{is_digit, begins_digit, is_letter, is_name_text}
-use Rattle.vg_text.specs.Number.{decimal_value, is_decimal}
-use Rattle.vg_text.specs.Words.{Reading, Spelled, word_at}
+use Rattle.vg_text.specs.Number.{decimal_value}
+use Rattle.vg_text.specs.Words.{Reading, Spelled}
 use Rattle.vg_pseudo.specs.declared.operators.BinaryOp.{BinaryOp}
 use Rattle.vg_pseudo.specs.Grammar.{Words, Is, IsName, Stand}
 use Rattle.vg_pseudo.specs.Reader.{or_token, next_at, expect_at, accept_at, name_at}
