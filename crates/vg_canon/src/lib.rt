@@ -3,7 +3,9 @@
 #![tactic(auto)]
 
 mod canonical_form;
+mod nodes;
 mod step;
 mod walk;
 
 pub use canonical_form::{canon, canon_root, canonical_is_children_first, leaves_are_canonical};
+pub use nodes::{canon_node, canon_root_node};
