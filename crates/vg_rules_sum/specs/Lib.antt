@@ -1,3 +1,4 @@
 pub mod Constant
+pub mod Insertion
 pub mod Laws
 pub mod Rules

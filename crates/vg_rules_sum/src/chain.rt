@@ -1,16 +1,66 @@
 //! Putting a chain in order.
 
 ghost use Rattle.std.specs.Prelude.{◌≡◌, ◌++◌, IfOk, OnOk, map};
+ghost use Rattle.vg_rules_sum.specs.Insertion.{is_in_order_but_last, last_put_in};
 ghost use Rattle.vg_rules_sum.specs.Rules.{put_in_order};
 ghost use Rattle.vg_terms.specs.Chain.{chain_of, parts, sorted};
-ghost use Rattle.vg_terms.specs.Term.{two, tree};
+ghost use Rattle.vg_terms.specs.Term.{WellFormed, two, tree};
 
 use std::alloc::{AllocError, Global};
+use std::mem;
 use vg_terms::{Term, TwoOp, make_const, make_two};
 
 /// The term in order: an equality is turned round, and a chain is nested to the left over its parts in
-/// rising order. The parts are moved.
+/// rising order. The parts are moved; where all but the last are in order, no memory is taken.
+#[tactic(auto, using(crate::proofs::Inserting::last_ordered))]
 pub fn put_in_order(alloc: Global, t: Term) -> Result<Term, AllocError>
+    requires { WellFormed (tree t) }
+    ensures { IfOk result (λ new. tree new ≡ put_in_order (tree t)) }
+{
+    if is_in_order_but_last(&t) {
+        return Ok(last_put_in(t));
+    }
+    with_all_sorted(alloc, t)
+}
+
+// Whether the term is a chain whose parts before the last are in order.
+fn is_in_order_but_last(t: &Term) -> bool
+    ensures { result ≡ is_in_order_but_last (tree t.now) }
+{
+    match t {
+        Term::Two { op, x, y, .. } => op.makes_chains() && !y.opens(*op) && !x.is_disordered(),
+        _ => false,
+    }
+}
+
+fn last_put_in(mut t: Term) -> Term
+    ensures { tree result ≡ last_put_in (tree t) }
+{
+    put_in(&mut t);
+    t
+}
+
+// The last part changes places with those before it, up to one that it is not before.
+fn put_in(t: &mut Term)
+    ensures { tree t.new ≡ last_put_in (tree t.old) }
+{
+    if let Term::Two { op, x, y, .. } = t {
+        if let Term::Two { op: own, y: b, .. } = &mut **x {
+            if op.is(*own) {
+                if !b.is_not_after(y) {
+                    mem::swap(b, y);
+                    put_in(x);
+                }
+                return;
+            }
+        }
+        if !x.is_not_after(y) {
+            mem::swap(x, y);
+        }
+    }
+}
+
+fn with_all_sorted(alloc: Global, t: Term) -> Result<Term, AllocError>
     ensures { IfOk result (λ new. tree new ≡ put_in_order (tree t)) }
 {
     match t {
