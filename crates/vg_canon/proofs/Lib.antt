@@ -3,6 +3,7 @@ pub mod Children
 pub mod Choices
 pub mod Forms
 pub mod Narrowings
+pub mod Nested
 pub mod Steps
 pub mod Sums
 pub mod Walks

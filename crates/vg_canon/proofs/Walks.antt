@@ -34,7 +34,7 @@ canonical-beyond (Chain op) t c = canonical-over op t c
 canonical-beyond (Levels n) t c = canonical-from n t c
 
 -- where the walk ends
-chain-ends : (op : TwoOp) (t : Tree) → opens op t ≡ false → OverCanonical op t → IsCanonical t
+pub chain-ends : (op : TwoOp) (t : Tree) → opens op t ≡ false → OverCanonical op t → IsCanonical t
 chain-ends op (leaf w k) e h = h
 chain-ends op (constant w v) e h = h
 chain-ends op (one o w k x) e h = h

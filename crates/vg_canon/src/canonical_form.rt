@@ -1,15 +1,16 @@
 //! The canonical form of a term.
 
-ghost use Rattle.std.specs.Prelude.{◌≡◌, IfOk};
+ghost use Rattle.std.specs.Prelude.{◌≡◌, IfOk, OnOk, true};
 ghost use Rattle.vg_canon.specs.Canonical.{HasCanonicalChildren, IsChildrenFirst, LeavesAreCanonical, Settled, canonical, over_children};
-ghost use Rattle.vg_canon.specs.Walk.{CanonicalBeyond};
+ghost use Rattle.vg_canon.specs.Walk.{CanonicalBeyond, OverCanonical};
+ghost use Rattle.vg_terms.specs.Chain.{opens};
 ghost use Rattle.vg_terms.specs.Term.{WellFormed, tree};
 
-use crate::step::{Step, take_step};
+use crate::step::{Step, is_at_rest, take_step};
 use crate::walk::Walk;
 use std::alloc::{AllocError, Global};
 use std::mem;
-use vg_terms::{Term, make_const};
+use vg_terms::{Term, TwoOp, make_const};
 
 /// The canonical form of a term: its children are made canonical; where a rule then applies at the root,
 /// first those for sums, then those for widths, then those for choices, the first that applies is taken and
@@ -57,8 +58,62 @@ fn settle(alloc: Global, walk: Walk, t: Term) -> Result<Term, AllocError>
     if walk.ends_at(&t) {
         return Ok(t);
     }
+    match walk {
+        Walk::Chain(op) => settled_chain(alloc, op, t),
+        _ => settle_below(alloc, walk, t),
+    }
+}
+
+#[cycle(canon)]
+fn settle_below(alloc: Global, walk: Walk, t: Term) -> Result<Term, AllocError>
+    requires well_formed { WellFormed (tree t) }
+    requires beyond { CanonicalBeyond walk (tree t) }
+    ensures { IfOk result (λ r. tree r ≡ canonical (tree t)) }
+{
     let over = settle_children(alloc, walk, t)?;
     settle_root(alloc, over)
+}
+
+#[cycle(canon)]
+fn settled_chain(alloc: Global, op: TwoOp, mut t: Term) -> Result<Term, AllocError>
+    requires well_formed { WellFormed (tree t) }
+    requires parts { OverCanonical op (tree t) }
+    ensures { IfOk result (λ r. tree r ≡ canonical (tree t)) }
+{
+    settle_chain(alloc, op, &mut t)?;
+    Ok(t)
+}
+
+// The parts of a chain are canonical, so only the terms that nest them are walked, in place.
+#[cycle(canon)]
+fn settle_chain(alloc: Global, op: TwoOp, t: &mut Term) -> Result<(), AllocError>
+    requires well_formed { WellFormed (tree t.old) }
+    requires parts { OverCanonical op (tree t.old) }
+    ensures { OnOk result (tree t.new ≡ canonical (tree t.old)) }
+{
+    if !t.opens(op) {
+        return Ok(());
+    }
+    settle_first(alloc, op, t)?;
+    if is_at_rest(t) {
+        return Ok(());
+    }
+    let over = mem::replace(t, make_const(1, 0));
+    *t = settle_root(alloc, over)?;
+    Ok(())
+}
+
+#[cycle(canon)]
+fn settle_first(alloc: Global, op: TwoOp, t: &mut Term) -> Result<(), AllocError>
+    requires well_formed { WellFormed (tree t.old) }
+    requires parts { OverCanonical op (tree t.old) }
+    requires opens { opens op (tree t.old) ≡ true }
+    ensures { OnOk result (tree t.new ≡ over_children canonical (tree t.old)) }
+{
+    match t {
+        Term::Two { x, .. } => settle_chain(alloc, op, x),
+        _ => Ok(()),
+    }
 }
 
 #[cycle(canon)]

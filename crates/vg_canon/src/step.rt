@@ -43,9 +43,9 @@ pub fn take_step(alloc: Global, t: Term) -> Result<Step, AllocError>
     }
 }
 
-// Whether it is plain that no rule applies. The rules look at the whole of a chain, and so again for each
-// of its parts; here the last part alone tells, since the chain before it is canonical.
-fn is_at_rest(t: &Term) -> bool
+/// Whether it is plain that no rule applies. The rules look at the whole of a chain, and so again for each
+/// of its parts; here the last part alone tells, since the chain before it is canonical.
+pub fn is_at_rest(t: &Term) -> bool
     requires { WellFormed (tree t.now) }
     ensures { result ≡ is_at_rest (tree t.now) }
 {
