@@ -4,6 +4,7 @@ pub mod Choices
 pub mod Forms
 pub mod Narrowings
 pub mod Nested
+pub mod NodeForms
 pub mod Steps
 pub mod Sums
 pub mod Walks

@@ -9,6 +9,8 @@ mod choice_cases;
 #[cfg(test)]
 mod large_cases;
 #[cfg(test)]
+mod node_cases;
+#[cfg(test)]
 mod pool_cases;
 #[cfg(test)]
 mod reader;
