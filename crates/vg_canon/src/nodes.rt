@@ -10,8 +10,8 @@ use vg_pool::{Pool, pool_is_shared};
 
 /// The node whose term is the canonical form of a node's term, as `canon` gives it.
 ///
-/// Fails for want of memory, past 4,096 nodes of the term, or past the bound of the pool. Then too each
-/// node keeps its term, and the pool may have some of the form's parts.
+/// Fails for want of memory, past 4,096 nodes of the term, or past the bound of the pool. Then too
+/// each node keeps its term, and the pool may have some of the form's parts.
 #[tactic(auto, using(crate::proofs::NodeForms::settled_node))]
 pub fn canon_node(pool: &mut Pool, alloc: Global, node: usize) -> Result<usize, AllocError>
     requires { node < length pool.old }
