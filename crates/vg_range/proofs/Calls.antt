@@ -19,20 +19,20 @@ use Rattle.vg_script.specs.Script.{Word, Low, Frame, frame, block}
 use Rattle.vg_script.specs.Cells.{Cells, word_value, low_value, behind, numbers_given, bits_read, after}
 use Rattle.vg_script.specs.Cells as cell
 use Rattle.vg_script.specs.Formed.{GivenFormed, FrameFormed, frame_widths}
-use Rattle.vg_range.specs.declared.fault.RangeFault.{RangeFault}
-use Rattle.vg_range.specs.declared.span.Span.{Span}
-use Rattle.vg_range.specs.Interval.{slice_span, unsigned_span}
-use Rattle.vg_range.specs.Words.{extended}
-use Rattle.vg_range.specs.Found.{Found, known, handed, bit, within, wide, loose, handed_word, Passed, computed}
-use Rattle.vg_range.specs.Found as found
-use Rattle.vg_range.specs.Judge.{Count, Walk, spot_of, no_walk}
+use Rattle.vg_interval.specs.declared.fault.RangeFault.{RangeFault}
+use Rattle.vg_interval.specs.declared.span.Span.{Span}
+use Rattle.vg_interval.specs.Interval.{slice_span, unsigned_span}
+use Rattle.vg_interval.specs.Words.{extended}
+use Rattle.vg_interval.specs.Found.{Found, known, handed, bit, within, wide, loose, handed_word, Passed, computed}
+use Rattle.vg_interval.specs.Found as found
+use Rattle.vg_interval.specs.Judge.{Count, Walk, spot_of, no_walk}
 use Rattle.vg_range.specs.Walk.{Stand, Course, judged, walk, constant_passed, constants_of, given_of, course_of, walks_from, imm_constant}
 use Rattle.vg_range.specs.Walk as walking
-use Rattle.vg_range.proofs.Covers.{cells, AllBits, AreCells, IsHanded, IsWithin, Covers, block-stands, handed-stands, handed-within, truth-within}
-use Rattle.vg_range.proofs.Operators.{Made, same_pair}
-use Rattle.vg_range.specs.Proper.{WritesPast, IsProperCode, IsProperBody, AreProper}
+use Rattle.vg_interval.proofs.Covers.{cells, AllBits, AreCells, IsHanded, IsWithin, Covers, block-stands, handed-stands, handed-within, truth-within}
+use Rattle.vg_interval.proofs.Operators.{Made, same_pair}
+use Rattle.vg_names.specs.Proper.{WritesPast, IsProperCode, IsProperBody, AreProper}
 use Rattle.vg_range.specs.Meant.{InstancesMean}
-use Rattle.vg_range.proofs.Judging.{AllKeep, PassedAll, CallAgrees, judge-covers}
+use Rattle.vg_interval.proofs.Judging.{AllKeep, PassedAll, CallAgrees, judge-covers}
 use Rattle.vg_range.proofs.Walking.{Spares, TargetSpares, Together}
 use Rattle.vg_range.proofs.Statements.{walk-sound}
 

@@ -1,15 +1,4 @@
 mod Calls
-mod Covers
-mod Ends
-mod Intervals
-mod Judging
-mod LastRegister
-mod Listing
-mod Operators
-mod Places
-mod Resolving
 mod Statements
-mod Stepping
 mod Walking
-mod Words
 mod Writing

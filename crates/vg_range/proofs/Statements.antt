@@ -14,14 +14,14 @@ use Rattle.vg_script.specs.Script.{Word, width_of, Script}
 use Rattle.vg_script.specs.Script as script
 use Rattle.vg_script.specs.Cells.{Cells, word_value, after, after_arm}
 use Rattle.vg_script.specs.Formed.{Formed, ScriptFormed}
-use Rattle.vg_range.specs.declared.fault.RangeFault.{RangeFault}
-use Rattle.vg_range.specs.Found.{Found, Operand, fixed, moving, operand, condition}
-use Rattle.vg_range.specs.Judge.{Kept, Count, step, Sight, spot_of, judge}
+use Rattle.vg_interval.specs.declared.fault.RangeFault.{RangeFault}
+use Rattle.vg_interval.specs.Found.{Found, Operand, fixed, moving, operand, condition}
+use Rattle.vg_interval.specs.Judge.{Kept, Count, step, Sight, spot_of, judge}
 use Rattle.vg_range.specs.Walk.{Stand, at_count, Course, with_script, judged, constant_at, assign_at, join, in_turn, turns_at, Ways, no_ways, joined_with, with_way, is_empty, in_front, does_nothing, branch_of, closed, beginning, Arms, arms_in_front, arms_do_nothing, pick_of, with_arm, arms_of, way_taken, walk, walk_ways, arm_taken, all_arms}
-use Rattle.vg_range.proofs.Intervals.{Fits}
-use Rattle.vg_range.proofs.Words.{Tells, same-residue, small_residue}
-use Rattle.vg_range.proofs.Covers.{cells, Covers, Holds, operand-ok, holds-fits, condition-tells}
-use Rattle.vg_range.proofs.Judging.{AllKeep, Knows, judge-covers}
+use Rattle.vg_interval.proofs.Intervals.{Fits}
+use Rattle.vg_interval.proofs.Words.{Tells, same-residue, small_residue}
+use Rattle.vg_interval.proofs.Covers.{cells, Covers, Holds, operand-ok, holds-fits, condition-tells}
+use Rattle.vg_interval.proofs.Judging.{AllKeep, Knows, judge-covers}
 use Rattle.vg_range.proofs.Walking.{Spares, empty-is, Together, GoesWith, ok_stand, same_stand, counted, scripted, constant_at-is, assign-goes, turns-go, join-left, join-right, run-length}
 
 -- ---- ways

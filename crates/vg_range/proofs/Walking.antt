@@ -18,16 +18,16 @@ use Rattle.vg_script.specs.Script.{Word, width_of, Script}
 use Rattle.vg_script.specs.Script as script
 use Rattle.vg_script.specs.Cells.{Cells, word_value, after}
 use Rattle.vg_script.specs.Formed.{ScriptFormed}
-use Rattle.vg_range.specs.declared.fault.RangeFault.{RangeFault}
-use Rattle.vg_range.specs.Interval.{hull}
-use Rattle.vg_range.specs.Found.{Found, Operand, fixed, moving, word_of, operand}
-use Rattle.vg_range.specs.Judge.{Kept, constant, varying, Count, step, Index, settled, unsettled, index_of, bits_between, bits_of_element, spot_of}
+use Rattle.vg_interval.specs.declared.fault.RangeFault.{RangeFault}
+use Rattle.vg_interval.specs.Interval.{hull}
+use Rattle.vg_interval.specs.Found.{Found, Operand, fixed, moving, word_of, operand}
+use Rattle.vg_interval.specs.Judge.{Kept, constant, varying, Count, step, Index, settled, unsettled, index_of, bits_between, bits_of_element, spot_of}
 use Rattle.vg_range.specs.Walk.{Stand, at_count, behind, Course, with_script, judged, constant_index, constant_at, Goal, goal, goal_at, stored, kept_of, target_number, assign_at, kept_span, join_kept, join, in_turn, turns_at, Ways, no_ways, joined_with, with_way, is_empty, in_front, does_nothing, branch_of, closed, beginning, Arms, arms_in_front, arms_do_nothing, pick_of, with_arm, arms_of, way_taken, walk, walk_ways, arm_taken, all_arms}
 use Rattle.vg_range.specs.Walk as walking
-use Rattle.vg_range.proofs.Intervals.{In, Fits, EndsFit, hull-left, hull-right, hull_fits, le_self}
-use Rattle.vg_range.proofs.Covers.{cells, Covers, Holds, operand-ok, holds-stands}
-use Rattle.vg_range.proofs.Operators.{between-ok, element-ok, IndexIs, index-is}
-use Rattle.vg_range.proofs.Judging.{Keeps, AllKeep, Knows, judge-covers}
+use Rattle.vg_interval.proofs.Intervals.{In, Fits, EndsFit, hull-left, hull-right, hull_fits, le_self}
+use Rattle.vg_interval.proofs.Covers.{cells, Covers, Holds, operand-ok, holds-stands}
+use Rattle.vg_interval.proofs.Operators.{between-ok, element-ok, IndexIs, index-is}
+use Rattle.vg_interval.proofs.Judging.{Keeps, AllKeep, Knows, judge-covers}
 use Rattle.vg_range.proofs.Writing.{stored-stores, written-cells, other-register}
 
 -- ---- what is not written

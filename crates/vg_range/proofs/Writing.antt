@@ -22,15 +22,15 @@ use Rattle.vg_script.specs.Script as script
 use Rattle.vg_script.specs.Cells.{Cells, word_value, low_value, behind, bits_read, after}
 use Rattle.vg_script.specs.Cells as cell
 use Rattle.vg_script.specs.Formed.{LowFormed, frame_widths, ScriptFormed}
-use Rattle.vg_range.specs.declared.fault.RangeFault.{RangeFault}
-use Rattle.vg_range.specs.declared.fault.RangeFault.TheVariants.{TooWide}
-use Rattle.vg_range.specs.Words.{extended}
-use Rattle.vg_range.specs.Found.{Found, known, handed, bit, within, wide, loose, slice_word, handed_word}
-use Rattle.vg_range.specs.Found as found
-use Rattle.vg_range.specs.Judge as judging
+use Rattle.vg_interval.specs.declared.fault.RangeFault.{RangeFault}
+use Rattle.vg_interval.specs.declared.fault.RangeFault.TheVariants.{TooWide}
+use Rattle.vg_interval.specs.Words.{extended}
+use Rattle.vg_interval.specs.Found.{Found, known, handed, bit, within, wide, loose, slice_word, handed_word}
+use Rattle.vg_interval.specs.Found as found
+use Rattle.vg_interval.specs.Judge as judging
 use Rattle.vg_range.specs.Walk.{goal, put_word, stored}
-use Rattle.vg_range.proofs.Words.{StandsFor, bit-stands}
-use Rattle.vg_range.proofs.Covers.{cells, AllBits, AreCells, IsSlice, Covers, bits_at, register_width, bits_small, slice-stands, handed-stands}
+use Rattle.vg_interval.proofs.Words.{StandsFor, bit-stands}
+use Rattle.vg_interval.proofs.Covers.{cells, AllBits, AreCells, IsSlice, Covers, bits_at, register_width, bits_small, slice-stands, handed-stands}
 
 -- ---- registers
 

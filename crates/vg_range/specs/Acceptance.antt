@@ -7,8 +7,8 @@ use Rattle.vg_pseudo.specs.declared.header.ImmRange.{ImmRange}
 use Rattle.vg_pseudo.specs.Tree.{Operation}
 use Rattle.vg_pseudo.specs.Resolved.{Resolved}
 use Rattle.vg_pseudo.specs.Resolve.{NameFault, unknown_name, bare_register, resolve}
-use Rattle.vg_range.specs.declared.fault.RangeFault.{RangeFault}
-use Rattle.vg_range.specs.declared.fault.RangeFault.TheVariants.{UnknownName, BareRegister}
+use Rattle.vg_interval.specs.declared.fault.RangeFault.{RangeFault}
+use Rattle.vg_interval.specs.declared.fault.RangeFault.TheVariants.{UnknownName, BareRegister}
 use Rattle.vg_range.specs.Walk.{instance_at}
 
 abbrev pub fault_of : NameFault → RangeFault

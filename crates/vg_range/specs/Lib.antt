@@ -1,14 +1,3 @@
 pub mod Acceptance
-pub mod Found
-pub mod Interval
-pub mod Judge
 pub mod Meant
-pub mod Naming
-pub mod Pieces
-pub mod Proper
-pub mod Registers
-pub mod Scopes
-pub mod Views
 pub mod Walk
-pub mod Words
-pub mod Written

@@ -6,7 +6,7 @@ use Rattle.vg_pseudo.specs.Resolved.{Resolved}
 use Rattle.vg_pseudo.specs.Instance.{meaning}
 use Rattle.vg_script.specs.Cells.{Cells, entered, after}
 use Rattle.vg_script.specs.Formed.{ScriptFormed}
-use Rattle.vg_range.specs.Proper.{IsProper}
+use Rattle.vg_names.specs.Proper.{IsProper}
 use Rattle.vg_range.specs.Walk.{Stand, imm_constant, instance_at}
 
 -- the cells of an instance as it begins, where its parameters and behind them the immediate have

@@ -9,14 +9,14 @@ use Rattle.vg_pseudo.specs.Resolved.{Expr, Target, bits, lane, whole, number, Co
 use Rattle.vg_pseudo.specs.Value.{count}
 use Rattle.vg_script.specs.Script.{Word, Low, Frame, frame, Given, Script}
 use Rattle.vg_script.specs.Script as script
-use Rattle.vg_range.specs.declared.fault.RangeFault.{RangeFault}
-use Rattle.vg_range.specs.declared.fault.RangeFault.TheVariants.{DynamicIndex, TooWide}
-use Rattle.vg_range.specs.declared.span.Span.{Span}
-use Rattle.vg_range.specs.Interval.{between, hull}
-use Rattle.vg_range.specs.Words as words
-use Rattle.vg_range.specs.Found.{Found, known, read, handed, bit, within, wide, loose, Operand, fixed, moving, word_of, slice_word, handed_word, operand, condition, Passed, computed, answered}
-use Rattle.vg_range.specs.Found as found
-use Rattle.vg_range.specs.Judge.{Kept, constant, varying, Count, step, Walk, Sight, Bits, bits_between, bits_of_element, Index, settled, unsettled, index_of, spot_of, judge}
+use Rattle.vg_interval.specs.declared.fault.RangeFault.{RangeFault}
+use Rattle.vg_interval.specs.declared.fault.RangeFault.TheVariants.{DynamicIndex, TooWide}
+use Rattle.vg_interval.specs.declared.span.Span.{Span}
+use Rattle.vg_interval.specs.Interval.{between, hull}
+use Rattle.vg_interval.specs.Words as words
+use Rattle.vg_interval.specs.Found.{Found, known, read, handed, bit, within, wide, loose, Operand, fixed, moving, word_of, slice_word, handed_word, operand, condition, Passed, computed, answered}
+use Rattle.vg_interval.specs.Found as found
+use Rattle.vg_interval.specs.Judge.{Kept, constant, varying, Count, step, Walk, Sight, Bits, bits_between, bits_of_element, Index, settled, unsettled, index_of, spot_of, judge}
 
 -- Where a walk stands: what is known of the number variables, the counts, and the script so far.
 pub record Stand : Type 0 where

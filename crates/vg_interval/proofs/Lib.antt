@@ -1,0 +1,6 @@
+mod Covers
+mod Ends
+mod Intervals
+mod Judging
+mod Operators
+mod Words

@@ -1,0 +1,4 @@
+pub mod Found
+pub mod Interval
+pub mod Judge
+pub mod Words

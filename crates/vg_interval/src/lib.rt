@@ -1,0 +1,11 @@
+//! What is known of the numbers of an instance: intervals, the words that expressions become, and what each use asks.
+//!
+//! `specs/Interval.antt` says what the operators make of intervals, `specs/Words.antt` which words they become,
+//! `specs/Found.antt` what is known of an expression, and `specs/Judge.antt` how it is found in the order of the text.
+#![tactic(auto)]
+
+pub mod fault;
+pub mod span;
+
+pub use fault::RangeFault;
+pub use span::Span;

@@ -1,0 +1,5 @@
+mod LastRegister
+mod Listing
+mod Places
+mod Resolving
+mod Stepping

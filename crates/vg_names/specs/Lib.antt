@@ -1,0 +1,7 @@
+pub mod Naming
+pub mod Pieces
+pub mod Proper
+pub mod Registers
+pub mod Scopes
+pub mod Views
+pub mod Written

@@ -1,0 +1,25 @@
+//! Names of an operation: what each means where it stands, and the operation without them.
+//!
+//! What names mean is defined in `vg_pseudo` (`Names`, `Signs`, `Resolve`); here is the code that resolves them.
+//! `specs/Views.antt` says which resolved operation a value is.
+#![tactic(auto)]
+
+mod body;
+mod code;
+mod expressions;
+mod functions;
+mod given_registers;
+pub mod law;
+pub mod name_fault;
+mod piece;
+mod registers;
+pub mod resolved;
+mod same;
+mod scope;
+mod signs;
+mod targets;
+mod variables;
+
+pub use law::resolved_operations_are_proper;
+pub use name_fault::NameFault;
+pub use resolved::{Body, Code, Function, Resolved, ResolvedArguments, ResolvedExpr, Target};
