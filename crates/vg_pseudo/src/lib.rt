@@ -30,3 +30,4 @@ pub use operations::parse_operation;
 pub use operators::{BinaryOp, UnaryOp};
 pub use spot::Spot;
 pub use statement::Stmt;
+pub use words::{is_free, number_of};

@@ -269,8 +269,8 @@ fn is_reserved(bytes: &[u8]) -> bool
     is_statement_word(bytes) | is_header_word(bytes) | is_operator_word(bytes) | is_function(bytes)
 }
 
-/// Whether a word may be a name.
-pub(crate) fn is_free(bytes: &[u8]) -> bool
+/// Whether a word may be a name: it is one and is not reserved.
+pub fn is_free(bytes: &[u8]) -> bool
     ensures { result ≡ is_free bytes.now }
 {
     is_name_text(bytes) && !is_reserved(bytes)
@@ -283,8 +283,8 @@ fn hexadecimal(digits: &[u8]) -> Option<u128>
     value_in(16, digits)
 }
 
-/// The number of a decimal or hexadecimal number.
-pub(crate) fn number_of(bytes: &[u8]) -> Option<u128>
+/// The number of a decimal or hexadecimal number, where it is below 2^128. None exactly for other tokens.
+pub fn number_of(bytes: &[u8]) -> Option<u128>
     ensures { result ≡ number_of bytes.now }
 {
     let cut = bytes.len().min(2);
