@@ -1,3 +1,4 @@
+mod Bare
 mod Calls
 mod Statements
 mod Walking
