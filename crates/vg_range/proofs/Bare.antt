@@ -1,6 +1,6 @@
 -- What is found of an expression but for its words: nothing that is refused, counted or known looks into a word.
 use Rattle.std.proofs.Common.{◌≡◌, ℕ, refl, sym, ap, ◌∙◌, Bool, true, false, List, [], ◌∷◌}
-use Rattle.std.specs.Prelude.{ℤ, pos, negsuc, nat_le, nat_lt, if◌then◌else◌, Option, Some, None, Result, Ok, Err}
+use Rattle.std.specs.Prelude.{ℤ, pos, negsuc, int_lt, nat_le, if◌then◌else◌, Option, Some, None, Result, Ok, Err}
 use Rattle.std.specs.Option.{option_map, option_map_or}
 use Rattle.vg_base.specs.Bind.{◌>>=◌}
 use Rattle.vg_text.specs.declared.place.Place.{Place}
@@ -16,7 +16,7 @@ use Rattle.vg_interval.specs.declared.fault.RangeFault.{RangeFault}
 use Rattle.vg_interval.specs.Interval.{slice_span, unary_span, binary_span, shifted_left_span, between}
 use Rattle.vg_interval.specs.Found.{Found, known, read, handed, bit, within, wide, loose, Operand, fixed, moving, span_of, plain, or_too_wide, operand, Passed, computed, passed, answered}
 use Rattle.vg_interval.specs.Found as found
-use Rattle.vg_interval.specs.Judge.{Kept, constant, varying, Count, Walk, Sight, Index, settled, unsettled, ok_of, index_of, moving_slice, slice_at, element_at, result_within, width_found, bits_read, unary_of, unary_found, cut_loose, unary_at, is_shift, is_comparison, shifted_by, shifted_along, shift_at, joined, binary_at, variable_found}
+use Rattle.vg_interval.specs.Judge.{Count, dynamic, Walk, Sight, Index, settled, unsettled, ok_of, index_of, moving_slice, slice_at, element_at, result_within, width_found, bits_read, unary_of, unary_found, cut_loose, unary_at, is_shift, is_comparison, shifted_by, shifted_along, shift_at, joined, binary_at}
 
 -- ---- views of results
 
@@ -338,3 +338,37 @@ along-bare op (fixed y) (fixed z) = refl
 along-bare op (fixed y) (moving j z) = refl
 along-bare op (moving i y) (fixed z) = refl
 along-bare op (moving i y) (moving j z) = refl
+
+if-same : {A B E : Type 0} (view : A → B) (b : Bool) (r q p t : Result A E) → seen view r ≡ seen view q → seen view p ≡ seen view t
+    → seen view (if b then r else p) ≡ seen view (if b then q else t)
+if-same view true r q p t e h = e
+if-same view false r q p t e h = h
+
+abbrev with_count : Count → Found → Result (Found × Count) RangeFault
+with_count c f = Ok (f, c)
+
+shift-bare : (s : Spot) (op : BinaryOp) (t : Spot) (a b : Operand) (c : Count)
+    → seen view (shift_at s op t a b c) ≡ seen view (shift_at s op t (bare_operand a) (bare_operand b) c)
+shift-bare s op t a (fixed (pos n)) c = and_count _ _ c (shifted_by-bare s op n a)
+shift-bare s op t a (fixed (negsuc n)) c = refl
+shift-bare s op t a (moving i x) c =
+    if-same view (int_lt i.least (pos 0)) _ _ _ _ refl (ap (with_count (dynamic c)) (along-bare op a (moving i x)))
+
+joined-bare : (s : Spot) (op : BinaryOp) (a b : Operand) → seen bare (joined s op a b) ≡ seen bare (joined s op (bare_operand a) (bare_operand b))
+joined-bare s op (fixed y) (fixed z) = refl
+joined-bare s op (fixed y) (moving j z) = if-same bare (is_comparison op) _ _ _ _ refl (within-from s (binary_span op (between y y) j) _ _)
+joined-bare s op (moving i y) (fixed z) = if-same bare (is_comparison op) _ _ _ _ refl (within-from s (binary_span op i (between z z)) _ _)
+joined-bare s op (moving i y) (moving j z) = if-same bare (is_comparison op) _ _ _ _ refl (within-from s (binary_span op i j) _ _)
+
+binary-bare : (s : Spot) (op : BinaryOp) (t : Spot) (a b : Operand) (c : Count)
+    → seen view (binary_at s op t a b c) ≡ seen view (binary_at s op t (bare_operand a) (bare_operand b) c)
+binary-bare s op t a b c =
+    if-same view (is_shift op) _ _ _ _ (shift-bare s op t a b c) (and_count _ _ c (joined-bare s op a b))
+
+pub binary-same : (s : Spot) (op : BinaryOp) (t : Spot) (a b x y : Operand) (c : Count) → bare_operand a ≡ bare_operand x → bare_operand b ≡ bare_operand y
+    → seen view (binary_at s op t a b c) ≡ seen view (binary_at s op t x y c)
+binary-same s op t a b x y c p q =
+    binary-bare s op t a b c
+    ∙ ap (λ j. seen view (binary_at s op t j (bare_operand b) c)) p
+    ∙ ap (λ j. seen view (binary_at s op t (bare_operand x) j c)) q
+    ∙ sym (binary-bare s op t x y c)

@@ -1,5 +1,6 @@
 mod Bare
 mod Calls
+mod Judged
 mod Statements
 mod Walking
 mod Writing
