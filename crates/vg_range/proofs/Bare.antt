@@ -339,7 +339,7 @@ along-bare op (fixed y) (moving j z) = refl
 along-bare op (moving i y) (fixed z) = refl
 along-bare op (moving i y) (moving j z) = refl
 
-if-same : {A B E : Type 0} (view : A → B) (b : Bool) (r q p t : Result A E) → seen view r ≡ seen view q → seen view p ≡ seen view t
+pub if-same : {A B E : Type 0} (view : A → B) (b : Bool) (r q p t : Result A E) → seen view r ≡ seen view q → seen view p ≡ seen view t
     → seen view (if b then r else p) ≡ seen view (if b then q else t)
 if-same view true r q p t e h = e
 if-same view false r q p t e h = h

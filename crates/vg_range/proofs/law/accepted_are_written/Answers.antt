@@ -1,5 +1,5 @@
-use Rattle.vg_range.proofs.Judged.{judge-same}
+use Rattle.vg_range.proofs.WalkedAlike.{walk-alike}
 use Rattle.vg_range.proofs.law.accepted_are_written.Goals as goal
 
 pub returns : goal.returns
-returns c = judge-same
+returns c = walk-alike
