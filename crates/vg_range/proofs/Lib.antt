@@ -1,6 +1,7 @@
 mod Alike
 mod Bare
 mod Calls
+mod Instances
 mod Judged
 mod Statements
 mod WalkedAlike
