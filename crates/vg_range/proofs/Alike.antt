@@ -1,18 +1,16 @@
 -- Statements are walked the same but for scripts, whether scripts are kept or not.
-use Rattle.std.proofs.Common.{◌≡◌, ℕ, zero, suc, refl, sym, ap, ◌∙◌, Bool, true, false, List, [], ◌∷◌, get_or, set}
+use Rattle.std.proofs.Common.{◌≡◌, ℕ, zero, suc, refl, sym, ap, ◌∙◌, Bool, true, false, List, ◌∷◌, get_or, set}
 use Rattle.std.specs.Prelude.{ℤ, pos, ◌+ℤ◌, nat_le, if◌then◌else◌, Option, Some, None, Result, Ok, Err}
-use Rattle.std.specs.Ordering.{int_eq}
 use Rattle.vg_base.specs.Bind.{◌>>=◌}
 use Rattle.vg_text.specs.declared.place.Place.{Place}
 use Rattle.vg_pseudo.specs.declared.spot.Spot.{Spot}
-use Rattle.vg_pseudo.specs.Resolved.{Expr, Target, bits, lane, whole, number, Code, stop, assign, skip, repeat, choose, way, last, pick, arm}
-use Rattle.vg_pseudo.specs.Value.{count}
+use Rattle.vg_pseudo.specs.Resolved.{Expr, Target, bits, lane, whole, number}
 use Rattle.vg_script.specs.Script.{Word, Script}
 use Rattle.vg_script.specs.Script as script
 use Rattle.vg_interval.specs.declared.fault.RangeFault.{RangeFault}
-use Rattle.vg_interval.specs.Found.{Found, known, read, handed, bit, within, wide, loose, Operand, fixed, moving, word_of, operand, condition}
+use Rattle.vg_interval.specs.Found.{Found, known, read, handed, bit, within, wide, loose, Operand, fixed, moving, word_of, operand}
 use Rattle.vg_interval.specs.Judge.{Kept, Count, step, Index, settled, unsettled, index_of, bits_between, bits_of_element, spot_of, judge}
-use Rattle.vg_range.specs.Walk.{Stand, at_count, Course, with_script, judged, constant_index, constant_at, Goal, goal, width_in, goal_at, put_word, stored, kept_of, target_number, assigned, assign_at, in_turn, turns_at, Ways, no_ways, joined_with, with_way, closed, beginning, Arms, with_arm, arms_of, way_taken, walk, walk_ways, arm_taken, all_arms}
+use Rattle.vg_range.specs.Walk.{Stand, at_count, Course, with_script, judged, constant_index, constant_at, Goal, goal, width_in, goal_at, put_word, stored, kept_of, target_number, assigned, assign_at, in_turn, turns_at}
 use Rattle.vg_range.proofs.Bare.{seen, steps_same, if-same, bare, bare_operand, bare_index, operand-same, index-same, view}
 use Rattle.vg_range.proofs.Judged.{looks, counts, AllSame, judge-same}
 

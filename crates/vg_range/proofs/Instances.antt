@@ -1,19 +1,17 @@
 -- An instance that is only judged and the same one with its script come to the same.
-use Rattle.std.proofs.Common.{◌≡◌, ℕ, zero, suc, refl, sym, ap, ◌∙◌, Bool, true, false, List, [], ◌∷◌, ◌++◌, get_or, length, length-append, arith}
-use Rattle.std.specs.Prelude.{◌%◌, ◌^◌, take, Option, Some, None, Result, Ok, Err}
-use Rattle.std.specs.Option.{option_map}
-use Rattle.vg_base.specs.Bind.{◌>>=◌}
+use Rattle.std.proofs.Common.{◌≡◌, ℕ, zero, suc, refl, sym, ap, ◌∙◌, Bool, true, false, List, [], ◌∷◌, ◌++◌, length, length-append, arith}
+use Rattle.std.specs.Prelude.{take, Option, Result, Ok, Err}
 use Rattle.vg_pseudo.specs.Resolved.{Function, Resolved}
 use Rattle.vg_script.specs.Script.{frame}
 use Rattle.vg_interval.specs.declared.fault.RangeFault.{RangeFault}
 use Rattle.vg_interval.specs.Found.{Passed, computed, answered}
 use Rattle.vg_interval.specs.Found as found
-use Rattle.vg_interval.specs.Judge.{Kept, Count, Walk, spot_of, no_walk}
-use Rattle.vg_range.specs.Walk.{Stand, Course, judged, walk, constant_passed, constants_of, given_of, course_of, begun, called, walks_from, imm_constant, instance_at}
+use Rattle.vg_interval.specs.Judge.{Walk, spot_of, no_walk}
+use Rattle.vg_range.specs.Walk.{Stand, judged, walk, constant_passed, constants_of, given_of, course_of, begun, called, walks_from, imm_constant, instance_at}
 use Rattle.vg_range.specs.Kept.{GoesAs, AcceptedAreWritten}
 use Rattle.vg_range.proofs.Bare.{seen, steps_same, bare, bare_passed, all_bare, answered-same, view}
 use Rattle.vg_range.proofs.Judged.{looks, counts, CallsSame, AllSame}
-use Rattle.vg_range.proofs.Alike.{Alike, known_at, judged-alike, WalksAlike}
+use Rattle.vg_range.proofs.Alike.{Alike, known_at, judged-alike}
 use Rattle.vg_range.proofs.WalkedAlike.{walk-alike}
 
 -- ---- arguments

@@ -1,14 +1,13 @@
 -- What is found of an expression is the same but for its words, where what calls give is.
-use Rattle.std.proofs.Common.{◌≡◌, ℕ, zero, suc, refl, sym, ap, ◌∙◌, Bool, true, false, List, [], ◌∷◌, get_or}
-use Rattle.std.specs.Prelude.{ℤ, pos, if◌then◌else◌, Option, Some, None, Result, Ok, Err}
+use Rattle.std.proofs.Common.{◌≡◌, ℕ, refl, ap, Bool, true, false, List, get_or}
+use Rattle.std.specs.Prelude.{ℤ, pos, if◌then◌else◌, Option, Result, Ok}
 use Rattle.std.specs.Ordering.{int_eq}
 use Rattle.vg_base.specs.Bind.{◌>>=◌}
 use Rattle.vg_pseudo.specs.declared.spot.Spot.{Spot}
 use Rattle.vg_pseudo.specs.Resolved.{Expr, literal, counter, variable, slice, element, front, unary, binary, choice, call, Arguments, end, more}
 use Rattle.vg_interval.specs.declared.fault.RangeFault.{RangeFault}
-use Rattle.vg_interval.specs.Interval.{hull}
-use Rattle.vg_interval.specs.Found.{Found, within, Operand, fixed, moving, span_of, plain, operand, Passed, passed}
-use Rattle.vg_interval.specs.Judge.{Kept, Count, step, Walk, index_of, slice_at, unary_at, spot_of, no_walk, Judges, branch, chosen, judge, judge_all}
+use Rattle.vg_interval.specs.Found.{Found, Operand, fixed, moving, plain, operand, Passed, passed}
+use Rattle.vg_interval.specs.Judge.{Kept, Count, step, Walk, index_of, unary_at, spot_of, no_walk, Judges, branch, chosen, judge, judge_all}
 use Rattle.vg_range.proofs.Bare.{seen, steps_same, bare, bare_operand, bare_index, bare_passed, all_bare, counted, operand-same, passed-same, index-same, plain-same, span-same, sight_of, view, slice-same, element-same, unary-same, binary-same}
 
 -- what is counted and looks the same

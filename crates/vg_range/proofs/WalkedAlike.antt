@@ -1,15 +1,14 @@
 -- Lists of statements, IFs and CASEs are walked the same but for scripts.
-use Rattle.std.proofs.Common.{◌≡◌, ℕ, refl, sym, ap, ◌∙◌, Bool, true, false, List, [], ◌∷◌}
-use Rattle.std.specs.Prelude.{ℤ, pos, if◌then◌else◌, Option, Some, None, Result, Ok, Err}
+use Rattle.std.proofs.Common.{◌≡◌, ℕ, refl, sym, ap, ◌∙◌, List, []}
+use Rattle.std.specs.Prelude.{ℤ, pos, Result, Ok}
 use Rattle.std.specs.Ordering.{int_eq}
-use Rattle.vg_base.specs.Bind.{◌>>=◌}
 use Rattle.vg_text.specs.declared.place.Place.{Place}
 use Rattle.vg_pseudo.specs.Resolved.{Expr, Target, Code, stop, assign, skip, repeat, choose, way, last, pick, arm}
 use Rattle.vg_pseudo.specs.Value.{count}
 use Rattle.vg_interval.specs.declared.fault.RangeFault.{RangeFault}
 use Rattle.vg_interval.specs.Found.{Operand, fixed, moving, operand, condition}
 use Rattle.vg_interval.specs.Judge.{Kept, Count, step, spot_of, judge}
-use Rattle.vg_range.specs.Walk.{Stand, at_count, Course, judged, constant_at, assign_at, join, in_turn, turns_at, Ways, no_ways, joined_with, with_way, branch_of, closed, beginning, Arms, pick_of, with_arm, arms_of, way_taken, walk, walk_ways, arm_taken, all_arms}
+use Rattle.vg_range.specs.Walk.{Stand, at_count, Course, judged, constant_at, assign_at, in_turn, turns_at, Ways, no_ways, joined_with, with_way, branch_of, closed, beginning, Arms, pick_of, with_arm, arms_of, way_taken, walk, walk_ways, arm_taken, all_arms}
 use Rattle.vg_range.proofs.Bare.{seen, steps_same, if-same, bare, bare_operand, operand-same, view}
 use Rattle.vg_range.proofs.Judged.{looks, counts}
 use Rattle.vg_range.proofs.Alike.{Alike, judge-alike, known_at, same_numbers, same_count, judged-alike, unscripted, WalksAlike, view_constant, known_ok, constant-alike, the_constant, its_stand, assign-alike, turns-alike, in_turn-alike}

@@ -8,6 +8,5 @@
 
 pub mod law;
 
-pub use law::accepted_are_written;
-pub use law::scripts_mean_their_texts;
+pub use law::{accepted_are_written, scripts_mean_their_texts};
 pub use vg_interval::RangeFault;
