@@ -1,5 +1,7 @@
 mod LastRegister
 mod Listing
+mod NumbersWritten
 mod Places
 mod Resolving
 mod Stepping
+mod WordsCut

@@ -1,9 +1,16 @@
-//! What names resolve to is proper.
+//! What names resolve to is proper, and what is read may be resolved.
 
+ghost use Rattle.vg_names.specs.Reading.{ReadAreWritten};
 ghost use Rattle.vg_names.specs.Written.{ResolvedAreProper};
 
 /// A law that costs nothing to call: an operation that a text can say, its names resolved, writes no parameter, has
 /// registers of at most 2^127 bits and arms of numbers below 2^127. The law on scripts asks for no more.
 pub fn resolved_operations_are_proper()
     ensures { ResolvedAreProper }
+{}
+
+/// A law that costs nothing to call: an operation that is read from a text says no number of an arm and no highest bit of
+/// 2^127 or more, so that with registers that are no larger it is one that a text can say.
+pub fn operations_that_are_read_are_written()
+    ensures { ReadAreWritten }
 {}

@@ -20,6 +20,7 @@ mod signs;
 mod targets;
 mod variables;
 
+pub use law::operations_that_are_read_are_written;
 pub use law::resolved_operations_are_proper;
 pub use name_fault::NameFault;
 pub use resolved::{Body, Code, Function, Resolved, ResolvedArguments, ResolvedExpr, Target};
