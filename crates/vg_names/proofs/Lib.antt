@@ -1,5 +1,6 @@
 mod LastRegister
 mod Listing
+mod Narrow
 mod NumbersWritten
 mod Places
 mod Resolving

@@ -1,6 +1,6 @@
 //! What names resolve to is proper, and what is read may be resolved.
 
-ghost use Rattle.vg_names.specs.Reading.{ReadAreWritten};
+ghost use Rattle.vg_names.specs.Reading.{NarrowAreWritten, ReadAreWritten};
 ghost use Rattle.vg_names.specs.Written.{ResolvedAreProper};
 
 /// A law that costs nothing to call: an operation that a text can say, its names resolved, writes no parameter, has
@@ -13,4 +13,10 @@ pub fn resolved_operations_are_proper()
 /// 2^127 or more, so that with registers that are no larger it is one that a text can say.
 pub fn operations_that_are_read_are_written()
     ensures { ReadAreWritten }
+{}
+
+/// A law that costs nothing to call: a header whose registers have 128, 256 or 512 bits says no more bits than a text can
+/// say, and with an operation that is read from a text it is an entry that a text can say.
+pub fn narrow_headers_are_written()
+    ensures { NarrowAreWritten }
 {}
