@@ -1,7 +1,7 @@
 -- Registers of 128, 256 or 512 bits are those of a text.
-use Rattle.std.proofs.Common.{◌≡◌, ℕ, ◌^◌, ◌≤◌, Bool, true, false, List, [], ◌∷◌, refl, arith, inl, inr}
+use Rattle.std.proofs.Common.{◌≡◌, ℕ, ◌^◌, ◌≤◌, Bool, true, false, List, [], ◌∷◌, refl, arith}
 use Rattle.std.specs.Prelude.{◌==◌, ◌||◌}
-use Rattle.std.proofs.lemmas.Bool.{cases_Bool, eqb-true}
+use Rattle.std.proofs.lemmas.Bool.{eqb-true}
 use Rattle.vg_pseudo.specs.declared.header.Header.{Header}
 use Rattle.vg_pseudo.specs.declared.header.Param.{Param}
 use Rattle.vg_pseudo.specs.Tree.{Operation}

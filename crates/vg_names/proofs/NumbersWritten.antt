@@ -1,6 +1,6 @@
 -- What is in the grammar has no larger numbers than its words.
-use Rattle.std.proofs.Common.{◌≡◌, ℕ, ◌^◌, ◌<◌, List, [], ◌∷◌, ◌++◌, Option, Some, None, Ok, refl, sym, ◌∙◌, ap, subst}
-use Rattle.vg_text.specs.Words.{Reading, Spelled}
+use Rattle.std.proofs.Common.{◌≡◌, ℕ, List, [], ◌∷◌, ◌++◌, Option, Some, None, Ok, sym, subst}
+use Rattle.vg_text.specs.Words.{Reading}
 use Rattle.vg_pseudo.specs.declared.operation.DefineParam.{DefineParam}
 use Rattle.vg_pseudo.specs.Tree.{Statements, Define, Operation}
 use Rattle.vg_pseudo.specs.Definitions.{Context, Known}

@@ -1,17 +1,15 @@
 -- The words of a text, read one after the other: each number among them is below 2 ^ 127.
-use Rattle.std.proofs.Common.{◌≡◌, ℕ, zero, suc, ◌+◌, ◌-◌, ◌^◌, ◌<◌, Bool, true, false, not, List, [], ◌∷◌, ◌++◌, length, Option, Some, None, Result, Ok, Err, take, drop, slice_range, refl, sym, ◌∙◌, ap, subst, arith, inl, inr}
+use Rattle.std.proofs.Common.{◌≡◌, ℕ, zero, suc, ◌+◌, ◌-◌, ◌^◌, ◌<◌, Bool, true, false, not, List, [], ◌∷◌, ◌++◌, length, Option, Some, None, Result, Ok, take, drop, slice_range, refl, sym, ◌∙◌, ap, subst, arith}
 use Rattle.std.specs.Prelude.{◌&&◌, ◌||◌, ◌==◌, nat_lt, codes, if◌then◌else◌}
-use Rattle.std.specs.Str.{bytes_eq}
 use Rattle.std.specs.List.{list_all}
-use Rattle.std.proofs.lemmas.Bool.{cases_Bool, and_parts}
+use Rattle.std.proofs.lemmas.Bool.{and_parts}
 use Rattle.std.proofs.lemmas.List.{take_at, drop_at, drop-drop}
-use Rattle.vg_base.proofs.Bind.{either_way}
 use Rattle.vg_text.specs.declared.place.Place.{Place}
 use Rattle.vg_text.specs.declared.lexer.Lexer.{Lexer}
 use Rattle.vg_text.specs.declared.token.Token.{Token}
 use Rattle.vg_text.specs.declared.token.TokenKind.{TokenKind}
 use Rattle.vg_text.specs.declared.token.TokenKind.TheVariants.{Name, Number, Sign, End}
-use Rattle.vg_text.specs.Byte.{is_letter, is_digit, is_hex_digit, is_printable, is_pair, begins_digit, is_name_text}
+use Rattle.vg_text.specs.Byte.{is_letter, is_digit, is_printable, is_pair, begins_digit, is_name_text}
 use Rattle.vg_text.specs.Number.{value_in, is_decimal, decimal_value}
 use Rattle.vg_text.specs.Place.{place_after, end_place}
 use Rattle.vg_text.specs.Token.{Lexemes, token, finish, fault}
@@ -19,7 +17,7 @@ use Rattle.vg_text.specs.Cut.{Spells, tens, sixteens, IsLexeme, IsSign, Cuts}
 use Rattle.vg_text.specs.Lexing.{reading}
 use Rattle.vg_text.specs.Words.{Reading, Spelled, spelled, word_at, word_from}
 use Rattle.vg_text.proofs.Cutting.{cuts}
-use Rattle.vg_pseudo.specs.Words.{number_in, number_of}
+use Rattle.vg_pseudo.specs.Words.{number_of}
 use Rattle.vg_pseudo.specs.Grammar.{Words, Stand}
 use Rattle.vg_pseudo_laws.proofs.WordsAgain.{not_text, number-begins}
 use Rattle.vg_names.specs.Reading.{IsCut}
