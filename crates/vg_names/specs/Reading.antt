@@ -41,8 +41,8 @@ pub record IsNarrow (h : Header) : Type 0 where
   pub params : AllNarrow h.params
   pub register : IsTrue (is_register h.register)
 
--- A header with registers of 128, 256 or 512 bits has what a text can say, and with an operation
--- that is read it is an entry that a text can say.
+-- A header with registers of 128, 256 or 512 bits is one that a text can say, and so it is with an
+-- operation that is read.
 pub record NarrowAreWritten : Type 0 where
   pub params : (h : Header) → IsNarrow h → AreRegisters h.params
   pub register : (h : Header) → IsNarrow h → h.register ≤ 2 ^ 127

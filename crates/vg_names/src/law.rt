@@ -9,14 +9,16 @@ pub fn resolved_operations_are_proper()
     ensures { ResolvedAreProper }
 {}
 
-/// A law that costs nothing to call: an operation that is read from a text says no number of an arm and no highest bit of
-/// 2^127 or more, so that with registers that are no larger it is one that a text can say.
+/// A law that costs nothing to call: an operation that is read from a text says no number of an arm
+/// and no highest bit of 2^127 or more. A lexer stands in a text so that this holds of what is read
+/// there, and it goes on to hold behind each word and behind the operation.
 pub fn operations_that_are_read_are_written()
     ensures { ReadAreWritten }
 {}
 
-/// A law that costs nothing to call: a header whose registers have 128, 256 or 512 bits says no more bits than a text can
-/// say, and with an operation that is read from a text it is an entry that a text can say.
+/// A law that costs nothing to call: a header whose registers have 128, 256 or 512 bits says no more
+/// bits than a text can say, and with an operation that is read from a text it is an entry that a
+/// text can say.
 pub fn narrow_headers_are_written()
     ensures { NarrowAreWritten }
 {}

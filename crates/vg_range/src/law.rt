@@ -10,9 +10,10 @@ pub fn scripts_mean_their_texts()
     ensures { InstancesMean }
 {}
 
-/// A law that costs nothing to call: an instance that is accepted when it is only judged is accepted with its script, with
-/// the same knowledge of its numbers and the same counts, and one that is refused is refused with the same fault; and the
-/// other way round. Whoever has judged an entry gets each script, and has no refusal to hand on.
+/// A law that costs nothing to call: an instance that is accepted when it is only judged is accepted
+/// with its script, with the same knowledge of its numbers and the same counts, and one that is
+/// refused is refused with the same fault; and the other way round. Whoever has judged an entry gets
+/// each script, and has no refusal to hand on.
 pub fn accepted_are_written()
     ensures { AcceptedAreWritten }
 {}
