@@ -1,6 +1,6 @@
-mod Covers
-mod Ends
-mod Intervals
-mod Judging
-mod Operators
-mod Words
+pub mod Covers
+pub mod Ends
+pub mod Intervals
+pub mod Judging
+pub mod Operators
+pub mod Words

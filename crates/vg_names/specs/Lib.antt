@@ -1,6 +1,7 @@
 pub mod Naming
 pub mod Pieces
 pub mod Proper
+pub mod Reading
 pub mod Registers
 pub mod Scopes
 pub mod Views

@@ -20,6 +20,9 @@ mod signs;
 mod targets;
 mod variables;
 
-pub use law::resolved_operations_are_proper;
+pub use law::{
+    narrow_headers_are_written, operations_that_are_read_are_written,
+    resolved_operations_are_proper,
+};
 pub use name_fault::NameFault;
 pub use resolved::{Body, Code, Function, Resolved, ResolvedArguments, ResolvedExpr, Target};

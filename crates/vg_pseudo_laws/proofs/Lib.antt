@@ -1,20 +1,20 @@
-mod BlocksAgain
-mod BlocksFound
-mod ChoicesFound
-mod ExpressionsAgain
-mod ExpressionsFound
-mod FormsAgain
-mod FormsFound
-mod LanguageRead
-mod ListsAgain
-mod ListsFound
-mod OperandsAgain
-mod OperandsFound
-mod OperationsAgain
-mod OperationsFound
-mod Standing
-mod StatementsAgain
-mod StatementsFound
-mod TargetsAgain
-mod WaysAgain
-mod WordsAgain
+pub mod BlocksAgain
+pub mod BlocksFound
+pub mod ChoicesFound
+pub mod ExpressionsAgain
+pub mod ExpressionsFound
+pub mod FormsAgain
+pub mod FormsFound
+pub mod LanguageRead
+pub mod ListsAgain
+pub mod ListsFound
+pub mod OperandsAgain
+pub mod OperandsFound
+pub mod OperationsAgain
+pub mod OperationsFound
+pub mod Standing
+pub mod StatementsAgain
+pub mod StatementsFound
+pub mod TargetsAgain
+pub mod WaysAgain
+pub mod WordsAgain

@@ -1,4 +1,9 @@
+mod Alike
+mod Bare
 mod Calls
+mod Instances
+mod Judged
 mod Statements
+mod WalkedAlike
 mod Walking
 mod Writing

@@ -1,3 +1,4 @@
 pub mod Acceptance
+pub mod Kept
 pub mod Meant
 pub mod Walk

@@ -3,10 +3,10 @@
 //! An operation is looked at in the order in which it runs, once for each immediate: `vg_interval`'s `specs/Judge.antt`
 //! says what is known of its expressions, `specs/Walk.antt` of its statements, and `specs/Acceptance.antt` what is
 //! refused first. The same walk makes the script of an instance, and [`scripts_mean_their_texts`] says that the script
-//! does what the text means.
+//! does what the text means; [`accepted_are_written`] that judging alone accepts just what has a script.
 #![tactic(auto)]
 
 pub mod law;
 
-pub use law::scripts_mean_their_texts;
+pub use law::{accepted_are_written, scripts_mean_their_texts};
 pub use vg_interval::RangeFault;
