@@ -1,5 +1,10 @@
-mod LastRegister
+mod Gathering
+mod LastOfNames
 mod Listing
+mod Marking
 mod Places
 mod Resolving
+mod Signing
 mod Stepping
+mod TablesOfNames
+mod Texts

@@ -4,21 +4,26 @@
 //! `specs/Views.antt` says which resolved operation a value is.
 #![tactic(auto)]
 
+mod assignments;
 mod body;
 mod code;
 mod expressions;
-mod functions;
+mod forms;
 mod given_registers;
+mod last_names;
 pub mod law;
+mod locals;
+mod marks;
 pub mod name_fault;
+mod names;
 mod piece;
 mod registers;
 pub mod resolved;
 mod same;
 mod scope;
+mod signed_names;
 mod signs;
 mod targets;
-mod variables;
 
 pub use law::resolved_operations_are_proper;
 pub use name_fault::NameFault;
