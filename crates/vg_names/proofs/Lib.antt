@@ -5,6 +5,7 @@ mod Marking
 mod Places
 mod Resolving
 mod Signing
+mod SortingLocals
 mod Stepping
 mod TablesOfNames
 mod Texts

@@ -136,7 +136,7 @@ found-has (m ∷ names) n i e = by (λ j. found-has names n j) (bytes_eq m n) re
 
 -- ---- signs
 
-signs-same : (s t : Signs) → ((n : List ℕ) → s.slices n ≡ t.slices n) → ((n : List ℕ) → s.whole n ≡ t.whole n) → (ts : List (List ℕ)) (e : Expression) → is_signed s ts e ≡ is_signed t ts e
+pub signs-same : (s t : Signs) → ((n : List ℕ) → s.slices n ≡ t.slices n) → ((n : List ℕ) → s.whole n ≡ t.whole n) → (ts : List (List ℕ)) (e : Expression) → is_signed s ts e ≡ is_signed t ts e
 signs-same s t a b ts (tree.number at n) = refl
 signs-same s t a b ts (tree.name at n) = ap (λ x. not (has_name ts n) && x) (b n)
 signs-same s t a b ts (tree.slice at n h l) = ap (λ x. not (has_name ts n) && x) (a n)
@@ -160,7 +160,7 @@ gathered-any t b (a ∷ as') n = by (λ d. gathered-any t d as' n) (bytes_eq a.n
     by g true = g (b || t a) ∙ or-assoc b (t a) (list_any (λ a. bytes_eq a.name n && t a) as')
     by g false = g b
 
-any-same : {A : Type 0} (p q : A → Bool) → ((x : A) → p x ≡ q x) → (xs : List A) → list_any p xs ≡ list_any q xs
+pub any-same : {A : Type 0} (p q : A → Bool) → ((x : A) → p x ≡ q x) → (xs : List A) → list_any p xs ≡ list_any q xs
 any-same p q e [] = refl
 any-same p q e (x ∷ xs) = ap (λ b. b || list_any p xs) (e x) ∙ ap (λ b. q x || b) (any-same p q e xs)
 

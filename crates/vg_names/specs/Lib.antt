@@ -1,4 +1,5 @@
 pub mod Assigned
+pub mod Bodies
 pub mod Distinct
 pub mod Gathered
 pub mod LastPlaces

@@ -6,6 +6,7 @@
 
 mod assignments;
 mod body;
+mod body_names;
 mod code;
 mod expressions;
 mod forms;

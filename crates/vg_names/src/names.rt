@@ -1,7 +1,6 @@
 //! Names, each once.
 
-ghost use Rattle.std.specs.Prelude.{◌≡◌, [], length, OnOk, slice_get};
-ghost use Rattle.std.specs.Option.{option_map};
+ghost use Rattle.std.specs.Prelude.{◌≡◌, [], length, map, vec_items, OnOk};
 ghost use Rattle.vg_pseudo.specs.Names.{has_name};
 ghost use Rattle.vg_names.specs.Distinct.{AreDistinct, with_name, place_of};
 
@@ -66,13 +65,10 @@ impl Names {
         self.all.len()
     }
 
-    /// The name of this number.
-    pub(crate) fn get(&self, number: usize) -> Option<&[u8]>
-        ensures { option_map (λ n. n.now) result ≡ slice_get self.now number }
+    /// All of them in their order.
+    pub(crate) fn as_slice(&self) -> &[Vec<u8>]
+        ensures { map vec_items result.now ≡ self.now }
     {
-        match self.all.get_index(number) {
-            Some(name) => Some(name.as_slice()),
-            None => None,
-        }
+        self.all.as_slice()
     }
 }
