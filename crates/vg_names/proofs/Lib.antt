@@ -4,6 +4,7 @@ mod Listing
 mod Marking
 mod Places
 mod Resolving
+mod ResolvingAll
 mod Signing
 mod SortingLocals
 mod Stepping

@@ -68,7 +68,7 @@ with-one before m n = by (has_name before m) refl (bytes_eq m n) refl
     by true e false f = rw (e, f) (sym (or-false (has_name before n)))
     by false e d f = rw e (any-append (λ x. bytes_eq x n) before (m ∷ []) ∙ ap (λ b. has_name before n || b) (or-false (bytes_eq m n)))
 
-has-behind : (before ns : List (List ℕ)) (n : List ℕ) → has_name (distinct_behind before ns) n ≡ (has_name before n || has_name ns n)
+pub has-behind : (before ns : List (List ℕ)) (n : List ℕ) → has_name (distinct_behind before ns) n ≡ (has_name before n || has_name ns n)
 has-behind before [] n = sym (or-false (has_name before n))
 has-behind before (m ∷ ns) n =
     has-behind (with_name before m) ns n ∙ ap (λ b. b || has_name ns n) (with-one before m n) ∙ or-assoc (has_name before n) (bytes_eq m n) (has_name ns n)

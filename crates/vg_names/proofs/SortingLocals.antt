@@ -1,7 +1,8 @@
 -- The locals of a body, one after the other, are its registers and its number variables.
-use Rattle.std.proofs.Common.{◌≡◌, ℕ, ◌+◌, zero, suc, ◌<◌, Bool, true, false, ◌||◌, ◌&&◌, List, [], ◌∷◌, ◌++◌, map, length, get_or, drop, replicate, Option, Some, None, refl, sym, ◌∙◌, ap, subst, arith, append_assoc, true≢false}
+use Rattle.std.proofs.Common.{◌≡◌, ℕ, ◌+◌, zero, suc, ◌<◌, Bool, true, false, ◌||◌, ◌&&◌, List, [], ◌∷◌, ◌++◌, map, length, get_or, drop, replicate, Option, Some, None, refl, sym, ◌∙◌, ap, subst, arith, append_assoc, true≢false, Result, Ok, Err}
 use Rattle.std.specs.Prelude.{fold, filter, not, if◌then◌else◌}
 use Rattle.std.specs.List.{list_any}
+use Rattle.std.specs.Result.{IfOk}
 use Rattle.std.specs.Option.{option_map}
 use Rattle.std.specs.Str.{bytes_eq}
 use Rattle.std.proofs.lemmas.List.{append-nil, length-append}
@@ -277,3 +278,7 @@ pub variables_in_all : (given : List Register) (marked : List (List ℕ)) (body 
 variables_in_all given marked body as' names variables ea en d ev =
     let en' : names ≡ locals_of (local_assignments given body) = en ∙ ap locals_of ea in
     ev ∙ ap (variables_behind marked []) en' ∙ variables_are marked (local_assignments given body) (subst AreDistinct en' d)
+
+pub if_ok : {A E : Type 0} {P Q : A → Type 0} → ((b : A) → P b → Q b) → (r : Result A E) → IfOk r P → IfOk r Q
+if_ok f (Ok x) h = f x h
+if_ok f (Err e) h = h

@@ -19,6 +19,7 @@ pub mod name_fault;
 mod names;
 mod piece;
 mod registers;
+mod operation;
 pub mod resolved;
 mod same;
 mod scope;
@@ -28,4 +29,5 @@ mod targets;
 
 pub use law::resolved_operations_are_proper;
 pub use name_fault::NameFault;
+pub use operation::resolve;
 pub use resolved::{Body, Code, Function, Resolved, ResolvedArguments, ResolvedExpr, Target};

@@ -11,12 +11,8 @@ use Rattle.vg_names.specs.declared.forms.Forms.TheVariants.{Unseen}
 use Rattle.vg_names.specs.Gathered.{gathered, signed_after, with_form}
 use Rattle.vg_names.specs.Registers.{has_sign}
 use Rattle.vg_names.specs.declared.body_names.BodyNames.{BodyNames}
-use Rattle.vg_names.proofs.SortingLocals.{registers_in_all, variables_in_all}
+use Rattle.vg_names.proofs.SortingLocals.{if_ok, registers_in_all, variables_in_all}
 use Rattle.vg_names.proofs.body_names.body_names.Goals as goal
-
-if-ok : {A E : Type 0} {P Q : A → Type 0} → ((b : A) → P b → Q b) → (r : Result A E) → IfOk r P → IfOk r Q
-if-ok f (Ok x) h = f x h
-if-ok f (Err e) h = h
 
 pub returns-clause-registers : goal.returns-clause-registers
 returns-clause-registers c =
@@ -31,7 +27,7 @@ returns-clause-registers c =
     let eg : c.in_ok-forms.forms.items ≡ gathered with_form Unseen names as' =
     c.in_ok-forms.ensures ∙ ap (λ xs. gathered with_form Unseen names (map assignment_view xs)) c.as_slice-3.ensures.value in
     let d : AreDistinct names = subst AreDistinct c.locals.view_is c.locals.invariant in
-    if-ok (λ b h. registers_in_all c.args.given c.args.marked.now (statements_of c.args.body.now) as' names _ _ (length c.as_slice-2.result.now) b.registers ea en ef ec eg d
+    if_ok (λ b h. registers_in_all c.args.given c.args.marked.now (statements_of c.args.body.now) as' names _ _ (length c.as_slice-2.result.now) b.registers ea en ef ec eg d
       (h ∙ ap (λ fs. c.args.given ++ registers_from c.args.marked.now fs c.as_slice-5.result.now 0 names) c.as_slice-4.ensures.value
       ∙ ap (λ fs. c.args.given ++ registers_from c.args.marked.now c.in_ok-flags.flags.items fs 0 names) c.as_slice-5.ensures.value))
     c.with_locals.result c.with_locals.ensures.registers
@@ -44,5 +40,5 @@ returns-clause-variables c =
     let names = c.in_ok-locals.locals in
     let en : names ≡ locals_of as' = c.in_ok-locals.ensures ∙ ap (λ xs. locals_of (map assignment_view xs)) c.as_slice.ensures.value in
     let d : AreDistinct names = subst AreDistinct c.locals.view_is c.locals.invariant in
-    if-ok (λ b h. variables_in_all c.args.given c.args.marked.now (statements_of c.args.body.now) as' names b.variables ea en d h)
+    if_ok (λ b h. variables_in_all c.args.given c.args.marked.now (statements_of c.args.body.now) as' names b.variables ea en d h)
     c.with_locals.result c.with_locals.ensures.variables
