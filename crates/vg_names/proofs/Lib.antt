@@ -1,8 +1,15 @@
-mod LastRegister
+mod Gathering
+mod LastOfNames
 mod Listing
+mod Marking
 mod Narrow
 mod NumbersWritten
 mod Places
 mod Resolving
+mod ResolvingAll
+mod Signing
+mod SortingLocals
 mod Stepping
+mod TablesOfNames
+mod Texts
 mod WordsCut

@@ -1,3 +1,9 @@
+pub mod Assigned
+pub mod Bodies
+pub mod Distinct
+pub mod Gathered
+pub mod LastPlaces
+pub mod Marks
 pub mod Naming
 pub mod Pieces
 pub mod Proper

@@ -1,4 +1,5 @@
 -- A register of a body, as the definition of names speaks of it.
+use Rattle.std.specs.Prelude.{Bool, ◌||◌}
 use Rattle.vg_pseudo.specs.Names.{Register}
 use Rattle.vg_names.specs.declared.registers.Register as code
 
@@ -11,3 +12,7 @@ register_view r = record {
   signed_whole = r.signed_whole;
   span = r.span;
 }
+
+-- some of its bits are read as signed
+abbrev pub has_sign : Register → Bool
+has_sign r = r.signed_slices || r.signed_whole

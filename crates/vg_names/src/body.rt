@@ -8,12 +8,12 @@ ghost use Rattle.vg_names.specs.Views.{body_of, function_view};
 
 use crate::code::code_of;
 use crate::expressions::resolved;
-use crate::functions::FunctionNames;
+use crate::last_names::LastNames;
 use crate::name_fault::NameFault;
+use crate::names::Names;
 use crate::registers::Registers;
 use crate::resolved::{Body, Function};
 use crate::scope::Scope;
-use crate::variables::Variables;
 use std::alloc::Global;
 use vg_base::Items;
 use vg_pseudo::{Define, Stmt};
@@ -23,8 +23,8 @@ pub(crate) fn resolved_body(
     alloc: Global,
     parameters: usize,
     registers: &Registers,
-    variables: &Variables,
-    functions: &FunctionNames,
+    variables: &Names,
+    functions: &LastNames,
     statements: &Stmt,
 ) -> Result<Body, NameFault>
     ensures { Gives body_of result
@@ -45,8 +45,8 @@ pub(crate) fn resolved_body(
 pub(crate) fn resolved_function(
     alloc: Global,
     registers: &Registers,
-    variables: &Variables,
-    functions: &FunctionNames,
+    variables: &Names,
+    functions: &LastNames,
     define: &Define,
 ) -> Result<Function, NameFault>
     ensures { Gives function_view result

@@ -29,7 +29,7 @@ fn param_registers(alloc: Global, params: &[Param]) -> Result<Registers, AllocEr
 {
     let mut registers = Registers::new(alloc);
     for param in params {
-        registers.push(param_register(alloc, param)?)?;
+        registers = registers.with(alloc, param_register(alloc, param)?)?;
     }
     Ok(registers)
 }
@@ -59,15 +59,15 @@ pub(crate) fn operand_registers(alloc: Global, header: &Header) -> Result<Regist
 
 fn with_imm(
     alloc: Global,
-    mut registers: Registers,
+    registers: Registers,
     imm: &Option<ImmRange>,
 ) -> Result<Registers, AllocError>
     ensures { IfOk result (λ rs. rs ≡ registers ++ imm_registers imm.now) }
 {
     match imm {
         Some(imm) => {
-            registers.push(imm_register(alloc, imm)?)?;
-            Ok(registers)
+            let imm = imm_register(alloc, imm)?;
+            registers.with(alloc, imm)
         }
         None => Ok(registers),
     }
@@ -137,7 +137,7 @@ pub(crate) fn define_registers(
 {
     let mut registers = Registers::new(alloc);
     for param in params {
-        registers.push(define_register(alloc, param)?)?;
+        registers = registers.with(alloc, define_register(alloc, param)?)?;
     }
     Ok(registers)
 }

@@ -4,25 +4,33 @@
 //! `specs/Views.antt` says which resolved operation a value is.
 #![tactic(auto)]
 
+mod assignments;
 mod body;
+mod body_names;
 mod code;
 mod expressions;
-mod functions;
+mod forms;
 mod given_registers;
+mod last_names;
 pub mod law;
+mod locals;
+mod marks;
 pub mod name_fault;
+mod names;
 mod piece;
 mod registers;
+mod operation;
 pub mod resolved;
 mod same;
 mod scope;
+mod signed_names;
 mod signs;
 mod targets;
-mod variables;
 
 pub use law::{
     narrow_headers_are_written, operations_that_are_read_are_written,
     resolved_operations_are_proper,
 };
 pub use name_fault::NameFault;
+pub use operation::resolve;
 pub use resolved::{Body, Code, Function, Resolved, ResolvedArguments, ResolvedExpr, Target};

@@ -1,16 +1,16 @@
 //! The registers of a body.
 
-ghost use Rattle.std.specs.Prelude.{◌≡◌, ℕ, None, ◌++◌, ◌∷◌, [], OnOk, OnErr, IfOk, Some, map, if◌then◌else◌};
+ghost use Rattle.std.specs.Prelude.{◌≡◌, None, ◌++◌, ◌∷◌, [], IfOk, map, filter, length};
+ghost use Rattle.std.specs.List.{list_any};
 ghost use Rattle.std.specs.Option.{option_map};
 ghost use Rattle.std.specs.Str.{bytes_eq};
 ghost use Rattle.vg_pseudo.specs.Names.{last_register};
-ghost use Rattle.vg_pseudo.specs.Names as names;
-ghost use Rattle.vg_names.specs.Registers.{register_view};
+ghost use Rattle.vg_names.specs.Registers.{register_view, has_sign};
 
+use crate::last_names::LastNames;
 use std::alloc::{AllocError, Global};
 use std::marker::Model;
 use vg_base::Name;
-use vg_text::byte::is_text;
 
 /// A register of a body.
 #[derive(Debug, Drop)]
@@ -29,19 +29,22 @@ pub(crate) struct Register {
 }
 
 /// The registers of a body by their numbers.
-#[derive(Debug, Drop)]
+#[derive(Drop)]
 pub(crate) struct Registers {
     all: Vec<Register>,
+    names: LastNames,
 }
 
 impl Model for Registers {
-    ghost use Rattle.std.specs.Prelude.{List, map};
+    ghost use Rattle.std.specs.Prelude.{◌≡◌, List, map};
     ghost use Rattle.vg_pseudo.specs.Names.{Register};
     ghost use Rattle.vg_names.specs.Registers.{register_view};
 
     ghost Value = { List Register };
 
     ghost view = { λ s. map register_view s.all.items };
+
+    ghost invariant = { λ s. s.names ≡ map (λ r. r.name) (map register_view s.all.items) };
 }
 
 impl Registers {
@@ -50,16 +53,18 @@ impl Registers {
     {
         Registers {
             all: Vec::new(alloc),
+            names: LastNames::new(alloc),
         }
     }
 
-    /// One register more.
-    pub(crate) fn push(&mut self, register: Register) -> Result<(), AllocError>
-        ensures ok { OnOk result (self.new ≡ self.old ++ register_view register ∷ []) }
-        ensures err { OnErr result (self.new ≡ self.old) }
+    /// And one register more.
+    pub(crate) fn with(self, alloc: Global, register: Register) -> Result<Registers, AllocError>
+        ensures { IfOk result (λ s. s ≡ self ++ register_view register ∷ []) }
     {
-        self.all.push(register)?;
-        Ok(())
+        let Registers { mut all, names } = self;
+        let names = names.with(alloc, register.name.bytes())?;
+        all.push(register)?;
+        Ok(Registers { all, names })
     }
 
     /// Their widths in bits.
@@ -69,11 +74,34 @@ impl Registers {
         widths_of(alloc, self.all.as_slice())
     }
 
+    /// How many there are.
+    pub(crate) fn count(&self) -> usize
+        ensures { result ≡ length self.now }
+    {
+        self.all.len()
+    }
+
+    /// Whether one has this name.
+    pub(crate) fn has(&self, name: &[u8]) -> bool
+        ensures { result ≡ list_any (λ r. bytes_eq r.name name.now) self.now }
+    {
+        self.names.last(name).is_some()
+    }
+
     /// The last register of this name, with its number.
     pub(crate) fn last(&self, name: &[u8]) -> Option<(usize, &Register)>
         ensures { option_map (λ p. (p.0, register_view p.1.now)) result ≡ last_register 0 None self.now name.now }
     {
-        last_of(self.all.as_slice(), name)
+        let number = self.names.last(name)?;
+        let register = self.all.get(number)?;
+        Some((number, register))
+    }
+
+    /// Those of which some bits are read as signed.
+    pub(crate) fn signed(&self, alloc: Global) -> Result<Vec<&Register>, AllocError>
+        ensures { IfOk result (λ s. map (λ r. register_view r.now) s.items ≡ filter has_sign self.now) }
+    {
+        signed_of(alloc, self.all.as_slice())
     }
 }
 
@@ -87,36 +115,26 @@ fn widths_of(alloc: Global, all: &[Register]) -> Result<Vec<u128>, AllocError>
     Ok(widths)
 }
 
-/// The last of these of this name, with its place.
-fn last_of<'a>(all: &'a [Register], name: &[u8]) -> Option<(usize, &'a Register)>
-    ensures { option_map (λ p. (p.0, register_view p.1.now)) result ≡
-        last_register 0 None (map register_view all.now) name.now }
+fn signed_of(alloc: Global, all: &[Register]) -> Result<Vec<&Register>, AllocError>
+    ensures { IfOk result (λ s. map (λ r. register_view r.now) s.items ≡ filter has_sign (map register_view all.now)) }
 {
-    let mut found = None;
-    let mut number: usize = 0;
-    let mut rest = all;
-    'registers: while let [first, behind @ ..] = rest {
-        found = later(found, number, first, name);
-        number += 1;
-        rest = behind;
+    let mut signed = Vec::new(alloc);
+    'registers: for register in all {
+        signed = with_signed(signed, register)?;
     }
-    found
+    Ok(signed)
 }
 
-/// This register, where it has the name, else what was found before it.
-fn later<'a>(
-    found: Option<(usize, &'a Register)>,
-    number: usize,
+/// And this register, where some of its bits are read as signed.
+fn with_signed<'a>(
+    mut signed: Vec<&'a Register>,
     register: &'a Register,
-    name: &[u8],
-) -> Option<(usize, &'a Register)>
-    ensures { option_map {U = ℕ × names.Register} (λ p. (p.0, register_view p.1.now)) result ≡
-        (if bytes_eq register.now.name name.now then Some (number, register_view register.now)
-        else option_map {U = ℕ × names.Register} (λ p. (p.0, register_view p.1.now)) found.entry) }
+) -> Result<Vec<&'a Register>, AllocError>
+    ensures { IfOk result (λ s. map (λ r. register_view r.now) s.items ≡
+        map (λ r. register_view r.now) signed.entry.items ++ filter has_sign (register_view register.now ∷ [])) }
 {
-    if is_text(register.name.bytes(), name) {
-        Some((number, register))
-    } else {
-        found
+    if register.signed_slices | register.signed_whole {
+        signed.push(register)?;
     }
+    Ok(signed)
 }

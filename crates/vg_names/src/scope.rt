@@ -6,9 +6,9 @@ ghost use Rattle.vg_pseudo.specs.Resolve.{inside};
 ghost use Rattle.std.specs.Str.{bytes_eq};
 ghost use Rattle.vg_names.specs.Scopes.{meaning_view, scope_over};
 
-use crate::functions::FunctionNames;
+use crate::last_names::LastNames;
+use crate::names::Names;
 use crate::registers::{Register, Registers};
-use crate::variables::Variables;
 use std::alloc::{AllocError, Global};
 use std::marker::Model;
 use vg_text::byte::is_text;
@@ -30,8 +30,8 @@ pub(crate) enum Meaning<'a> {
 #[derive(Drop)]
 pub(crate) struct Scope<'a> {
     registers: &'a Registers,
-    variables: &'a Variables,
-    functions: &'a FunctionNames,
+    variables: &'a Names,
+    functions: &'a LastNames,
     turns: Vec<&'a [u8]>,
 }
 
@@ -54,8 +54,8 @@ impl<'a> Scope<'a> {
     pub(crate) fn new(
         alloc: Global,
         registers: &'a Registers,
-        variables: &'a Variables,
-        functions: &'a FunctionNames,
+        variables: &'a Names,
+        functions: &'a LastNames,
     ) -> Scope<'a>
         ensures { result ≡ scope_over registers.now variables.now functions.now }
     {

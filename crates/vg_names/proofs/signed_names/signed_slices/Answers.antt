@@ -1,0 +1,8 @@
+use Rattle.std.proofs.Common.{◌∙◌, ◌&&◌}
+use Rattle.std.specs.Str.{bytes_eq}
+use Rattle.vg_names.specs.Registers.{register_view}
+use Rattle.vg_names.proofs.TablesOfNames.{any_mapped}
+use Rattle.vg_names.proofs.signed_names.signed_slices.Goals as goal
+
+pub returns : goal.returns
+returns c = c.is_any_signed_slices.ensures ∙ any_mapped (λ r. register_view r.now) (λ r. bytes_eq r.name c.args.name.now && r.signed_slices) c.args.given.now

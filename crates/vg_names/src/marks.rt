@@ -1,0 +1,211 @@
+//! The names of a body that stand with brackets or with an element.
+
+ghost use Rattle.std.specs.Prelude.{◌≡◌, ◌<◌, ◌∷◌, map, OnOk, IfOk, IfSome};
+ghost use Rattle.std.specs.Option.{option_map};
+ghost use Rattle.vg_pseudo.specs.Tree.{expression_of, arguments_of, statements_of};
+ghost use Rattle.vg_pseudo.specs.declared.statement.Stmt.{size-Stmt};
+ghost use Rattle.vg_names.specs.Assigned.{behind_first};
+ghost use Rattle.vg_names.specs.Marks.{with_seen, marked, all_marked, marked_in, first_marked};
+
+use crate::assignments::{around, has_name};
+use crate::names::Names;
+use std::alloc::{AllocError, Global};
+use vg_base::Name;
+use vg_pseudo::{Arguments, Expr, Stmt};
+
+/// A name that stands with brackets or an element, where no FOR around it hides the name.
+fn mark_name(
+    alloc: Global,
+    turns: &[&[u8]],
+    name: &Name,
+    names: &mut Names,
+) -> Result<(), AllocError>
+    ensures { OnOk result (names.new ≡ with_seen (map (λ t. t.now) turns.now) name.now names.old) }
+{
+    if has_name(turns, name.bytes()) {
+        return Ok(());
+    }
+    names.add(alloc, name.bytes())
+}
+
+/// Those of an expression.
+#[cycle(marks)]
+pub(crate) fn mark(
+    alloc: Global,
+    turns: &[&[u8]],
+    expr: &Expr,
+    names: &mut Names,
+) -> Result<(), AllocError>
+    ensures { OnOk result (names.new ≡ marked (map (λ t. t.now) turns.now) (expression_of expr.now) names.old) }
+{
+    match expr {
+        Expr::Number { .. } => Ok(()),
+        Expr::Name { .. } => Ok(()),
+        Expr::Slice {
+            name, high, low, ..
+        } => {
+            mark_name(alloc, turns, name, names)?;
+            mark(alloc, turns, high, names)?;
+            mark(alloc, turns, low, names)
+        }
+        Expr::Bit { name, index, .. } => {
+            mark_name(alloc, turns, name, names)?;
+            mark(alloc, turns, index, names)
+        }
+        Expr::Element { name, index, .. } => {
+            mark_name(alloc, turns, name, names)?;
+            mark(alloc, turns, index, names)
+        }
+        Expr::Part { name, .. } => mark_name(alloc, turns, name, names),
+        Expr::Unary { operand, .. } => mark(alloc, turns, operand, names),
+        Expr::Binary { left, right, .. } => {
+            mark(alloc, turns, left, names)?;
+            mark(alloc, turns, right, names)
+        }
+        Expr::Choice {
+            condition,
+            first,
+            second,
+            ..
+        } => {
+            mark(alloc, turns, condition, names)?;
+            mark(alloc, turns, first, names)?;
+            mark(alloc, turns, second, names)
+        }
+        Expr::Call { arguments, .. } => mark_all(alloc, turns, arguments, names),
+    }
+}
+
+/// Those of arguments, along the list in a loop.
+#[cycle(marks)]
+fn mark_all(
+    alloc: Global,
+    turns: &[&[u8]],
+    arguments: &Arguments,
+    names: &mut Names,
+) -> Result<(), AllocError>
+    ensures { OnOk result (names.new ≡ all_marked (map (λ t. t.now) turns.now) (arguments_of arguments.now) names.old) }
+{
+    let mut left = arguments;
+    'arguments: while let Arguments::More { argument, rest } = left {
+        match mark(alloc, turns, argument, names) {
+            Ok(()) => left = rest,
+            Err(error) => return Err(error),
+        }
+    }
+    Ok(())
+}
+
+/// Those of statements inside FORs over these variables, along the list in a loop.
+#[cycle(marks_in)]
+pub(crate) fn mark_in<'a>(
+    alloc: Global,
+    turns: &[&'a [u8]],
+    code: &'a Stmt,
+    names: &mut Names,
+) -> Result<(), AllocError>
+    ensures { OnOk result (names.new ≡ marked_in (map (λ t. t.now) turns.now) (statements_of code.now) names.old) }
+{
+    let mut left = code;
+    'statements: loop {
+        match mark_first(alloc, turns, left, names) {
+            Ok(Some(rest)) => left = rest,
+            Ok(None) => return Ok(()),
+            Err(error) => return Err(error),
+        }
+    }
+}
+
+/// Those of the first statement of these, and what stands behind it.
+#[cycle(marks_in)]
+fn mark_first<'a>(
+    alloc: Global,
+    turns: &[&'a [u8]],
+    code: &'a Stmt,
+    names: &mut Names,
+) -> Result<Option<&'a Stmt>, AllocError>
+    ensures marked { OnOk result (names.new ≡ first_marked (map (λ t. t.now) turns.now) (statements_of code.now) names.old) }
+    ensures rest { IfOk result (λ o. option_map (λ s. statements_of s.now) o ≡ behind_first (statements_of code.now)) }
+    ensures inside { IfOk result (λ o. IfSome o (λ s. size-Stmt s.now < size-Stmt code.now)) }
+{
+    match code {
+        Stmt::End => Ok(None),
+        Stmt::Assign {
+            target,
+            value,
+            rest,
+            ..
+        } => {
+            mark(alloc, turns, target, names)?;
+            mark(alloc, turns, value, names)?;
+            Ok(Some(rest))
+        }
+        Stmt::AssignAbove {
+            name,
+            low,
+            value,
+            rest,
+            ..
+        } => {
+            mark_name(alloc, turns, name, names)?;
+            mark(alloc, turns, low, names)?;
+            mark(alloc, turns, value, names)?;
+            Ok(Some(rest))
+        }
+        Stmt::For {
+            variable,
+            first,
+            last,
+            body,
+            rest,
+            ..
+        } => {
+            mark(alloc, turns, first, names)?;
+            mark(alloc, turns, last, names)?;
+            mark_inside(alloc, turns, variable, body, names)?;
+            Ok(Some(rest))
+        }
+        Stmt::If { ways, rest } => {
+            mark_in(alloc, turns, ways, names)?;
+            Ok(Some(rest))
+        }
+        Stmt::Way {
+            condition,
+            body,
+            ways,
+        } => {
+            mark(alloc, turns, condition, names)?;
+            mark_in(alloc, turns, body, names)?;
+            Ok(Some(ways))
+        }
+        Stmt::Else { body } => Ok(Some(body)),
+        Stmt::Case {
+            selector,
+            arms,
+            rest,
+        } => {
+            mark(alloc, turns, selector, names)?;
+            mark_in(alloc, turns, arms, names)?;
+            Ok(Some(rest))
+        }
+        Stmt::Arm { body, arms, .. } => {
+            mark_in(alloc, turns, body, names)?;
+            Ok(Some(arms))
+        }
+    }
+}
+
+/// Those of the body of a FOR.
+#[cycle(marks_in)]
+fn mark_inside<'a>(
+    alloc: Global,
+    turns: &[&'a [u8]],
+    variable: &'a Name,
+    body: &'a Stmt,
+    names: &mut Names,
+) -> Result<(), AllocError>
+    ensures { OnOk result (names.new ≡ marked_in (variable.now ∷ map (λ t. t.now) turns.now) (statements_of body.now) names.old) }
+{
+    let around = around(alloc, turns, variable)?;
+    mark_in(alloc, around.as_slice(), body, names)
+}
