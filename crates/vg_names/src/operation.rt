@@ -114,7 +114,10 @@ pub fn resolve(
     let Defined { functions, names } = resolved_defines(alloc, operation.defines.as_slice())?;
     let operands = operand_registers(alloc, header)?;
     let result = operands.count();
-    let body = operation_body(alloc, operands, header, &names, &operation.body)?;
+    let body = match operation_body(alloc, operands, header, &names, &operation.body) {
+        Ok(body) => body,
+        Err(fault) => return Err(fault),
+    };
     Ok(Resolved {
         functions: Items::from_vec(functions),
         body,

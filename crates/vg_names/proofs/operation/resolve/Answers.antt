@@ -8,35 +8,32 @@ use Rattle.vg_names.specs.Views.{body_of, function_view, resolved_of}
 use Rattle.vg_names.proofs.ResolvingAll.{resolve_done, resolve_fails, body_of_operation}
 use Rattle.vg_names.proofs.operation.resolve.Goals as goal
 
-abbrev made : List Function → Result (List Function) NameFault
-made fs = Ok fs
-
 abbrev found : Resolved → Result Resolved NameFault
 found r = Ok r
-
-pub returns-in_err-body : goal.returns-in_err-body
-returns-in_err-body c =
-    let h = c.args.header.now in
-    let o = operation_of c.args.operation.now in
-    let fs = map function_view c.in_ok-functions.functions.items in
-    let ef : functions_of [] o.defines ≡ Ok fs = ap (λ ds. functions_of [] (map define_of ds)) (sym c.as_slice.ensures) ∙ c.in_ok-functions.ensures.functions ∙ ap (λ (v : _). made (map function_view v.items)) c.in_ok-functions.functions-is in
-    let en = sym c.in_ok-functions.names-is ∙ c.in_ok-functions.ensures.names ∙ ap (λ ds. map (λ d. d.name) (map define_of ds)) c.as_slice.ensures in
-    record {
-      exact = rw (c.from_residual-in_err-body.ensures) (resolve_fails h o fs (told c.in_err-body.field-0.0) ef
-          (body_of_operation h o c.in_ok-operands.operands c.in_ok-functions.names (FailsBy (told c.in_err-body.field-0.0)) c.in_ok-operands.ensures en c.in_err-body.ensures));
-    }
 
 pub returns : goal.returns
 returns c =
     let h = c.args.header.now in
     let o = operation_of c.args.operation.now in
-    let fs = map function_view c.in_ok-functions.functions.items in
-    let b = body_of c.in_ok-body.body in
-    let ef : functions_of [] o.defines ≡ Ok fs = ap (λ ds. functions_of [] (map define_of ds)) (sym c.as_slice.ensures) ∙ c.in_ok-functions.ensures.functions ∙ ap (λ (v : _). made (map function_view v.items)) c.in_ok-functions.functions-is in
-    let en = sym c.in_ok-functions.names-is ∙ c.in_ok-functions.ensures.names ∙ ap (λ ds. map (λ d. d.name) (map define_of ds)) c.as_slice.ensures in
+    let fs = map function_view c.in_ok-functions.field-0.functions.items in
+    let b = body_of c.in-Ok.body in
+    let ef : functions_of [] o.defines ≡ Ok fs = ap (λ ds. functions_of [] (map define_of ds)) (sym c.as_slice.ensures) ∙ c.in_ok-functions.ensures.functions in
+    let en = c.in_ok-functions.ensures.names ∙ ap (λ ds. map (λ d. d.name) (map define_of ds)) c.as_slice.ensures in
     record {
       exact =
-          resolve_done h o fs b ef (body_of_operation h o c.in_ok-operands.operands c.in_ok-functions.names (λ r. r ≡ Ok b) c.in_ok-operands.ensures en c.in_ok-body.ensures)
+          resolve_done h o fs b ef (body_of_operation h o c.in_ok-operands.operands c.in_ok-functions.field-0.names (λ r. r ≡ Ok b) c.in_ok-operands.ensures en c.in-Ok.ensures)
           ∙ ap (λ n. found (record { functions = fs; body = b; result = n })) (ap length (sym c.in_ok-operands.ensures) ∙ sym c.count-result.ensures)
           ∙ ap (λ gs. found (record { functions = map function_view gs; body = b; result = c.count-result.result })) (sym c.from_vec.ensures);
+    }
+
+pub returns-in-Err : goal.returns-in-Err
+returns-in-Err c =
+    let h = c.args.header.now in
+    let o = operation_of c.args.operation.now in
+    let fs = map function_view c.in_ok-functions.field-0.functions.items in
+    let ef : functions_of [] o.defines ≡ Ok fs = ap (λ ds. functions_of [] (map define_of ds)) (sym c.as_slice.ensures) ∙ c.in_ok-functions.ensures.functions in
+    let en = c.in_ok-functions.ensures.names ∙ ap (λ ds. map (λ d. d.name) (map define_of ds)) c.as_slice.ensures in
+    record {
+      exact = resolve_fails h o fs (told c.in-Err.fault) ef
+          (body_of_operation h o c.in_ok-operands.operands c.in_ok-functions.field-0.names (FailsBy (told c.in-Err.fault)) c.in_ok-operands.ensures en c.in-Err.ensures);
     }
