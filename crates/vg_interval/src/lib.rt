@@ -4,8 +4,13 @@
 //! `specs/Found.antt` what is known of an expression, and `specs/Judge.antt` how it is found in the order of the text.
 #![tactic(auto)]
 
+pub mod binary_spans;
+pub mod exact;
 pub mod fault;
 pub mod span;
+pub mod spans;
+pub mod unary_spans;
+pub mod word_builders;
 
 pub use fault::RangeFault;
 pub use span::Span;
