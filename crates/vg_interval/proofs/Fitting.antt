@@ -1,5 +1,5 @@
 -- A number that was computed where it fits 128 signed bits is what `fit` gives.
-use Rattle.std.proofs.Common.{◌≡◌, ℕ, zero, suc, ◌+◌, ◌-◌, ◌*◌, ◌%◌, ◌<◌, ◌≤◌, ◌^◌, refl, sym, subst, arith, to_z, of_z, inl, inr, Bool, true, false}
+use Rattle.std.proofs.Common.{◌≡◌, ℕ, zero, suc, ◌+◌, ◌-◌, ◌*◌, ◌/◌, ◌%◌, ◌<◌, ◌≤◌, ◌^◌, refl, sym, subst, arith, to_z, of_z, inl, inr, Bool, true, false}
 use Rattle.std.specs.Prelude.{ℤ, pos, negsuc, ◌+ℤ◌, ◌-ℤ◌, ◌*ℤ◌, neg_ℤ, ◌≤ℤ◌, ◌&&◌, int_le, FitsSigned, Option, Some, None, if◌then◌else◌}
 use Rattle.std.specs.Option.{SomeIff}
 use Rattle.std.specs.Int.{w128}
@@ -8,7 +8,9 @@ use Rattle.vg_base.proofs.LowBits.{pow-le}
 use Rattle.vg_base.specs.Number.{least_signed, greatest_signed}
 use Rattle.vg_pseudo.specs.Whole.{complement, greater, negative}
 use Rattle.vg_interval.specs.Interval.{between, is_small, fit, fitting}
-use Rattle.std.proofs.lemmas.Bool.{cases_Bool}
+use Rattle.std.proofs.lemmas.Bool.{cases_Bool, lt-ltb}
+use Rattle.std.proofs.Math.Nat.{mod-eq_of_lt, div-eq_of_lt}
+use Rattle.vg_base.specs.Bits.{signed_at}
 use Rattle.vg_interval.proofs.Intervals.{Fits, small-fits, fit-some, greater-fits}
 
 small_kept : (z : ℤ) → FitsSigned w128 z → is_small z ≡ true
@@ -111,3 +113,28 @@ reach_none l g p q e = rw (greater-large l g p q (none-large (negative l) e)) re
 pub zero_kept : fit (pos 0) ≡ Some (pos 0)
 unfolding fit
 zero_kept = refl
+
+-- ---- slices of constants
+
+pub all_low : (w n : ℕ) → n < 2 ^ 128 → 128 ≤ w → n ≡ n % 2 ^ w
+all_low w n f h =
+    let p : 2 ^ 128 ≤ 2 ^ w = pow-le 128 w h in
+    let q : n < 2 ^ w = omega (arith, p) in
+    sym (mod-eq_of_lt q)
+
+pub all_signed : (w n : ℕ) → n < 2 ^ 128 → 128 < w → pos n ≡ signed_at w (n % 2 ^ w)
+all_signed w n f h =
+    let p : 2 ^ 128 ≤ 2 ^ (w - 1) = pow-le 128 (w - 1) (omega arith) in
+    let q : n < 2 ^ (w - 1) = omega (arith, p) in
+    rw (sym (all_low w n f (omega arith)), lt-ltb n (2 ^ (w - 1)) q) refl
+
+pub none_signed : (w n : ℕ) → w ≡ 0 → pos 0 ≡ signed_at w (n % 2 ^ w)
+none_signed w n e = rw e (let q : n % 1 ≡ 0 = omega arith in rw q refl)
+
+pub none_behind : (w n : ℕ) → n < 2 ^ 128 → 128 ≤ w → 0 ≡ n / 2 ^ w
+none_behind w n f h =
+    let p : 2 ^ 128 ≤ 2 ^ w = pow-le 128 w h in
+    sym (div-eq_of_lt (omega (arith, p)))
+
+pub fitted_is : (x : ℤ) → FitsSigned w128 x → Some x ≡ fit x
+fitted_is x f = sym (fit_kept x (fits_range x f))

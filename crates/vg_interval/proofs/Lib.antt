@@ -1,5 +1,6 @@
 mod Covers
 mod Ends
+mod Fitting
 mod Intervals
 mod Judging
 mod Operators

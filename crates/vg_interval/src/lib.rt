@@ -7,10 +7,17 @@
 pub mod binary_spans;
 pub mod exact;
 pub mod fault;
+pub mod found;
+pub mod judged;
+pub mod operands;
+pub mod slices;
 pub mod span;
 pub mod spans;
 pub mod unary_spans;
+pub mod whole_numbers;
 pub mod word_builders;
 
 pub use fault::RangeFault;
+pub use found::{Condition, Found, Operand, Passed};
+pub use judged::{Bits, Count, Index, Kept};
 pub use span::Span;

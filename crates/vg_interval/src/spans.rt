@@ -1,6 +1,6 @@
 //! Intervals of given widths, and the interval round two others.
 
-ghost use Rattle.std.specs.Prelude.{◌≡◌, ◌≤◌, ◌<◌, ◌^◌, ◌-◌};
+ghost use Rattle.std.specs.Prelude.{◌≡◌, ◌≤◌, ◌<◌, ◌^◌, ◌-◌, IfSome};
 ghost use Rattle.vg_interval.specs.Interval.{between, fitting, hull, signed_span, slice_span, unsigned_span};
 
 use crate::exact::{greater, lesser};
@@ -48,7 +48,8 @@ pub fn unsigned_span(width: u32) -> Span
 
 /// All numbers of a slice of so many bits, where 128 signed bits hold them.
 pub fn slice_span(is_signed: bool, width: u128) -> Option<Span>
-    ensures { result ≡ slice_span is_signed width }
+    ensures is { result ≡ slice_span is_signed width }
+    ensures narrow { IfSome result (λ _. width ≤ 128) }
 {
     if is_signed {
         if width <= 128 {
