@@ -5,12 +5,15 @@ use Rattle.std.specs.Option.{SomeIff}
 use Rattle.std.specs.Int.{w128}
 use Rattle.std.proofs.lemmas.Int.{ints, to_z-of_z}
 use Rattle.vg_base.proofs.LowBits.{pow-le}
-use Rattle.vg_base.specs.Number.{least_signed, greatest_signed}
+use Rattle.vg_base.specs.Number.{least_signed, greatest_signed, residue}
 use Rattle.vg_pseudo.specs.Whole.{complement, greater, negative}
 use Rattle.vg_interval.specs.Interval.{between, is_small, fit, fitting}
 use Rattle.std.proofs.lemmas.Bool.{cases_Bool, lt-ltb}
 use Rattle.std.proofs.Math.Nat.{mod-eq_of_lt, div-eq_of_lt}
+use Rattle.std.proofs.lemmas.Nat.{mod_below, pow_pos}
 use Rattle.vg_base.specs.Bits.{signed_at}
+use Rattle.vg_base.proofs.Signed.{residue-signed}
+use Rattle.vg_interval.specs.Views.{slice_number}
 use Rattle.vg_interval.proofs.Intervals.{Fits, small-fits, fit-some, greater-fits}
 
 small_kept : (z : ℤ) → FitsSigned w128 z → is_small z ≡ true
@@ -138,3 +141,11 @@ none_behind w n f h =
 
 pub fitted_is : (x : ℤ) → FitsSigned w128 x → Some x ≡ fit x
 fitted_is x f = sym (fit_kept x (fits_range x f))
+
+positive : (w n : ℕ) → n % 2 ^ w < 2 ^ w
+positive w n = mod_below n (2 ^ w) (pow_pos w)
+
+-- the bits of a slice of a constant, whichever its reading
+pub slice_passed : (g : Bool) (w n : ℕ) → residue w (slice_number g w (n % 2 ^ w)) ≡ n % 2 ^ w
+slice_passed true w n = residue-signed w (n % 2 ^ w) (positive w n)
+slice_passed false w n = mod-eq_of_lt (positive w n)

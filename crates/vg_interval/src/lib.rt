@@ -5,15 +5,18 @@
 #![tactic(auto)]
 
 pub mod binary_spans;
+pub mod calls;
 pub mod exact;
 pub mod fault;
 pub mod found;
 pub mod judged;
 pub mod operands;
+pub mod results;
 pub mod slices;
 pub mod span;
 pub mod spans;
 pub mod unary_spans;
+pub mod unary_uses;
 pub mod whole_numbers;
 pub mod word_builders;
 
