@@ -4,4 +4,5 @@ mod Fitting
 mod Intervals
 mod Judging
 mod Operators
+mod Uses
 mod Words

@@ -1,11 +1,12 @@
 -- What is known of expressions, without where it lies in memory, and what the functions that find
 -- it return.
-use Rattle.std.specs.Prelude.{ℕ, ◌%◌, ◌^◌, ℤ, pos, Bool, Option, Some, None, Result, Ok, if◌then◌else◌}
+use Rattle.std.specs.Prelude.{ℕ, ◌%◌, ◌^◌, ℤ, pos, Bool, List, [], Option, Some, None, Result, Ok, if◌then◌else◌}
 use Rattle.std.specs.Option.{option_map}
 use Rattle.vg_base.specs.Bind.{◌>>=◌}
 use Rattle.vg_base.specs.Bits.{signed_at}
 use Rattle.vg_base.specs.Gives as returned
 use Rattle.vg_pseudo.specs.declared.spot.Spot.{Spot}
+use Rattle.vg_pseudo.specs.declared.operators.UnaryOp.{UnaryOp}
 use Rattle.vg_script.specs.Script.{Word, sel}
 use Rattle.vg_script.specs.Views.{frame_of, low_of, number_of, word_of}
 use Rattle.vg_interval.specs.declared.fault.RangeFault.{RangeFault}
@@ -13,7 +14,7 @@ use Rattle.vg_interval.specs.declared.fault.RangeFault.TheVariants.{UnknownName,
 use Rattle.vg_interval.specs.Interval.{hull}
 use Rattle.vg_interval.specs.Found.{Found, known, read, handed, bit, within, wide, loose, Operand, fixed, moving, span_of, operand, condition, Passed, computed, bits}
 use Rattle.vg_interval.specs.Found as found
-use Rattle.vg_interval.specs.Judge.{Kept, constant, varying, Count, Bits, Index, settled, unsettled}
+use Rattle.vg_interval.specs.Judge.{Kept, constant, varying, Count, Bits, Index, settled, unsettled, Sight, unary_of}
 use Rattle.vg_interval.specs.declared.found.Found as in_memory
 use Rattle.vg_interval.specs.declared.found.Found.TheVariants as f
 use Rattle.vg_interval.specs.declared.found.Operand as operands
@@ -100,3 +101,12 @@ condition_at s f = operand s f >>= λ a. Ok (condition_of f a)
 -- either of two branches, by a condition of one bit
 abbrev pub either : Word → Operand → Operand → Found
 either c a b = within (hull (span_of a) (span_of b)) (sel 128 c (found.word_of a) (found.word_of b))
+
+-- an operator or a function of what is neither a slice form nor a left shift that need not fit
+abbrev pub unary_of_number : Spot → UnaryOp → Spot → Found → Result Found RangeFault
+unary_of_number s op t f = operand t f >>= λ a. unary_of s op a
+
+-- what a slice sees: the widths of registers, and the numbers of those that are constant
+abbrev pub seen : List ℕ → List (Option ℕ) → Sight
+seen widths constants =
+    record { widths = widths; constants = constants; turns = []; walks = [] }

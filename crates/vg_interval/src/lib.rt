@@ -10,6 +10,7 @@ pub mod exact;
 pub mod fault;
 pub mod found;
 pub mod judged;
+pub mod moving;
 pub mod operands;
 pub mod results;
 pub mod slices;

@@ -1,18 +1,19 @@
 //! An operator or a function of one operand.
 
 ghost use Rattle.std.specs.Prelude.{◌≡◌, ◌%◌, ◌^◌, ◌≤◌, Ok, Err, Some, None, false, nat_le, if◌then◌else◌};
-ghost use Rattle.vg_interval.specs.Found.{known, loose, read, slice_word, within};
+ghost use Rattle.vg_interval.specs.Found.{known, loose, moving, read, slice_word, within};
 ghost use Rattle.vg_interval.specs.Words.{low_extended};
 ghost use Rattle.vg_interval.specs.declared.fault.RangeFault.TheVariants.{BadExtend};
 ghost use Rattle.vg_interval.specs.Interval.{signed_span, unsigned_span};
-ghost use Rattle.vg_interval.specs.Judge.{unary_at, unary_of};
-ghost use Rattle.vg_interval.specs.Views.{Gives, found_view, operand_view, slice_number};
+ghost use Rattle.vg_interval.specs.Judge.{loose_word, unary_at, unary_found, unary_of, width_found};
+ghost use Rattle.vg_interval.specs.Views.{Gives, found_view, operand_view, slice_number, unary_of_number};
 ghost use Rattle.vg_script.specs.Views.{low_of, word_of};
 
 use crate::fault::RangeFault;
 use crate::found::{Found, Operand};
 use crate::operands::{operand, slice_word};
 use crate::results::unary_result;
+use crate::span::Span;
 use crate::spans::{signed_span, slice_span, unsigned_span};
 use crate::unary_spans::unary_span;
 use crate::whole_numbers::{slice_number, small, whole};
@@ -165,6 +166,50 @@ fn extended_slice(
     }
 }
 
+fn of_moving_slice(
+    alloc: Global,
+    spot: Spot,
+    op: UnaryOp,
+    span: Span,
+    is_signed: bool,
+    register: usize,
+    low: Low,
+    width: u128,
+) -> Result<Found, RangeFault>
+    requires { width ≤ 128 }
+    ensures { Gives found_view result (unary_of spot op (moving span (slice_word is_signed register (low_of low) width))) }
+{
+    let word = slice_word(alloc, is_signed, register, low, width)?;
+    unary_of(alloc, spot, op, Operand::Moving { span, word })
+}
+
+// A slice of up to 128 bits, with its interval.
+fn of_small_slice(
+    alloc: Global,
+    spot: Spot,
+    op: UnaryOp,
+    span: Span,
+    is_signed: bool,
+    register: usize,
+    low: Low,
+    width: u128,
+) -> Result<Found, RangeFault>
+    requires { width ≤ 128 }
+    ensures { Gives found_view result (unary_found spot op (read is_signed register (low_of low) width) (Some width)
+        (moving span (slice_word is_signed register (low_of low) width))) }
+{
+    match op {
+        UnaryOp::Signed => read_again(alloc, true, register, low, width),
+        UnaryOp::SignExtend(to) => {
+            extended_slice(alloc, spot, true, to.bits(), register, low, width)
+        }
+        UnaryOp::ZeroExtend(to) => {
+            extended_slice(alloc, spot, false, to.bits(), register, low, width)
+        }
+        _ => of_moving_slice(alloc, spot, op, span, is_signed, register, low, width),
+    }
+}
+
 fn of_slice(
     alloc: Global,
     spot: Spot,
@@ -177,21 +222,38 @@ fn of_slice(
 ) -> Result<Found, RangeFault>
     ensures { Gives found_view result (unary_at spot op inner (read is_signed register (low_of low) width)) }
 {
-    let span = match slice_span(is_signed, width) {
-        Some(span) => span,
-        None => return Err(RangeFault::TooWide { place: inner.outer }),
-    };
-    match op {
-        UnaryOp::Signed => read_again(alloc, true, register, low, width),
-        UnaryOp::SignExtend(to) => extended_slice(alloc, spot, true, to.bits(), register, low, width),
-        UnaryOp::ZeroExtend(to) => {
-            extended_slice(alloc, spot, false, to.bits(), register, low, width)
-        }
-        _ => {
-            let word = slice_word(alloc, is_signed, register, low, width)?;
-            unary_of(alloc, spot, op, Operand::Moving { span, word })
-        }
+    match slice_span(is_signed, width) {
+        Some(span) => of_small_slice(alloc, spot, op, span, is_signed, register, low, width),
+        None => Err(RangeFault::TooWide { place: inner.outer }),
     }
+}
+
+fn of_operand(
+    alloc: Global,
+    spot: Spot,
+    op: UnaryOp,
+    inner: Spot,
+    found: Found,
+) -> Result<Found, RangeFault>
+    ensures { Gives found_view result (unary_of_number spot op inner (found_view found)) }
+{
+    let operand = operand(alloc, inner, found)?;
+    unary_of(alloc, spot, op, operand)
+}
+
+// Of what is neither a slice form nor a left shift that need not fit.
+fn of_number(
+    alloc: Global,
+    spot: Spot,
+    op: UnaryOp,
+    inner: Spot,
+    found: Found,
+) -> Result<Found, RangeFault>
+    requires width { width_found (found_view found) ≡ None }
+    requires loose { loose_word (found_view found) ≡ None }
+    ensures { Gives found_view result (unary_at spot op inner (found_view found)) }
+{
+    of_operand(alloc, spot, op, inner, found)
 }
 
 /// An operator or a function of one operand, by the spots of the whole and of the operand. TooWide
@@ -219,6 +281,28 @@ pub fn unary_at(
             low,
             width,
         } => of_slice(alloc, spot, op, inner, is_signed, register, low, width),
-        found => unary_of(alloc, spot, op, operand(alloc, inner, found)?),
+        Found::Known { number } => of_number(alloc, spot, op, inner, Found::Known { number }),
+        Found::Bit { word } => of_number(alloc, spot, op, inner, Found::Bit { word }),
+        Found::Within { span, word } => {
+            of_number(alloc, spot, op, inner, Found::Within { span, word })
+        }
+        Found::Wide { word } => of_number(alloc, spot, op, inner, Found::Wide { word }),
+        Found::Handed {
+            frame,
+            register,
+            low,
+            width,
+        } => of_number(
+            alloc,
+            spot,
+            op,
+            inner,
+            Found::Handed {
+                frame,
+                register,
+                low,
+                width,
+            },
+        ),
     }
 }
