@@ -5,6 +5,7 @@
 #![tactic(auto)]
 
 pub mod binary_spans;
+pub mod binary_uses;
 pub mod calls;
 pub mod exact;
 pub mod fault;
