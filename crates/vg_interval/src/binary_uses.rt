@@ -1,16 +1,19 @@
 //! An operator or a function of two operands.
 
 ghost use Rattle.std.specs.Prelude.{◌≡◌, IfOk};
-ghost use Rattle.vg_interval.specs.Judge.{is_comparison, is_shift, result_within, shifted_along};
+ghost use Rattle.vg_interval.specs.Judge.{is_comparison, is_shift, result_within, shifted_along, shifted_by};
 ghost use Rattle.vg_interval.specs.Found.{bit, span_of, word_of};
 ghost use Rattle.vg_interval.specs.Interval.{binary_span};
 ghost use Rattle.vg_interval.specs.Views.{Gives, found_view, operand_view};
+ghost use Rattle.vg_pseudo.specs.declared.operators.BinaryOp.TheVariants.{ShiftLeft};
 ghost use Rattle.vg_interval.specs.Words.{binary_word, comparison};
 
-use crate::binary_spans::{binary_span, left_span, right_span};
+use crate::binary_spans::{binary_span, left_span, right_span, shifted_left_span};
 use crate::fault::RangeFault;
 use crate::found::{Found, Operand};
-use crate::word_builders::{binary_word, comparison};
+use crate::results::shifted_left;
+use crate::whole_numbers::whole;
+use crate::word_builders::{binary_word, comparison, left_by};
 use std::alloc::{AllocError, Global};
 use vg_pseudo::{BinaryOp, Spot};
 
@@ -91,5 +94,35 @@ pub fn shifted_along(
             span: right_span(i, j),
             word,
         }),
+    }
+}
+
+/// A shift to the left by a constant number of places. TooWide where that is above 126, or where the
+/// result does not fit.
+pub fn shifted_left_by(
+    alloc: Global,
+    spot: Spot,
+    places: u128,
+    first: Operand,
+) -> Result<Found, RangeFault>
+    ensures { Gives found_view result (shifted_by spot ShiftLeft places (operand_view first)) }
+{
+    if 126 < places {
+        return Err(RangeFault::TooWide { place: spot.inner });
+    }
+    match first {
+        Operand::Fixed(z) => match shifted_left(z, places) {
+            Some(y) => Ok(Found::Known { number: whole(y) }),
+            None => Err(RangeFault::TooWide { place: spot.inner }),
+        },
+        Operand::Moving { span, word } => {
+            match shifted_left_span(span, places as u32, places as u32) {
+                Some(span) => Ok(Found::Within {
+                    span,
+                    word: left_by(alloc, places as u32, word)?,
+                }),
+                None => Err(RangeFault::TooWide { place: spot.inner }),
+            }
+        }
     }
 }

@@ -82,7 +82,8 @@ fn truth(holds: bool) -> i128
     if holds { 1 } else { 0 }
 }
 
-fn shifted_left(x: i128, places: u128) -> Option<i128>
+/// The product with a power of two, if it fits. More than 127 places leave 0.
+pub fn shifted_left(x: i128, places: u128) -> Option<i128>
     ensures { result ≡ fit (shifted_left x places) }
 {
     if places <= 127 {
