@@ -33,7 +33,7 @@ fits_unsigned w h =
     record { first = record { small = lit< tt }; last = record { small = omega (arith, pow_pos w) } }
 
 -- a number needs no more digits than any power of two above it
-digits-least : (n k : ℕ) → n < 2 ^ k → k ≤ 128 → digits n ≤ k
+pub digits-least : (n k : ℕ) → n < 2 ^ k → k ≤ 128 → digits n ≤ k
 digits-least n k h most =
     let l = leading_length 128 n (below_wider n k 128 h most) in
     let e : l.0 ≡ digits n = omega (arith, l.1) in

@@ -4,8 +4,25 @@
 //! `specs/Found.antt` what is known of an expression, and `specs/Judge.antt` how it is found in the order of the text.
 #![tactic(auto)]
 
+pub mod binary_spans;
+pub mod binary_uses;
+pub mod calls;
+pub mod exact;
 pub mod fault;
+pub mod found;
+pub mod judged;
+pub mod moving;
+pub mod operands;
+pub mod results;
+pub mod slices;
 pub mod span;
+pub mod spans;
+pub mod unary_spans;
+pub mod unary_uses;
+pub mod whole_numbers;
+pub mod word_builders;
 
 pub use fault::RangeFault;
+pub use found::{Condition, Found, Operand, Passed};
+pub use judged::{Bits, Count, Index, Kept};
 pub use span::Span;

@@ -1,3 +1,4 @@
 pub mod Script
 pub mod Cells
 pub mod Formed
+pub mod Views
