@@ -1,0 +1,106 @@
+//! Operations of an entry with the parameters `a`, of unsigned lanes, and `b`, of signed ones, and the
+//! immediate `imm8`. An `@` marks the place of a fault, and is no part of the text.
+
+use std::alloc::Global;
+use std::process::Abort;
+use std::test::Fail;
+use vg_base::{Items, Name};
+use vg_names::{NameFault, Resolved, resolve};
+use vg_pseudo::{Header, ImmRange, Param, parse_operation};
+use vg_text::Lexer;
+use vg_text::place::{Place, place_after};
+
+fn param(alloc: Global, name: &[u8], is_signed: bool) -> Result<Param, Fail> {
+    Ok(Param {
+        name: Name::new(alloc, name)?,
+        register: 128,
+        lane_width: 32,
+        is_signed,
+    })
+}
+
+fn header(alloc: Global) -> Result<Header, Fail> {
+    let mut params = Vec::new(alloc);
+    params.push(param(alloc, b"a", false)?)?;
+    params.push(param(alloc, b"b", true)?)?;
+    let imm = ImmRange {
+        name: Name::new(alloc, b"imm8")?,
+        lo: 0,
+        hi: 255,
+    };
+    Ok(Header {
+        name: Name::new(alloc, b"_mm_of_a_case")?,
+        params: Items::from_vec(params),
+        imm: Some(imm),
+        register: 128,
+        lane_width: 32,
+        extension: 0,
+        cost: 1,
+    })
+}
+
+/// What the names of an operation are.
+fn names_of(
+    rt: &impl Abort,
+    alloc: Global,
+    text: &[u8],
+) -> Result<Result<Resolved, NameFault>, Fail> {
+    assert!(rt; text.len() <= 1_000_000);
+    let mut lexer = Lexer::new(text);
+    let Ok(operation) = parse_operation(alloc, &mut lexer) else {
+        return Err("a text of an operation is refused".into());
+    };
+    let header = header(alloc)?;
+    Ok(resolve(alloc, &header, &operation))
+}
+
+/// An operation whose names are known.
+pub fn resolved(rt: &impl Abort, alloc: Global, text: &str) -> Result<Resolved, Fail> {
+    match names_of(rt, alloc, text.as_bytes())? {
+        Ok(resolved) => Ok(resolved),
+        Err(_) => Err("a name is refused".into()),
+    }
+}
+
+/// The number and the place of a fault.
+fn told(fault: NameFault) -> Option<(u32, Place)> {
+    match fault {
+        NameFault::UnknownName { place } => Some((4, place)),
+        NameFault::BareRegister { place } => Some((11, place)),
+        NameFault::Memory(_) => None,
+    }
+}
+
+/// Asserts that the text without its `@` is refused with this number at the place of the `@`.
+fn refuse(rt: &impl Abort, alloc: Global, number: u32, marked: &str) -> Result<(), Fail> {
+    let marked_bytes = marked.as_bytes();
+    assert!(rt; marked_bytes.len() <= 1_000_000);
+    let at = marked_bytes
+        .iter()
+        .position(|byte| *byte == b'@')
+        .ok_or("a mark")?;
+    assert!(rt; at < marked_bytes.len());
+    let (front, behind) = marked_bytes.split_at(at);
+    let mut text = Vec::from_slice(alloc, front)?;
+    text.extend_from_slice(&behind[1..])?;
+    let place = place_after(Place { line: 1, column: 1 }, front);
+    let Err(fault) = names_of(rt, alloc, text.as_slice())? else {
+        return Err("names that are not known are found".into());
+    };
+    let (found, at) = told(fault).ok_or("a fault of the text")?;
+    assert_eq!(rt; found, number, "{marked}");
+    assert_eq!(rt;
+        (at.line, at.column),
+        (place.line, place.column),
+        "{marked}"
+    );
+    Ok(())
+}
+
+/// Asserts that these texts, of which each has an `@`, are refused with this number.
+pub fn refuse_all(rt: &impl Abort, alloc: Global, number: u32, texts: &[&str]) -> Result<(), Fail> {
+    for text in texts {
+        refuse(rt, alloc, number, text)?;
+    }
+    Ok(())
+}

@@ -1,0 +1,106 @@
+//! What names mean: signs, sizes, and which of two of one name is meant.
+
+use crate::entries::resolved;
+use std::alloc::Global;
+use std::process::Abort;
+use std::test::Fail;
+use vg_names::{Code, Resolved, ResolvedExpr};
+
+/// The sign, the register and the size of the right side of an assignment, where it is a bare name or
+/// `name.elem`.
+fn front_of(code: &Code) -> Option<(bool, usize, u128)> {
+    match code {
+        Code::Assign { value, .. } => match &**value {
+            ResolvedExpr::Front {
+                is_signed,
+                register,
+                size,
+                ..
+            } => Some((*is_signed, *register, *size)),
+            _ => None,
+        },
+        _ => None,
+    }
+}
+
+/// That of the first assignment of an operation.
+fn first_front(resolved: &Resolved) -> Option<(bool, usize, u128)> {
+    front_of(&resolved.body.code)
+}
+
+/// Asserts what the right side of the first assignment of a text is.
+fn check(
+    rt: &impl Abort,
+    alloc: Global,
+    text: &str,
+    is_signed: bool,
+    register: usize,
+    size: u128,
+) -> Result<(), Fail> {
+    let operation = resolved(rt, alloc, text)?;
+    let found = first_front(&operation).ok_or("a bare name")?;
+    assert_eq!(rt; found, (is_signed, register, size), "{text}");
+    Ok(())
+}
+
+#[test]
+fn signs_and_sizes_of_bare_names(rt: HostRuntime) -> Result<(), Fail> {
+    for (text, is_signed, register, size) in [
+        ("dst := a END", false, 0, 128),
+        ("dst := b END", true, 1, 128),
+        ("dst[7:0] := imm8 END", false, 2, 8),
+        ("dst := dst END", false, 3, 128),
+        ("dst[7:0] := b.byte END", true, 1, 8),
+        ("dst := x x.dword := a[31:0] END", false, 4, 32),
+        ("dst := x x.dword := b[31:0] END", true, 4, 32),
+        ("dst := x x.dword := b[31] END", false, 4, 32),
+        ("dst := x x.dword := Signed(a[31:0]) END", true, 4, 32),
+        ("dst := x x.dword := NOT b[31:0] END", true, 4, 32),
+        ("dst := x x.dword := a[31:0] + b[31:0] END", true, 4, 32),
+        ("dst := x x.dword := a[31:0] < b[31:0] END", false, 4, 32),
+        ("dst := x x.dword := a[0] ? b[31:0] : 1 END", true, 4, 32),
+    ] {
+        check(&rt, rt.alloc(), text, is_signed, register, size)?;
+    }
+    Ok(())
+}
+
+#[test]
+fn signs_go_along_locals_in_any_order(rt: HostRuntime) -> Result<(), Fail> {
+    for (text, is_signed) in [
+        (
+            "dst := x x.dword := y y.dword := z z.dword := b[31:0] END",
+            true,
+        ),
+        (
+            "dst := x x.dword := y z.dword := b[31:0] y.dword := z END",
+            true,
+        ),
+        ("dst := x x.dword := t t := n n := b[31:0] END", true),
+        ("dst := x x.dword := y y.dword := x END", false),
+        (
+            "dst := x x.dword := y y.dword := x y.dword := b[31:0] END",
+            true,
+        ),
+        ("dst := x FOR b := 0 to 1 x.dword := b ENDFOR END", false),
+    ] {
+        check(&rt, rt.alloc(), text, is_signed, 4, 32)?;
+    }
+    Ok(())
+}
+
+#[test]
+fn registers_and_variables_are_counted(rt: HostRuntime) -> Result<(), Fail> {
+    let operation = resolved(
+        &rt,
+        rt.alloc(),
+        "DEFINE f(x[31:0], y) { z[7:0] := 1 t := 2 RETURN x + t } n := 1 r[0] := n m := f(n, r[7:0]) dst := m END",
+    )?;
+    assert!(rt; operation.body.widths.as_slice() == [128, 128, 8, 128, 512].as_slice());
+    assert_eq!(rt; (operation.body.parameters, operation.result), (3, 3));
+    assert_eq!(rt; operation.body.numbers, 2);
+    let function = operation.functions.as_slice().first().ok_or("a DEFINE")?;
+    assert!(rt; function.body.widths.as_slice() == [32, 512, 512].as_slice());
+    assert_eq!(rt; (function.body.parameters, function.body.numbers), (2, 1));
+    Ok(())
+}
