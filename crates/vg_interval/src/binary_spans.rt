@@ -7,7 +7,9 @@ ghost use Rattle.vg_pseudo.specs.Whole.{greater, lesser};
 ghost use Rattle.vg_terms.specs.Known.{digits};
 ghost use Rattle.vg_pseudo.specs.declared.operators.BinaryOp.TheVariants.{Add, Subtract};
 
-use crate::exact::{difference, floor_by, greater, lesser, magnitude, natural, product, scaled, sum};
+use crate::exact::{
+    difference, floor_by, greater, lesser, magnitude, natural, product, scaled, sum,
+};
 use crate::span::Span;
 use crate::spans::{between, hull, signed_span, unsigned_span};
 use vg_pseudo::BinaryOp;
@@ -111,10 +113,7 @@ fn greatest_shifted(x: i128, j: Span) -> i128
 pub fn right_span(i: Span, j: Span) -> Span
     ensures { result ≡ right_span i j }
 {
-    between(
-        least_shifted(i.least, j),
-        greatest_shifted(i.greatest, j),
-    )
+    between(least_shifted(i.least, j), greatest_shifted(i.greatest, j))
 }
 
 fn sums(i: Span, j: Span) -> Option<Span>

@@ -7,7 +7,9 @@ use vg_script::{Frame, Low, WholeNumber, Word};
 #[derive(Debug, Drop)]
 pub enum Found {
     /// A constant that is no slice.
-    Known { number: WholeNumber },
+    Known {
+        number: WholeNumber,
+    },
     /// A slice that is a constant: the low bits, as many as its width, of a number.
     KnownSlice {
         is_signed: bool,
@@ -29,13 +31,22 @@ pub enum Found {
         width: u128,
     },
     /// A comparison, by its bit.
-    Bit { word: Word },
+    Bit {
+        word: Word,
+    },
     /// Another number, by an interval that holds it and its word.
-    Within { span: Span, word: Word },
+    Within {
+        span: Span,
+        word: Word,
+    },
     /// The low 128 bits of a slice of 128 bits or more, that went through two calls.
-    Wide { word: Word },
+    Wide {
+        word: Word,
+    },
     /// A left shift that need not fit.
-    Loose { word: Word },
+    Loose {
+        word: Word,
+    },
 }
 
 /// An operand.
@@ -53,7 +64,9 @@ pub enum Passed {
     /// A constant.
     Constant(u128),
     /// A word of 128 bits.
-    Computed { word: Word },
+    Computed {
+        word: Word,
+    },
     /// Bits of a register.
     Bits {
         register: usize,

@@ -217,12 +217,6 @@ pub fn either(
     ensures { IfOk result (λ f. found_view f ≡ either (view_of_word condition) (operand_view first) (operand_view second)) }
 {
     let span = hull(first.span(), second.span());
-    let word = make_sel(
-        alloc,
-        128,
-        condition,
-        first.into_word(),
-        second.into_word(),
-    )?;
+    let word = make_sel(alloc, 128, condition, first.into_word(), second.into_word())?;
     Ok(Found::Within { span, word })
 }

@@ -11,8 +11,8 @@ ghost use Rattle.vg_base.specs.Bits.{signed_at};
 use crate::exact::{complement, negated, scaled};
 use crate::spans::{signed_span, unsigned_span};
 use crate::unary_spans::clamped;
-use vg_base::number::{signed, unsigned};
 use vg_base::Width;
+use vg_base::number::{signed, unsigned};
 use vg_pseudo::UnaryOp;
 
 /// A number, which fits.

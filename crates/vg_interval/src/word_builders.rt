@@ -15,9 +15,7 @@ use crate::spans::{signed_span, unsigned_span};
 use std::alloc::{AllocError, Global};
 use vg_base::number::unsigned;
 use vg_pseudo::{BinaryOp, UnaryOp};
-use vg_script::{
-    Word, make_absolute, make_one, make_shift_left, make_shift_right, make_two,
-};
+use vg_script::{Word, make_absolute, make_one, make_shift_left, make_shift_right, make_two};
 use vg_terms::{OneOp, TwoOp};
 
 /// A whole number.
@@ -78,7 +76,13 @@ pub fn unary_word(alloc: Global, op: UnaryOp, x: Word) -> Result<Word, AllocErro
 fn opposite(alloc: Global, x: Word) -> Result<Word, AllocError>
     ensures { IfOk result (λ word. word_of word ≡ opposite (word_of x)) }
 {
-    make_two(alloc, TwoOp::Xor, 1, x, Word::Constant { width: 1, value: 1 })
+    make_two(
+        alloc,
+        TwoOp::Xor,
+        1,
+        x,
+        Word::Constant { width: 1, value: 1 },
+    )
 }
 
 /// A comparison as one bit; 0 of an operator that compares nothing.
@@ -134,7 +138,10 @@ pub fn left_by(alloc: Global, places: u32, x: Word) -> Result<Word, AllocError>
     requires { places ≤ 127 }
     ensures { IfOk result (λ word. word_of word ≡ left_by places (word_of x)) }
 {
-    let power = Word::Constant { width: 128, value: 1 << places };
+    let power = Word::Constant {
+        width: 128,
+        value: 1 << places,
+    };
     make_two(alloc, TwoOp::Mul, 128, x, power)
 }
 
@@ -149,5 +156,14 @@ pub fn right_by(alloc: Global, places: u128, x: Word) -> Result<Word, AllocError
 pub fn is_set(alloc: Global, x: Word) -> Result<Word, AllocError>
     ensures { IfOk result (λ word. word_of word ≡ is_set (word_of x)) }
 {
-    make_two(alloc, TwoOp::Ult, 1, Word::Constant { width: 128, value: 0 }, x)
+    make_two(
+        alloc,
+        TwoOp::Ult,
+        1,
+        Word::Constant {
+            width: 128,
+            value: 0,
+        },
+        x,
+    )
 }

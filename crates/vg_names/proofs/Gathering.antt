@@ -25,6 +25,7 @@ tail-place n m ns i e = by (bytes_eq n m) refl (place_of ns m) refl
     moved : (o : Option ℕ) → option_map (λ (k : ℕ). k + 1) o ≡ Some (suc i) → o ≡ Some i
     moved None h = absurd (cc)
     moved (Some j) h = let same : j + 1 ≡ suc i = cc in ap Some (omega (arith, same))
+
     by : (b : Bool) → bytes_eq n m ≡ b → (o : Option ℕ) → place_of ns m ≡ o → (bytes_eq n m ≡ false) × (place_of ns m ≡ Some i)
     by true f o g =
         let h : place_of (n ∷ ns) m ≡ Some 0 = rw f refl in
@@ -60,6 +61,7 @@ module _ {S : Type 0} (m : List ℕ) (h : S → S) (g : List ℕ → S) where
       behind (Some i) e =
           let next : i + 1 ≡ suc i = omega arith in
           rw next (ap (λ xs. g n ∷ xs) e)
+
       by : map one ns ≡ changed (place_of ns m) h (map g ns) → (b : Bool) → bytes_eq n m ≡ b → map one (n ∷ ns) ≡ changed (place_of (n ∷ ns) m) h (map g (n ∷ ns))
       by r true e =
           let here : bytes_eq m n ≡ true = turned m n ∙ e in
@@ -135,6 +137,7 @@ element-spans w (a ∷ as') = by (element-spans w as') a.form
         → (b : Bool) → span_of_forms (fold with_form (if b then Element w else Mixed) as') ≡ (if b && list_all (is_element w) (forms_of as') then Some (bits_of w) else None)
     test e true = e
     test e false = ap span_of_forms (mixed-stays as')
+
     by : span_of_forms (fold with_form (Element w) as') ≡ (if list_all (is_element w) (forms_of as') then Some (bits_of w) else None)
         → (f : Form) → span_of_forms (fold with_form (form_behind (Element w) f) as') ≡ (if is_element w f && list_all (is_element w) (forms_of as') then Some (bits_of w) else None)
     by e (whole_element v) = test e (same_width w v)

@@ -36,9 +36,11 @@ module _ {K : Type 0} (items : K → List ℕ) where
       -- the name is as much this key as it is the one that stands there
       same_key : bytes_eq (items key) (items x.0) ≡ true → bytes_eq n (items key) ≡ bytes_eq n (items x.0)
       same_key e = ap (bytes_eq n) (same_text (items key) (items x.0) e)
+
       -- and where it is the one that stands there, it is not this key
       other_key : bytes_eq (items key) (items x.0) ≡ false → bytes_eq n (items x.0) ≡ true → bytes_eq n (items key) ≡ false
       other_key e f = ap (λ (t : List ℕ). bytes_eq t (items key)) (same_text n (items x.0) f) ∙ turned (items x.0) (items key) ∙ e
+
       by : lookup (λ k. bytes_eq n (items k)) (insert_entry eq es key v) ≡ or_last (bytes_eq n (items key)) v (lookup (λ k. bytes_eq n (items k)) es)
           → (b : Bool) → bytes_eq (items key) (items x.0) ≡ b → (d : Bool) → bytes_eq n (items x.0) ≡ d
           → lookup (λ k. bytes_eq n (items k)) (insert_entry eq (x ∷ es) key v) ≡ or_last (bytes_eq n (items key)) v (lookup (λ k. bytes_eq n (items k)) (x ∷ es))

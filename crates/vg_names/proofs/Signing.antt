@@ -196,10 +196,13 @@ module _ (given : List Register) (as' : List Assignment) (local : AllLocal given
     where
       before : Signs
       before = signs_of given names (signed_after given names as' k)
+
       meant : Signs
       meant = record { slices = is_signed_register (λ r. r.signed_slices) given; whole = signed_in given as' k }
+
       tests : (a : Assignment) → (bytes_eq a.name n && is_signed before a.turns a.value) ≡ (bytes_eq a.name n && is_signed meant a.turns a.value)
       tests a = ap (λ b. bytes_eq a.name n && b) (signs-same before meant (λ m. refl) h a.turns a.value)
+
       by : (o : Option ℕ) → place_of names n ≡ o
           → option_map_or (λ i. get_or (signed_after given names as' (suc k)) i false) o (is_signed_register (λ r. r.signed_whole) given n) ≡ signed_in given as' (suc k) n
       by None e =

@@ -25,6 +25,7 @@ rest_at xs i d h = steps xs i d h ∙ ap (λ k. get_or xs i d ∷ drop k xs) nex
   where
     next : suc i ≡ i + 1
     next = omega arith
+
     steps : {A : Type 0} (xs : List A) (i : ℕ) (d : A) → i < length xs → drop i xs ≡ get_or xs i d ∷ drop (suc i) xs
     steps [] i d h = absurd (omega (arith, h))
     steps (x ∷ xs) zero d h = refl
@@ -64,15 +65,18 @@ module _ (marked : List (List ℕ)) (flags : List Bool) (forms : List Forms) (h 
   sorted k (n ∷ ns) facts =
       by (has_name marked n)
       (sorted (k + 1) ns (λ i l.
-        let next : (k + 1) + i ≡ k + suc i = omega arith in
-        subst (λ j. (get_or flags j false ≡ h (get_or ns i [])) × (get_or forms j Unseen ≡ g (get_or ns i []))) (sym next) (facts (suc i) (omega (arith, l)))))
+      let next : (k + 1) + i ≡ k + suc i = omega arith in
+      subst (λ j. (get_or flags j false ≡ h (get_or ns i [])) × (get_or forms j Unseen ≡ g (get_or ns i []))) (sym next) (facts (suc i) (omega (arith, l)))))
     where
       here : k ≡ k + 0
       here = omega arith
+
       flag : get_or flags k false ≡ h n
       flag = ap (λ j. get_or flags j false) here ∙ (facts 0 (omega arith)).0
+
       form : get_or forms k Unseen ≡ g n
       form = ap (λ j. get_or forms j Unseen) here ∙ (facts 0 (omega arith)).1
+
       by : (b : Bool) → registers_from marked flags forms (k + 1) ns ≡ map (λ n. new_register n (h n) (g n)) (filter (has_name marked) ns)
           → (if b then new_register n (get_or flags k false) (get_or forms k Unseen) ∷ [] else []) ++ registers_from marked flags forms (k + 1) ns
           ≡ map (λ n. new_register n (h n) (g n)) (if b then n ∷ filter (has_name marked) ns else filter (has_name marked) ns)
@@ -113,9 +117,9 @@ signed-same given as' (suc k) n =
     (kept-signed (λ r. r.signed_whole) whole-counts given n)
     ∙ ap (λ b. is_signed_register (λ r. r.signed_whole) given n || b)
     (any-same _ _ (λ a. ap (λ b. bytes_eq a.name n && b)
-      (signs-same (record { slices = is_signed_register (λ r. r.signed_slices) (filter has_sign given); whole = signed_in (filter has_sign given) as' k })
-      (record { slices = is_signed_register (λ r. r.signed_slices) given; whole = signed_in given as' k })
-      (λ m. kept-signed (λ r. r.signed_slices) slices-count given m) (λ m. signed-same given as' k m) a.turns a.value)) as')
+    (signs-same (record { slices = is_signed_register (λ r. r.signed_slices) (filter has_sign given); whole = signed_in (filter has_sign given) as' k })
+    (record { slices = is_signed_register (λ r. r.signed_slices) given; whole = signed_in given as' k })
+    (λ m. kept-signed (λ r. r.signed_slices) slices-count given m) (λ m. signed-same given as' k m) a.turns a.value)) as')
 
 -- all that is asked of locals to the signed registers alone is that they are no given ones
 local-kept : (given : List Register) (as' : List Assignment) → AllLocal given as' → AllLocal (filter has_sign given) as'
@@ -125,6 +129,7 @@ local-kept given (a ∷ as') h = (ap not (apart given (not-true _ h.0)), local-k
     not-true : (b : Bool) → not b ≡ true → b ≡ false
     not-true true e = sym e
     not-true false e = refl
+
     apart : (rs : List Register) → list_any (λ r. bytes_eq r.name a.name) rs ≡ false → list_any (λ r. bytes_eq r.name a.name) (filter has_sign rs) ≡ false
     apart [] e = refl
     apart (r ∷ rs) e = by (apart rs) (bytes_eq r.name a.name) refl (has_sign r)
@@ -145,13 +150,14 @@ registers_are given marked body count e d =
     let names = locals_of as' in
     sorted marked _ _ (λ n. signed_in given as' (length as') n) (λ n. fold with_form Unseen (assigned_to n as')) 0 names
     (λ i l.
-      let zeroth : 0 + i ≡ i = omega arith in
-      (ap (λ j. get_or (signed_after (filter has_sign given) names as' count) j false) zeroth
-      ∙ signed_known (filter has_sign given) as' (local-kept given as' (filtered_local given _)) count i (d i l)
-      ∙ signed-same given as' count (get_or names i [])
-      ∙ ap (λ k. signed_in given as' k (get_or names i [])) e,
+    let zeroth : 0 + i ≡ i = omega arith in (
+      ap (λ j. get_or (signed_after (filter has_sign given) names as' count) j false) zeroth
+          ∙ signed_known (filter has_sign given) as' (local-kept given as' (filtered_local given _)) count i (d i l)
+          ∙ signed-same given as' count (get_or names i [])
+          ∙ ap (λ k. signed_in given as' k (get_or names i [])) e,
       ap (λ j. get_or (gathered with_form Unseen names as') j Unseen) zeroth
-      ∙ gathered_at with_form Unseen Unseen names as' i l))
+          ∙ gathered_at with_form Unseen Unseen names as' i l,
+    ))
     ∙ spans (filter (has_name marked) names)
   where
     spans : (ns : List (List ℕ)) → map (λ n. new_register n (signed_in given (local_assignments given body) (length (local_assignments given body)) n) (fold with_form Unseen (assigned_to n (local_assignments given body)))) ns
@@ -210,9 +216,9 @@ fresh-filtered p less more [] f h = tt
 fresh-filtered p less more (n ∷ ns) f h =
     by (p n)
     (fresh-filtered p (less ++ n ∷ []) (more ++ n ∷ []) ns
-      (λ m e. any-append (λ x. bytes_eq x m) less (n ∷ []) ∙ or-both (has_name more m) (has_name (n ∷ []) m) (has_name less m) (f m) (sym (any-append (λ x. bytes_eq x m) more (n ∷ [])) ∙ e)) h.1)
+    (λ m e. any-append (λ x. bytes_eq x m) less (n ∷ []) ∙ or-both (has_name more m) (has_name (n ∷ []) m) (has_name less m) (f m) (sym (any-append (λ x. bytes_eq x m) more (n ∷ [])) ∙ e)) h.1)
     (fresh-filtered p less (more ++ n ∷ []) ns
-      (λ m e. f m (or-first (has_name more m) (has_name (n ∷ []) m) (sym (any-append (λ x. bytes_eq x m) more (n ∷ [])) ∙ e))) h.1)
+    (λ m e. f m (or-first (has_name more m) (has_name (n ∷ []) m) (sym (any-append (λ x. bytes_eq x m) more (n ∷ [])) ∙ e))) h.1)
   where
     by : (b : Bool) → Fresh (less ++ n ∷ []) (filter p ns) → Fresh less (filter p ns) → Fresh less (if b then n ∷ filter p ns else filter p ns)
     by true k l = (f n h.0, k)
@@ -225,6 +231,7 @@ first-not q (x ∷ xs) ys e = by (first-not q xs ys) (q x) refl
     moved : (o : Option ℕ) → option_map (λ (k : ℕ). k + 1) o ≡ Some (suc (length xs)) → o ≡ Some (length xs)
     moved None h = absurd (cc)
     moved (Some j) h = let same : j + 1 ≡ suc (length xs) = cc in ap Some (omega (arith, same))
+
     by : (first_place q (xs ++ ys) ≡ Some (length xs) → list_any q xs ≡ false) → (b : Bool) → q x ≡ b → list_any q (x ∷ xs) ≡ false
     by g true f =
         let h : first_place q ((x ∷ xs) ++ ys) ≡ Some 0 = rw f refl in

@@ -46,6 +46,7 @@ module _ {K : Type 0} (items : K → List ℕ) where
     where
       found : list_any (eq key) keys ≡ has_name (map items keys) (items key)
       found = any_same (eq key) (λ k. bytes_eq (items key) (items k)) (same key) keys ∙ name_among (items key) keys
+
       by : (b : Bool) → has_name (map items keys) (items key) ≡ b → map items (insert_key eq keys key) ≡ with_name (map items keys) (items key)
       by true e = rw (found, e) refl
       by false e = rw (found, e) (map-append items keys (key ∷ []))
@@ -59,6 +60,7 @@ first-left q (x ∷ xs) ys i e = by (λ j. first-left q xs ys j) (q x) refl
     moved : (o p : Option ℕ) → ((j : ℕ) → o ≡ Some j → p ≡ Some j) → option_map (λ (k : ℕ). k + 1) o ≡ Some i → option_map (λ (k : ℕ). k + 1) p ≡ Some i
     moved (Some j) p g h = rw (g j refl) h
     moved None p g h = absurd (cc)
+
     by : ((j : ℕ) → first_place q xs ≡ Some j → first_place q (xs ++ ys) ≡ Some j) → (b : Bool) → q x ≡ b → first_place q ((x ∷ xs) ++ ys) ≡ Some i
     by g true f = rw f (let h : first_place q (x ∷ xs) ≡ Some 0 = rw f refl in sym h ∙ e)
     by g false f = rw f (let h : first_place q (x ∷ xs) ≡ option_map (λ (k : ℕ). k + 1) (first_place q xs) = rw f refl in
@@ -88,11 +90,12 @@ none_distinct i h = absurd (omega (arith, h))
 
 one_more : (xs : List (List ℕ)) (n : List ℕ) → AreDistinct xs → has_name xs n ≡ false → AreDistinct (xs ++ n ∷ [])
 one_more xs n d new i h =
-    elim (cases_lt i (length xs)) as (λ _. place_of (xs ++ n ∷ []) (get_or (xs ++ n ∷ []) i []) ≡ Some i)
-    [ inl below ↦ rw (get-left xs (n ∷ []) i below) (first-left (λ m. bytes_eq m (get_or xs i [])) xs (n ∷ []) i (d i below))
-    | inr above ↦
-        let at : i ≡ length xs = omega (arith, above, h, length-append xs (n ∷ [])) in
-        rw at (rw (get-last xs n) (first-last (λ m. bytes_eq m n) xs n new (text_is_itself n))) ]
+    elim (cases_lt i (length xs)) as (λ _. place_of (xs ++ n ∷ []) (get_or (xs ++ n ∷ []) i []) ≡ Some i) [
+      | inl below ↦ rw (get-left xs (n ∷ []) i below) (first-left (λ m. bytes_eq m (get_or xs i [])) xs (n ∷ []) i (d i below))
+      | inr above ↦
+          let at : i ≡ length xs = omega (arith, above, h, length-append xs (n ∷ [])) in
+          rw at (rw (get-last xs n) (first-last (λ m. bytes_eq m n) xs n new (text_is_itself n)))
+    ]
 
 pub added_distinct : (xs : List (List ℕ)) (n : List ℕ) → AreDistinct xs → AreDistinct (with_name xs n)
 added_distinct xs n d = by (has_name xs n) refl

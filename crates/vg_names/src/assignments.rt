@@ -85,9 +85,33 @@ fn assigned<'a>(
         map assignment_view found.old.items ++ filter (is_local given.now) (target_assigned (map (λ t. t.now) turns.now) (expression_of target.now) (expression_of value.now))) }
 {
     match target {
-        Expr::Name { name, .. } => unhidden(alloc, given, turns, name.bytes(), Form::Other, value, found),
-        Expr::Slice { name, .. } => unhidden(alloc, given, turns, name.bytes(), Form::Other, value, found),
-        Expr::Bit { name, .. } => unhidden(alloc, given, turns, name.bytes(), Form::Other, value, found),
+        Expr::Name { name, .. } => unhidden(
+            alloc,
+            given,
+            turns,
+            name.bytes(),
+            Form::Other,
+            value,
+            found,
+        ),
+        Expr::Slice { name, .. } => unhidden(
+            alloc,
+            given,
+            turns,
+            name.bytes(),
+            Form::Other,
+            value,
+            found,
+        ),
+        Expr::Bit { name, .. } => unhidden(
+            alloc,
+            given,
+            turns,
+            name.bytes(),
+            Form::Other,
+            value,
+            found,
+        ),
         Expr::Element { name, .. } => {
             unhidden(alloc, given, turns, name.bytes(), Form::Other, value, found)
         }
@@ -153,7 +177,10 @@ fn first<'a>(
             Ok(Some(rest))
         }
         Stmt::AssignAbove {
-            name, value, rest, ..
+            name,
+            value,
+            rest,
+            ..
         } => {
             unhidden(alloc, given, turns, name.bytes(), Form::Other, value, found)?;
             Ok(Some(rest))

@@ -42,7 +42,10 @@ pub(crate) fn mark(
         Expr::Number { .. } => Ok(()),
         Expr::Name { .. } => Ok(()),
         Expr::Slice {
-            name, high, low, ..
+            name,
+            high,
+            low,
+            ..
         } => {
             mark_name(alloc, turns, name, names)?;
             mark(alloc, turns, high, names)?;

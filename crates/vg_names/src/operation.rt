@@ -104,11 +104,7 @@ fn operation_body(
 ///
 /// Faults: `UnknownName` and `BareRegister` of the text; `Memory` where there is none, which says
 /// nothing of the text.
-pub fn resolve(
-    alloc: Global,
-    header: &Header,
-    operation: &Operation,
-) -> Result<Resolved, NameFault>
+pub fn resolve(alloc: Global, header: &Header, operation: &Operation) -> Result<Resolved, NameFault>
     ensures exact { Gives resolved_of result (resolve header.now (operation_of operation.now)) }
 {
     let Defined { functions, names } = resolved_defines(alloc, operation.defines.as_slice())?;

@@ -35,9 +35,7 @@ fn signed_slices(given: &[&Register], name: &[u8]) -> bool
 fn is_any_signed_slices(given: &[&Register], name: &[u8]) -> bool
     ensures { result ≡ list_any (λ r. bytes_eq r.now.name name.now && r.now.signed_slices) given.now }
 {
-    given
-        .iter()
-        .any(|register| is_text(register.name.bytes(), name) && register.signed_slices)
+    given.iter().any(|register| is_text(register.name.bytes(), name) && register.signed_slices)
 }
 
 /// Whether a register of this name is signed as a whole.
@@ -50,9 +48,7 @@ fn signed_whole(given: &[&Register], name: &[u8]) -> bool
 fn is_any_signed_whole(given: &[&Register], name: &[u8]) -> bool
     ensures { result ≡ list_any (λ r. bytes_eq r.now.name name.now && r.now.signed_whole) given.now }
 {
-    given
-        .iter()
-        .any(|register| is_text(register.name.bytes(), name) && register.signed_whole)
+    given.iter().any(|register| is_text(register.name.bytes(), name) && register.signed_whole)
 }
 
 impl<'a, 'f> SignedNames<'a, 'f> {
@@ -91,7 +87,10 @@ impl<'a, 'f> SignedNames<'a, 'f> {
                 gives_signed(*op) | (keeps_sign(*op) & self.is_signed(turns, operand))
             }
             Expr::Binary {
-                op, left, right, ..
+                op,
+                left,
+                right,
+                ..
             } => joins_signs(*op) & (self.is_signed(turns, left) | self.is_signed(turns, right)),
             Expr::Choice { first, second, .. } => {
                 self.is_signed(turns, first) | self.is_signed(turns, second)

@@ -12,7 +12,7 @@ in_turn op w x y = if not_after x y then two op w x y else two op w y x
 abbrev pub joined : TwoOp → ℕ → Tree → Tree → Tree
 joined op w (two o v a b) y =
     if same_op op o then
-        (if not_after b y then two op w (two o v a b) y else two op w (joined o v a y) b)
+    (if not_after b y then two op w (two o v a b) y else two op w (joined o v a y) b)
     else in_turn op w (two o v a b) y
 joined op w (leaf v k) y = in_turn op w (leaf v k) y
 joined op w (constant v n) y = in_turn op w (constant v n) y

@@ -28,8 +28,8 @@ returns-clause-registers c =
     c.in_ok-forms.ensures ∙ ap (λ xs. gathered with_form Unseen names (map assignment_view xs)) c.as_slice-3.ensures.value in
     let d : AreDistinct names = subst AreDistinct c.locals.view_is c.locals.invariant in
     if_ok (λ b h. registers_in_all c.args.given c.args.marked.now (statements_of c.args.body.now) as' names _ _ (length c.as_slice-2.result.now) b.registers ea en ef ec eg d
-      (h ∙ ap (λ fs. c.args.given ++ registers_from c.args.marked.now fs c.as_slice-5.result.now 0 names) c.as_slice-4.ensures.value
-      ∙ ap (λ fs. c.args.given ++ registers_from c.args.marked.now c.in_ok-flags.flags.items fs 0 names) c.as_slice-5.ensures.value))
+    (h ∙ ap (λ fs. c.args.given ++ registers_from c.args.marked.now fs c.as_slice-5.result.now 0 names) c.as_slice-4.ensures.value
+    ∙ ap (λ fs. c.args.given ++ registers_from c.args.marked.now c.in_ok-flags.flags.items fs 0 names) c.as_slice-5.ensures.value))
     c.with_locals.result c.with_locals.ensures.registers
 
 pub returns-clause-variables : goal.returns-clause-variables

@@ -12,6 +12,6 @@ assignments-preserved c =
     c.in_ok-add.ensures
     ∙ ap (λ ns. with_name ns c.assignment-item.result.name.now) c.assignments.invariant
     ∙ sym (ap (λ ns. distinct_behind [] ns)
-      (ap (map (λ a. a.name)) (one_more_mapped assignment_view c.args.assignments.now c.assignments.assignment-index c.assignment-item.result c.assignments-test.true c.assignment-item.is)
-      ∙ map-append (λ a. a.name) (map assignment_view (take c.assignments.assignment-index c.args.assignments.now)) (assignment_view c.assignment-item.result ∷ []))
+    (ap (map (λ a. a.name)) (one_more_mapped assignment_view c.args.assignments.now c.assignments.assignment-index c.assignment-item.result c.assignments-test.true c.assignment-item.is)
+    ∙ map-append (λ a. a.name) (map assignment_view (take c.assignments.assignment-index c.args.assignments.now)) (assignment_view c.assignment-item.result ∷ []))
     ∙ behind_both [] (map (λ a. a.name) (map assignment_view (take c.assignments.assignment-index c.args.assignments.now))) (c.assignment-item.result.name.now ∷ []))

@@ -16,7 +16,7 @@ marks-are : (c : goal.After-drop-marked-inside-5)
 marks-are c =
     c.in_ok-mark.ensures
     ∙ ap (marked [] (expression_of c.args.define.now.answer)) (c.in_ok-mark_in.ensures ∙ ap (marked_in [] (statements_of c.args.define.now.body)) c.new-marked.ensures
-      ∙ marked_in_is [] (statements_of c.args.define.now.body) [])
+    ∙ marked_in_is [] (statements_of c.args.define.now.body) [])
     ∙ marked_is [] (expression_of c.args.define.now.answer) (distinct_behind [] (bracketed_in [] (statements_of c.args.define.now.body)))
     ∙ sym (behind_both [] (bracketed_in [] (statements_of c.args.define.now.body)) (bracketed [] (expression_of c.args.define.now.answer)))
 
