@@ -1,0 +1,5 @@
+//! Cases of scripts that are run.
+#![tactic(auto)]
+
+#[cfg(test)]
+mod runs;
