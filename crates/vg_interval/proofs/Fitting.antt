@@ -1,11 +1,11 @@
 -- A number that was computed where it fits 128 signed bits is what `fit` gives.
-use Rattle.std.proofs.Common.{◌≡◌, ℕ, zero, suc, ◌+◌, ◌-◌, ◌*◌, ◌/◌, ◌%◌, ◌<◌, ◌≤◌, ◌^◌, refl, sym, subst, arith, to_z, of_z, inl, inr, Bool, true, false}
-use Rattle.std.specs.Prelude.{ℤ, pos, negsuc, ◌+ℤ◌, ◌-ℤ◌, ◌*ℤ◌, neg_ℤ, ◌≤ℤ◌, ◌&&◌, int_le, FitsSigned, Option, Some, None, if◌then◌else◌}
+use Rattle.std.proofs.Common.{◌≡◌, ℕ, zero, suc, ◌-◌, ◌*◌, ◌/◌, ◌%◌, ◌<◌, ◌≤◌, ◌^◌, refl, sym, subst, arith, to_z, of_z, inl, inr, Bool, true, false}
+use Rattle.std.specs.Prelude.{ℤ, pos, negsuc, ◌+ℤ◌, ◌-ℤ◌, ◌*ℤ◌, neg_ℤ, FitsSigned, Option, Some, None, if◌then◌else◌}
 use Rattle.std.specs.Option.{SomeIff}
 use Rattle.std.specs.Int.{w128}
 use Rattle.std.proofs.lemmas.Int.{ints, to_z-of_z}
 use Rattle.vg_base.proofs.LowBits.{pow-le}
-use Rattle.vg_base.specs.Number.{least_signed, greatest_signed, residue}
+use Rattle.vg_base.specs.Number.{residue}
 use Rattle.vg_pseudo.specs.Whole.{complement, greater, negative}
 use Rattle.vg_interval.specs.Interval.{between, is_small, fit, fitting}
 use Rattle.std.proofs.lemmas.Bool.{cases_Bool, lt-ltb}

@@ -275,19 +275,19 @@ needed-right i j z e h =
 and-small : (a b k : ℕ) → a < 2 ^ k → bit_and a b < 2 ^ k
 and-small a b k p = omega (arith, and_le_l a b)
 
-either-magnitude : (a b : ℤ) (k : ℕ) → magnitude a < 2 ^ k → magnitude b < 2 ^ k → magnitude (either_bits a b) < 2 ^ k
+pub either-magnitude : (a b : ℤ) (k : ℕ) → magnitude a < 2 ^ k → magnitude b < 2 ^ k → magnitude (either_bits a b) < 2 ^ k
 either-magnitude (pos a) (pos b) k p q = or_lt k a b p q
 either-magnitude (pos a) (negsuc b) k p q = omega arith
 either-magnitude (negsuc a) (pos b) k p q = omega arith
 either-magnitude (negsuc a) (negsuc b) k p q = and-small a b k p
 
-both-magnitude : (a b : ℤ) (k : ℕ) → magnitude a < 2 ^ k → magnitude b < 2 ^ k → magnitude (both_bits a b) < 2 ^ k
+pub both-magnitude : (a b : ℤ) (k : ℕ) → magnitude a < 2 ^ k → magnitude b < 2 ^ k → magnitude (both_bits a b) < 2 ^ k
 both-magnitude (pos a) (pos b) k p q = and-small a b k p
 both-magnitude (pos a) (negsuc b) k p q = omega arith
 both-magnitude (negsuc a) (pos b) k p q = omega arith
 both-magnitude (negsuc a) (negsuc b) k p q = or_lt k a b p q
 
-unequal-magnitude : (a b : ℤ) (k : ℕ) → magnitude a < 2 ^ k → magnitude b < 2 ^ k → magnitude (unequal_bits a b) < 2 ^ k
+pub unequal-magnitude : (a b : ℤ) (k : ℕ) → magnitude a < 2 ^ k → magnitude b < 2 ^ k → magnitude (unequal_bits a b) < 2 ^ k
 unequal-magnitude (pos a) (pos b) k p q = xor_lt k a b p q
 unequal-magnitude (pos a) (negsuc b) k p q = xor_lt k a b p q
 unequal-magnitude (negsuc a) (pos b) k p q = xor_lt k a b p q

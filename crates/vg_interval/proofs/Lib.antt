@@ -1,3 +1,4 @@
+pub mod Constants
 pub mod Covers
 pub mod Ends
 pub mod Fitting

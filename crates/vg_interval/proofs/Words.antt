@@ -84,7 +84,7 @@ xor_opposites w a b p q =
 low_small : (a w : ℕ) → a % 2 ^ w < 2 ^ w
 low_small a w = mod_below a (2 ^ w) (pow_pos w)
 
-residue-or : (w : ℕ) (x y : ℤ) → residue w (either_bits x y) ≡ bit_or (residue w x) (residue w y)
+pub residue-or : (w : ℕ) (x y : ℤ) → residue w (either_bits x y) ≡ bit_or (residue w x) (residue w y)
 residue-or w (pos a) (pos b) = or_mod a b w
 residue-or w (pos a) (negsuc b) =
     ap (λ v. 2 ^ w - 1 - v) (without w a b) ∙ sym (or_opposite w (a % 2 ^ w) (b % 2 ^ w) (low_small a w) (low_small b w))
@@ -94,7 +94,7 @@ residue-or w (negsuc a) (pos b) =
 residue-or w (negsuc a) (negsuc b) =
     ap (λ v. 2 ^ w - 1 - v) (and_mod a b w) ∙ sym (or_opposites w (a % 2 ^ w) (b % 2 ^ w) (low_small a w) (low_small b w))
 
-residue-and : (w : ℕ) (x y : ℤ) → residue w (both_bits x y) ≡ bit_and (residue w x) (residue w y)
+pub residue-and : (w : ℕ) (x y : ℤ) → residue w (both_bits x y) ≡ bit_and (residue w x) (residue w y)
 residue-and w (pos a) (pos b) = and_mod a b w
 residue-and w (pos a) (negsuc b) =
     ap (λ v. (a - v) % 2 ^ w) (and_comm a b) ∙ without w b a
@@ -104,7 +104,7 @@ residue-and w (negsuc a) (pos b) =
 residue-and w (negsuc a) (negsuc b) =
     ap (λ v. 2 ^ w - 1 - v) (or_mod a b w) ∙ sym (and_opposites w (a % 2 ^ w) (b % 2 ^ w) (low_small a w) (low_small b w))
 
-residue-xor : (w : ℕ) (x y : ℤ) → residue w (unequal_bits x y) ≡ bit_xor (residue w x) (residue w y)
+pub residue-xor : (w : ℕ) (x y : ℤ) → residue w (unequal_bits x y) ≡ bit_xor (residue w x) (residue w y)
 residue-xor w (pos a) (pos b) = xor_mod a b w
 residue-xor w (pos a) (negsuc b) =
     ap (λ v. 2 ^ w - 1 - v) (xor_mod a b w) ∙ sym (xor_opposite w (a % 2 ^ w) (b % 2 ^ w) (low_small a w) (low_small b w))

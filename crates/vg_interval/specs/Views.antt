@@ -7,14 +7,16 @@ use Rattle.vg_base.specs.Bits.{signed_at}
 use Rattle.vg_base.specs.Gives as returned
 use Rattle.vg_pseudo.specs.declared.spot.Spot.{Spot}
 use Rattle.vg_pseudo.specs.declared.operators.UnaryOp.{UnaryOp}
+use Rattle.vg_pseudo.specs.declared.operators.BinaryOp.{BinaryOp}
 use Rattle.vg_script.specs.Script.{Word, sel}
 use Rattle.vg_script.specs.Views.{frame_of, low_of, number_of, word_of}
 use Rattle.vg_interval.specs.declared.fault.RangeFault.{RangeFault}
 use Rattle.vg_interval.specs.declared.fault.RangeFault.TheVariants.{UnknownName, IndexOutside, DynamicIndex, TooWide, TooLong, BadExtend, BareRegister, Memory}
-use Rattle.vg_interval.specs.Interval.{hull}
+use Rattle.vg_interval.specs.Interval.{binary_span, hull}
+use Rattle.vg_interval.specs.Words.{binary_word, comparison}
 use Rattle.vg_interval.specs.Found.{Found, known, read, handed, bit, within, wide, loose, Operand, fixed, moving, span_of, operand, condition, Passed, computed, bits}
 use Rattle.vg_interval.specs.Found as found
-use Rattle.vg_interval.specs.Judge.{Kept, constant, varying, Count, Bits, Index, settled, unsettled, Sight, unary_of}
+use Rattle.vg_interval.specs.Judge.{Kept, constant, varying, Count, Bits, Index, settled, unsettled, Sight, is_comparison, result_within, unary_of}
 use Rattle.vg_interval.specs.declared.found.Found as in_memory
 use Rattle.vg_interval.specs.declared.found.Found.TheVariants as f
 use Rattle.vg_interval.specs.declared.found.Operand as operands
@@ -105,6 +107,14 @@ either c a b = within (hull (span_of a) (span_of b)) (sel 128 c (found.word_of a
 -- an operator or a function of what is neither a slice form nor a left shift that need not fit
 abbrev pub unary_of_number : Spot → UnaryOp → Spot → Found → Result Found RangeFault
 unary_of_number s op t f = operand t f >>= λ a. unary_of s op a
+
+-- an operator that is no shift, of operands that are not both constant
+abbrev pub mixed : Spot → BinaryOp → Operand → Operand → Result Found RangeFault
+mixed s op a b =
+    if is_comparison op
+    then Ok (bit (comparison op (found.word_of a) (found.word_of b)))
+    else result_within s (binary_span op (span_of a) (span_of b))
+    (binary_word op (found.word_of a) (found.word_of b))
 
 -- what a slice sees: the widths of registers, and the numbers of those that are constant
 abbrev pub seen : List ℕ → List (Option ℕ) → Sight

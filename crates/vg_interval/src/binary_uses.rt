@@ -1,19 +1,19 @@
 //! An operator or a function of two operands.
 
 ghost use Rattle.std.specs.Prelude.{◌≡◌, IfOk};
-ghost use Rattle.vg_interval.specs.Judge.{is_comparison, is_shift, result_within, shifted_along, shifted_by};
+ghost use Rattle.vg_interval.specs.Judge.{binary_at, is_comparison, is_shift, joined, result_within};
 ghost use Rattle.vg_interval.specs.Found.{bit, span_of, word_of};
 ghost use Rattle.vg_interval.specs.Interval.{binary_span};
-ghost use Rattle.vg_interval.specs.Views.{Gives, found_view, operand_view};
-ghost use Rattle.vg_pseudo.specs.declared.operators.BinaryOp.TheVariants.{ShiftLeft};
+ghost use Rattle.vg_interval.specs.Views.{Gives, count_view, found_view, mixed, operand_view};
 ghost use Rattle.vg_interval.specs.Words.{binary_word, comparison};
 
-use crate::binary_spans::{binary_span, left_span, right_span, shifted_left_span};
+use crate::binary_results::{binary_result, known};
+use crate::binary_spans::binary_span;
 use crate::fault::RangeFault;
 use crate::found::{Found, Operand};
-use crate::results::shifted_left;
-use crate::whole_numbers::whole;
-use crate::word_builders::{binary_word, comparison, left_by};
+use crate::judged::Count;
+use crate::shifts::shift_at;
+use crate::word_builders::{binary_word, comparison};
 use std::alloc::{AllocError, Global};
 use vg_pseudo::{BinaryOp, Spot};
 
@@ -73,56 +73,65 @@ pub fn combined(
     }
 }
 
-/// A shift by a number of places that is not constant, and not negative.
-pub fn shifted_along(
+// An operator that is no shift, of operands that are not both constant.
+fn mixed(
     alloc: Global,
+    spot: Spot,
     op: BinaryOp,
     first: Operand,
     second: Operand,
-) -> Result<Found, AllocError>
-    ensures { IfOk result (λ f. found_view f ≡ shifted_along op (operand_view first) (operand_view second)) }
+) -> Result<Found, RangeFault>
+    ensures { Gives found_view result (mixed spot op (operand_view first) (operand_view second)) }
 {
-    let i = first.span();
-    let j = second.span();
-    let word = binary_word(alloc, op, first.into_word(), second.into_word())?;
-    match op {
-        BinaryOp::ShiftLeft => match left_span(i, j) {
-            Some(span) => Ok(Found::Within { span, word }),
-            None => Ok(Found::Loose { word }),
-        },
-        _ => Ok(Found::Within {
-            span: right_span(i, j),
-            word,
-        }),
+    if is_comparison(op) {
+        Ok(compared(alloc, op, first, second)?)
+    } else {
+        combined(alloc, spot, op, first, second)
     }
 }
 
-/// A shift to the left by a constant number of places. TooWide where that is above 126, or where the
-/// result does not fit.
-pub fn shifted_left_by(
+/// An operator that is no shift. TooWide where the result does not fit.
+pub fn joined(
     alloc: Global,
     spot: Spot,
-    places: u128,
+    op: BinaryOp,
     first: Operand,
+    second: Operand,
 ) -> Result<Found, RangeFault>
-    ensures { Gives found_view result (shifted_by spot ShiftLeft places (operand_view first)) }
+    ensures { Gives found_view result (joined spot op (operand_view first) (operand_view second)) }
 {
-    if 126 < places {
-        return Err(RangeFault::TooWide { place: spot.inner });
-    }
-    match first {
-        Operand::Fixed(z) => match shifted_left(z, places) {
-            Some(y) => Ok(Found::Known { number: whole(y) }),
-            None => Err(RangeFault::TooWide { place: spot.inner }),
-        },
-        Operand::Moving { span, word } => {
-            match shifted_left_span(span, places as u32, places as u32) {
-                Some(span) => Ok(Found::Within {
-                    span,
-                    word: left_by(alloc, places as u32, word)?,
-                }),
-                None => Err(RangeFault::TooWide { place: spot.inner }),
-            }
+    match (first, second) {
+        (Operand::Fixed(y), Operand::Fixed(z)) => known(spot, binary_result(op, y, z)),
+        (Operand::Fixed(y), Operand::Moving { span, word }) => mixed(
+            alloc,
+            spot,
+            op,
+            Operand::Fixed(y),
+            Operand::Moving { span, word },
+        ),
+        (Operand::Moving { span, word }, second) => {
+            mixed(alloc, spot, op, Operand::Moving { span, word }, second)
         }
+    }
+}
+
+/// An operator or a function of two operands, by its spot and that of its second operand. TooWide
+/// where the result does not fit or an amount of places may be negative.
+pub fn binary_at(
+    alloc: Global,
+    spot: Spot,
+    op: BinaryOp,
+    inner: Spot,
+    first: Operand,
+    second: Operand,
+    count: Count,
+) -> Result<(Found, Count), RangeFault>
+    ensures { Gives (λ f. (found_view f.0, count_view f.1)) result
+        (binary_at spot op inner (operand_view first) (operand_view second) (count_view count)) }
+{
+    if is_shift(op) {
+        shift_at(alloc, spot, op, inner, first, second, count)
+    } else {
+        Ok((joined(alloc, spot, op, first, second)?, count))
     }
 }

@@ -4,6 +4,7 @@
 //! `specs/Found.antt` what is known of an expression, and `specs/Judge.antt` how it is found in the order of the text.
 #![tactic(auto)]
 
+pub mod binary_results;
 pub mod binary_spans;
 pub mod binary_uses;
 pub mod calls;
@@ -14,6 +15,7 @@ pub mod judged;
 pub mod moving;
 pub mod operands;
 pub mod results;
+pub mod shifts;
 pub mod slices;
 pub mod span;
 pub mod spans;

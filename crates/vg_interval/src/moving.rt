@@ -1,6 +1,6 @@
 //! Slices and elements of registers, by indices that may not be constant.
 
-ghost use Rattle.std.specs.Prelude.{◌≡◌, ◌*◌, ◌+◌, ◌*ℤ◌, ◌+ℤ◌, ◌<◌, ◌^◌, ◌&&◌, pos, int_le, nat_le, nat_lt, get_or, None, IfSome};
+ghost use Rattle.std.specs.Prelude.{◌≡◌, ◌*◌, ◌+◌, ◌*ℤ◌, ◌+ℤ◌, ◌<◌, ◌&&◌, pos, int_le, nat_le, nat_lt, get_or, None, IfOk};
 ghost use Rattle.std.specs.Option.{option_map};
 ghost use Rattle.vg_interval.specs.Judge.{bits_between, element_at, lies_inside, moving_slice, slice_at, times};
 ghost use Rattle.vg_interval.specs.Views.{Gives, bits_view, count_view, found_view, index_view, operand_view, seen};
@@ -11,7 +11,7 @@ use crate::found::{Found, Operand};
 use crate::judged::{Bits, Count, Index};
 use crate::slices::{bits_between, bits_of_element, slice_found};
 use crate::span::Span;
-use std::alloc::Global;
+use std::alloc::{AllocError, Global};
 use vg_script::{Low, WholeNumber, Word, make_held, make_two};
 use vg_terms::TwoOp;
 use vg_text::Place;
@@ -114,6 +114,13 @@ fn bits_from(place: Place, all: u128, low: WholeNumber, more: u128) -> Result<Bi
     }
 }
 
+// One bit more than a number. Where that is 2^128, no memory holds so many bits.
+fn width_from(more: u128) -> Result<u128, AllocError>
+    ensures { IfOk result (λ n. n ≡ more + 1) }
+{
+    more.checked_add(1).ok_or(AllocError)
+}
+
 /// The width of a register, 0 where there is none.
 pub fn width_at(widths: &[u128], register: usize) -> u128
     ensures { result ≡ get_or widths.now register 0 }
@@ -150,7 +157,6 @@ pub fn slice_at(
     low: Index,
     count: Count,
 ) -> Result<(Found, Count), RangeFault>
-    requires { IfSome spread (λ n. n < 2 ^ 127) }
     ensures { Gives (λ f. (found_view f.0, count_view f.1)) result
         (slice_at (seen widths.now constants.now) place is_signed register spread (index_view high) (index_view low) (count_view count)) }
 {
@@ -158,7 +164,8 @@ pub fn slice_at(
     let bits = match (spread, high, low) {
         (Some(n), _, Index::Settled(low)) => bits_from(place, all, low, n)?,
         (Some(n), _, Index::Unsettled(low)) => {
-            let found = moving_slice(alloc, place, all, is_signed, register, 1, n + 1, low)?;
+            let width = width_from(n)?;
+            let found = moving_slice(alloc, place, all, is_signed, register, 1, width, low)?;
             return Ok((found, count.dynamic()));
         }
         (None, Index::Settled(high), Index::Settled(low)) => bits_between(place, all, high, low)?,

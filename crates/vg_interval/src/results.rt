@@ -16,7 +16,7 @@ use vg_base::number::{signed, unsigned};
 use vg_pseudo::UnaryOp;
 
 /// A number, which fits.
-fn fitted(x: i128) -> Option<i128>
+pub fn fitted(x: i128) -> Option<i128>
     ensures { result ≡ fit x }
 {
     Some(x)
@@ -76,7 +76,8 @@ pub fn unary_result(op: UnaryOp, x: i128) -> Option<i128>
     }
 }
 
-fn truth(holds: bool) -> i128
+/// 1 where it holds, else 0.
+pub fn truth(holds: bool) -> i128
     ensures { result ≡ truth holds }
 {
     if holds { 1 } else { 0 }

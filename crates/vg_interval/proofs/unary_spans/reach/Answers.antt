@@ -1,4 +1,4 @@
-use Rattle.std.proofs.Common.{rules, sym, ◌∙◌}
+use Rattle.std.proofs.Common.{rules}
 use Rattle.vg_interval.proofs.Fitting.{reach_is, reach_none}
 use Rattle.vg_interval.proofs.unary_spans.reach.Goals as goal
 
