@@ -1,4 +1,11 @@
 pub mod Acceptance
+pub mod Checks
+pub mod Immediates
 pub mod Kept
 pub mod Meant
+pub mod Met
+pub mod Nodes
+pub mod Seen
+pub mod Unrolled
 pub mod Walk
+pub mod Weight

@@ -6,7 +6,29 @@
 //! does what the text means; [`accepted_are_written`] that judging alone accepts just what has a script.
 #![tactic(auto)]
 
+pub mod accepting;
+pub mod arms;
+pub mod assigning;
+pub mod beginning;
+pub mod calling;
+pub mod checked;
+pub mod checking;
+pub mod code_walk;
+pub mod course;
+pub mod frames;
+pub mod goal;
+pub mod instance_walk;
+pub mod joining;
+pub mod judging;
 pub mod law;
+pub mod nodes;
+pub mod spots;
+pub mod stand;
+pub mod turns;
+pub mod unrolling;
+pub mod ways;
 
+pub use checked::Checked;
+pub use checking::check;
 pub use law::{accepted_are_written, scripts_mean_their_texts};
 pub use vg_interval::RangeFault;

@@ -1,0 +1,171 @@
+//! The arms of a CASE that may be taken.
+
+ghost use Rattle.std.specs.Prelude.{◌≡◌, ◌<◌, IfOk, IfSome, map, pos, reverse};
+ghost use Rattle.std.specs.Ordering.{int_eq};
+ghost use Rattle.std.specs.List.{list_all};
+ghost use Rattle.std.specs.Option.{option_map};
+ghost use Rattle.vg_interval.specs.Views.{count_view};
+ghost use Rattle.vg_names.specs.Views.{code_view};
+ghost use Rattle.vg_script.specs.Script.{stop};
+ghost use Rattle.vg_script.specs.Views.{script_of, word_of};
+ghost use Rattle.vg_range.specs.Met.{arm_of, arm_view, arms_view, no_arms, picked_by};
+ghost use Rattle.vg_range.specs.Seen.{course_view, stand_view};
+ghost use Rattle.vg_range.specs.Walk.{arms_do_nothing, arms_in_front, is_empty, pick_of, with_arm};
+ghost use Rattle.vg_range.specs.Weight.{code_weight};
+
+use crate::course::Course;
+use crate::joining::join;
+use crate::stand::{Stand, is_empty, with_script};
+use std::alloc::{AllocError, Global};
+use vg_interval::{Count, Kept};
+use vg_names::Code;
+use vg_script::{Script, Word, make_arm, make_pick};
+
+/// An arm that may be taken: its number and what it does.
+#[derive(Debug, Drop)]
+pub struct ArmTaken {
+    pub number: u128,
+    pub body: Script,
+}
+
+/// Arms that may be taken, found so far, the last at the end, and what is known behind any of them
+/// or none.
+#[derive(Debug, Drop)]
+pub struct Arms {
+    pub scripts: Vec<ArmTaken>,
+    pub joined: Vec<Kept>,
+}
+
+/// No arm is found yet.
+pub fn no_arms(alloc: Global, stand: &Stand) -> Result<Arms, AllocError>
+    ensures { IfOk result (λ a. arms_view a ≡ no_arms (stand_view stand.now)) }
+{
+    let joined = stand.numbers.clone()?;
+    Ok(Arms {
+        scripts: Vec::new(alloc),
+        joined,
+    })
+}
+
+/// One arm more.
+#[inline(never)]
+#[tactic(auto, using(crate::proofs::Lists::view_last))]
+pub fn with_arm(
+    alloc: Global,
+    course: &Course,
+    number: u128,
+    stand: Box<Stand>,
+    found: Arms,
+) -> Result<Arms, AllocError>
+    ensures { IfOk result (λ a. arms_view a ≡
+        with_arm (course_view course.now) number (stand_view stand.value) (arms_view found)) }
+{
+    let Stand {
+        numbers,
+        count: _,
+        script: body,
+    } = Box::into_inner(stand);
+    let Arms {
+        mut scripts,
+        joined,
+    } = found;
+    let joined = join(alloc, joined.as_slice(), numbers.as_slice())?;
+    if course.is_kept {
+        scripts.push(ArmTaken { number, body })?;
+        Ok(Arms { scripts, joined })
+    } else {
+        let scripts = Vec::new(alloc);
+        Ok(Arms { scripts, joined })
+    }
+}
+
+#[tactic(auto, using(crate::proofs::Lists::view_last))]
+fn arms_in_front(alloc: Global, mut arms: Vec<ArmTaken>) -> Result<Script, AllocError>
+    ensures { IfOk result (λ s. script_of s ≡ arms_in_front (reverse (map arm_view arms.items)) stop) }
+{
+    let mut script = Script::Stop;
+    'arms: while let Some(arm) = arms.pop() {
+        script = make_arm(alloc, arm.number, arm.body, script)?;
+    }
+    Ok(script)
+}
+
+fn all_empty(arms: &[ArmTaken]) -> bool
+    ensures { result ≡ list_all (λ a. is_empty (script_of a.body)) arms.now }
+{
+    arms.iter().all(|arm| is_empty(&arm.body))
+}
+
+fn arms_do_nothing(arms: &[ArmTaken]) -> bool
+    ensures { result ≡ arms_do_nothing (reverse (map arm_view arms.now)) }
+{
+    all_empty(arms)
+}
+
+fn pick_of(alloc: Global, selector: Word, arms: Vec<ArmTaken>) -> Result<Script, AllocError>
+    ensures { IfOk result (λ s. script_of s ≡ pick_of (word_of selector) (reverse (map arm_view arms.items))) }
+{
+    if arms_do_nothing(arms.as_slice()) {
+        Ok(Script::Stop)
+    } else {
+        let arms = arms_in_front(alloc, arms)?;
+        make_pick(alloc, selector, arms)
+    }
+}
+
+/// A CASE whose selector is not constant, by its arms and the counts behind them.
+#[inline(never)]
+pub fn picked_by(
+    alloc: Global,
+    course: &Course,
+    selector: Word,
+    stand: Box<Stand>,
+    found: Arms,
+    count: Count,
+) -> Result<Box<Stand>, AllocError>
+    ensures { IfOk result (λ w. stand_view w.value ≡
+        picked_by (course_view course.now) (word_of selector) (stand_view stand.value) (arms_view found) (count_view count)) }
+{
+    let Stand {
+        numbers: _,
+        count: _,
+        script,
+    } = Box::into_inner(stand);
+    let Arms { scripts, joined } = found;
+    let pick = pick_of(alloc, selector, scripts)?;
+    let stand = Box::new(
+        alloc,
+        Stand {
+            numbers: joined,
+            count,
+            script,
+        },
+    )?;
+    with_script(alloc, course, pick, stand)
+}
+
+fn is_number(number: i128, arm: u128) -> bool
+    ensures { result ≡ int_eq number (pos arm) }
+{
+    0 <= number && number as u128 == arm
+}
+
+/// The body of the first arm of this number.
+pub fn arm_of(number: i128, arms: &Code) -> Option<&Code>
+    ensures is { option_map (λ c. code_view c.now) result ≡ arm_of number (code_view arms.now) }
+    ensures inside { IfSome result (λ c. code_weight (code_view c.now) < code_weight (code_view arms.now)) }
+{
+    let mut left = arms;
+    'arms: while let Code::Arm {
+        number: arm,
+        body,
+        arms: others,
+    } = left
+    {
+        if is_number(number, *arm) {
+            return Some(body);
+        }
+        left = others;
+    }
+    None
+}

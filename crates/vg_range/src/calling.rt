@@ -1,0 +1,129 @@
+//! Calls of DEFINEs.
+
+ghost use Rattle.std.specs.Prelude.{◌≡◌, [], IfOk, get_or, map};
+ghost use Rattle.vg_interval.specs.Judge.{no_walk};
+ghost use Rattle.vg_interval.specs.Views.{Gives, count_view, found_view, passed_view};
+ghost use Rattle.vg_names.specs.Views.{function_view};
+ghost use Rattle.vg_script.specs.Views.{script_of};
+ghost use Rattle.vg_range.specs.Seen.{answered_by};
+ghost use Rattle.vg_range.specs.Walk.{called, walks_from};
+
+use crate::beginning::begun;
+use crate::code_walk::walk;
+use crate::course::{Course, boxed};
+use crate::frames::{constants_of, given_of};
+use crate::judging::judge;
+use crate::spots::spot_of;
+use crate::stand::Stand;
+use std::alloc::{AllocError, Global};
+use vg_base::Items;
+use vg_interval::calls::answered;
+use vg_interval::{Count, Found, Passed, RangeFault};
+use vg_names::Function;
+use vg_pseudo::Spot;
+use vg_script::{Frame, Script, WholeNumber};
+
+fn copied(alloc: Global, widths: &[u128]) -> Result<Items<u128>, AllocError>
+    ensures { IfOk result (λ all. all ≡ widths.now) }
+{
+    let mut all = Vec::new(alloc);
+    all.extend_from_slice(widths)?;
+    Ok(Items::from_vec(all))
+}
+
+/// What a call gives whose body leaves this script and whose RETURN this.
+#[inline(never)]
+fn answered_by(
+    alloc: Global,
+    function: &Function,
+    given: Vec<Passed>,
+    script: Script,
+    found: Box<Found>,
+    count: Count,
+) -> Result<(Box<Found>, Count), RangeFault>
+    ensures { Gives (λ f. (found_view f.0.value, count_view f.1)) result
+        (answered_by (function_view function.now) (map passed_view given.items) (script_of script) (found_view found.value) (count_view count)) }
+{
+    let widths = copied(alloc, function.body.widths.as_slice())?;
+    let given = given_of(alloc, given)?;
+    let frame = Frame {
+        widths,
+        variables: function.body.numbers,
+        given,
+        script,
+    };
+    let spot = spot_of(&function.answer);
+    let found = answered(alloc, spot, frame, Box::into_inner(found))?;
+    boxed(alloc, found, count)
+}
+
+/// What a call of a DEFINE gives for its arguments, where these DEFINEs stand before it.
+#[inline(never)]
+#[cycle(judging)]
+#[tactic(auto, using(crate::proofs::Lists::view_take))]
+pub fn called(
+    alloc: Global,
+    is_kept: bool,
+    functions: &[Function],
+    function: &Function,
+    spot: Spot,
+    given: Vec<Passed>,
+    count: Count,
+) -> Result<(Box<Found>, Count), RangeFault>
+    ensures { Gives (λ f. (found_view f.0.value, count_view f.1)) result
+        (called is_kept (walks_from is_kept [] (map function_view functions.now)) (function_view function.now) spot (map passed_view given.items) (count_view count)) }
+{
+    let mut given = given;
+    given.truncate(function.body.parameters);
+    let widths = function.body.widths.as_slice();
+    let constants = constants_of(alloc, widths, given.as_slice())?;
+    let course = Course {
+        widths,
+        constants: constants.as_slice(),
+        turns: &[],
+        functions,
+        is_kept,
+    };
+    let first = begun(alloc, function.body.numbers, count)?;
+    let stand = walk(alloc, &course, &function.body.code, first)?;
+    let numbers = stand.numbers.as_slice();
+    let (found, count) = judge(alloc, &course, numbers, &function.answer, stand.count)?;
+    let Stand {
+        numbers: _,
+        count: _,
+        script,
+    } = Box::into_inner(stand);
+    answered_by(alloc, function, given, script, found, count)
+}
+
+/// What a call of one of these DEFINEs gives for its arguments, by its place among them.
+#[inline(never)]
+#[cycle(judging)]
+pub fn called_at(
+    alloc: Global,
+    is_kept: bool,
+    functions: &[Function],
+    number: usize,
+    spot: Spot,
+    given: Vec<Passed>,
+    count: Count,
+) -> Result<(Box<Found>, Count), RangeFault>
+    ensures { Gives (λ f. (found_view f.0.value, count_view f.1)) result
+        (get_or (walks_from is_kept [] (map function_view functions.now)) number no_walk spot (map passed_view given.items) (count_view count)) }
+{
+    if number < functions.len() {
+        let function = &functions[number];
+        called(
+            alloc,
+            is_kept,
+            &functions[..number],
+            function,
+            spot,
+            given,
+            count,
+        )
+    } else {
+        let number = WholeNumber::Natural(0);
+        boxed(alloc, Found::Known { number }, count)
+    }
+}

@@ -1,0 +1,415 @@
+//! What is known of expressions, found in the order of the text.
+
+ghost use Rattle.std.specs.Prelude.{◌≡◌, [], get_or, map, None, pos};
+ghost use Rattle.vg_interval.specs.Found.{known};
+ghost use Rattle.vg_interval.specs.Judge.{branch, judge, judge_all, no_walk, spot_of};
+ghost use Rattle.vg_interval.specs.Views.{Gives, condition_view, count_view, found_view, kept_view, operand_view, passed_view};
+ghost use Rattle.vg_names.specs.Views.{expr_of, function_view, list_of};
+ghost use Rattle.vg_pseudo.specs.Resolved as node;
+ghost use Rattle.vg_script.specs.Views.{word_of};
+ghost use Rattle.vg_range.specs.Seen.{argument_of, chosen_by, either_of, leaf, plain_of, sight_view, tested_at};
+ghost use Rattle.vg_range.specs.Walk.{walks_from};
+
+use crate::calling::called_at;
+use crate::course::{Course, boxed, counter, element, slice, variable};
+use crate::spots::spot_of;
+use std::alloc::Global;
+use vg_interval::binary_uses::binary_at;
+use vg_interval::calls::passed;
+use vg_interval::moving::{constant_at, width_at};
+use vg_interval::operands::{condition, either, operand};
+use vg_interval::slices::{bits_of_element, index_of, slice_found};
+use vg_interval::unary_uses::unary_at;
+use vg_interval::{Condition, Count, Found, Kept, Operand, Passed, RangeFault};
+use vg_names::{Function, ResolvedArguments, ResolvedExpr};
+use vg_pseudo::{BinaryOp, Spot, UnaryOp};
+use vg_script::{WholeNumber, Word};
+
+/// What is known of an expression, given what is known of the number variables, and the counts
+/// behind it; or its first fault.
+#[cycle(judging)]
+pub fn judge(
+    alloc: Global,
+    course: &Course,
+    numbers: &[Kept],
+    expr: &ResolvedExpr,
+    count: Count,
+) -> Result<(Box<Found>, Count), RangeFault>
+    ensures { Gives (λ f. (found_view f.0.value, count_view f.1)) result
+        (judge (sight_view course.now) (map kept_view numbers.now) (expr_of expr.now) (count_view count)) }
+{
+    match expr {
+        ResolvedExpr::Literal { spot: _, value } => literal(alloc, *value, count),
+        ResolvedExpr::Counter { spot: _, turn } => {
+            boxed(alloc, counter(course.turns, *turn), count)
+        }
+        ResolvedExpr::Variable {
+            spot: _,
+            variable: number,
+        } => boxed(alloc, variable(numbers, *number), count),
+        ResolvedExpr::Slice {
+            spot,
+            is_signed,
+            register,
+            spread,
+            high,
+            low,
+        } => slice_of(
+            alloc, course, numbers, *spot, *is_signed, *register, *spread, high, low, count,
+        ),
+        ResolvedExpr::Element {
+            spot,
+            is_signed,
+            register,
+            size,
+            index,
+        } => element_of(
+            alloc, course, numbers, *spot, *is_signed, *register, *size, index, count,
+        ),
+        ResolvedExpr::Front {
+            spot,
+            is_signed,
+            register,
+            size,
+        } => front(alloc, course, *spot, *is_signed, *register, *size, count),
+        ResolvedExpr::Unary { spot, op, operand } => {
+            unary(alloc, course, numbers, *spot, *op, operand, count)
+        }
+        ResolvedExpr::Binary {
+            spot,
+            op,
+            left,
+            right,
+        } => binary(alloc, course, numbers, *spot, *op, left, right, count),
+        ResolvedExpr::Choice {
+            spot: _,
+            condition,
+            first,
+            second,
+        } => choice(alloc, course, numbers, condition, first, second, count),
+        ResolvedExpr::Call {
+            spot,
+            function,
+            arguments,
+        } => call(alloc, course, numbers, *spot, *function, arguments, count),
+    }
+}
+
+#[inline(never)]
+fn literal(alloc: Global, value: u128, count: Count) -> Result<(Box<Found>, Count), RangeFault>
+    ensures { Gives (λ f. (found_view f.0.value, count_view f.1)) result (leaf (known (pos value) None) (count_view count)) }
+{
+    let number = WholeNumber::Natural(value);
+    boxed(alloc, Found::Known { number }, count)
+}
+
+/// `name[high:low]`
+#[inline(never)]
+#[cycle(judging)]
+fn slice_of(
+    alloc: Global,
+    course: &Course,
+    numbers: &[Kept],
+    spot: Spot,
+    is_signed: bool,
+    register: usize,
+    spread: Option<u128>,
+    high: &ResolvedExpr,
+    low: &ResolvedExpr,
+    count: Count,
+) -> Result<(Box<Found>, Count), RangeFault>
+    ensures { Gives (λ f. (found_view f.0.value, count_view f.1)) result
+        (judge (sight_view course.now) (map kept_view numbers.now)
+        (node.slice spot is_signed register spread (expr_of high.now) (expr_of low.now)) (count_view count)) }
+{
+    let (found, count) = judge(alloc, course, numbers, high, count)?;
+    let last = index_of(alloc, spot_of(high), Box::into_inner(found))?;
+    let (found, count) = judge(alloc, course, numbers, low, count)?;
+    let first = index_of(alloc, spot_of(low), Box::into_inner(found))?;
+    slice(
+        alloc, course, spot.inner, is_signed, register, spread, last, first, count,
+    )
+}
+
+/// `name.elem[index]` or `name[index]`
+#[inline(never)]
+#[cycle(judging)]
+fn element_of(
+    alloc: Global,
+    course: &Course,
+    numbers: &[Kept],
+    spot: Spot,
+    is_signed: bool,
+    register: usize,
+    size: u32,
+    index: &ResolvedExpr,
+    count: Count,
+) -> Result<(Box<Found>, Count), RangeFault>
+    ensures { Gives (λ f. (found_view f.0.value, count_view f.1)) result
+        (judge (sight_view course.now) (map kept_view numbers.now)
+        (node.element spot is_signed register size (expr_of index.now)) (count_view count)) }
+{
+    let (found, count) = judge(alloc, course, numbers, index, count)?;
+    let place = index_of(alloc, spot_of(index), Box::into_inner(found))?;
+    element(
+        alloc, course, spot.inner, is_signed, register, size, place, count,
+    )
+}
+
+/// The bits of a register from bit 0 on.
+#[inline(never)]
+fn front(
+    alloc: Global,
+    course: &Course,
+    spot: Spot,
+    is_signed: bool,
+    register: usize,
+    size: u128,
+    count: Count,
+) -> Result<(Box<Found>, Count), RangeFault>
+    ensures { Gives (λ f. (found_view f.0.value, count_view f.1)) result
+        (judge (sight_view course.now) [] (node.front spot is_signed register size) (count_view count)) }
+{
+    let all = width_at(course.widths, register);
+    let bits = bits_of_element(spot.inner, all, size, WholeNumber::Natural(0))?;
+    let constant = constant_at(course.constants, register);
+    boxed(
+        alloc,
+        slice_found(is_signed, constant, register, bits),
+        count,
+    )
+}
+
+/// An operator or a function of one operand.
+#[inline(never)]
+#[cycle(judging)]
+fn unary(
+    alloc: Global,
+    course: &Course,
+    numbers: &[Kept],
+    spot: Spot,
+    op: UnaryOp,
+    expr: &ResolvedExpr,
+    count: Count,
+) -> Result<(Box<Found>, Count), RangeFault>
+    ensures { Gives (λ f. (found_view f.0.value, count_view f.1)) result
+        (judge (sight_view course.now) (map kept_view numbers.now) (node.unary spot op (expr_of expr.now)) (count_view count)) }
+{
+    let (found, count) = judge(alloc, course, numbers, expr, count)?;
+    let found = unary_at(alloc, spot, op, spot_of(expr), Box::into_inner(found))?;
+    boxed(alloc, found, count)
+}
+
+/// An operator or a function of two operands.
+#[inline(never)]
+#[cycle(judging)]
+fn binary(
+    alloc: Global,
+    course: &Course,
+    numbers: &[Kept],
+    spot: Spot,
+    op: BinaryOp,
+    left: &ResolvedExpr,
+    right: &ResolvedExpr,
+    count: Count,
+) -> Result<(Box<Found>, Count), RangeFault>
+    ensures { Gives (λ f. (found_view f.0.value, count_view f.1)) result
+        (judge (sight_view course.now) (map kept_view numbers.now) (node.binary spot op (expr_of left.now) (expr_of right.now)) (count_view count)) }
+{
+    let (found, count) = judge(alloc, course, numbers, left, count)?;
+    let first = operand(alloc, spot_of(left), Box::into_inner(found))?;
+    let (found, count) = judge(alloc, course, numbers, right, count)?;
+    let second = operand(alloc, spot_of(right), Box::into_inner(found))?;
+    let (found, count) = binary_at(alloc, spot, op, spot_of(right), first, second, count)?;
+    boxed(alloc, found, count)
+}
+
+/// A branch of a choice.
+#[inline(never)]
+#[cycle(judging)]
+fn branch(
+    alloc: Global,
+    course: &Course,
+    numbers: &[Kept],
+    expr: &ResolvedExpr,
+    count: Count,
+) -> Result<(Box<Operand>, Count), RangeFault>
+    ensures { Gives (λ f. (operand_view f.0.value, count_view f.1)) result
+        (branch (spot_of (expr_of expr.now)) (judge (sight_view course.now) (map kept_view numbers.now) (expr_of expr.now)) (count_view count)) }
+{
+    let (found, count) = judge(alloc, course, numbers, expr, count)?;
+    let operand = operand(alloc, spot_of(expr), Box::into_inner(found))?;
+    let operand = Box::new(alloc, operand)?;
+    Ok((operand, count))
+}
+
+/// One branch of a choice whose condition is constant.
+#[inline(never)]
+#[cycle(judging)]
+fn one_of(
+    alloc: Global,
+    course: &Course,
+    numbers: &[Kept],
+    expr: &ResolvedExpr,
+    count: Count,
+) -> Result<(Box<Found>, Count), RangeFault>
+    ensures { Gives (λ f. (found_view f.0.value, count_view f.1)) result
+        (plain_of (branch (spot_of (expr_of expr.now)) (judge (sight_view course.now) (map kept_view numbers.now) (expr_of expr.now)) (count_view count))) }
+{
+    let (operand, count) = branch(alloc, course, numbers, expr, count)?;
+    boxed(alloc, Box::into_inner(operand).into_found(), count)
+}
+
+/// Both branches of a choice.
+#[inline(never)]
+#[cycle(judging)]
+fn both_of(
+    alloc: Global,
+    course: &Course,
+    numbers: &[Kept],
+    condition: Word,
+    first: &ResolvedExpr,
+    second: &ResolvedExpr,
+    count: Count,
+) -> Result<(Box<Found>, Count), RangeFault>
+    ensures { Gives (λ f. (found_view f.0.value, count_view f.1)) result
+        (either_of (word_of condition) (spot_of (expr_of first.now)) (judge (sight_view course.now) (map kept_view numbers.now) (expr_of first.now))
+        (spot_of (expr_of second.now)) (judge (sight_view course.now) (map kept_view numbers.now) (expr_of second.now)) (count_view count)) }
+{
+    let (one, count) = branch(alloc, course, numbers, first, count)?;
+    let (other, count) = branch(alloc, course, numbers, second, count)?;
+    let found = either(
+        alloc,
+        condition,
+        Box::into_inner(one),
+        Box::into_inner(other),
+    )?;
+    boxed(alloc, found, count)
+}
+
+/// What a condition says, and the counts behind it.
+#[inline(never)]
+#[cycle(judging)]
+pub fn tested(
+    alloc: Global,
+    course: &Course,
+    numbers: &[Kept],
+    expr: &ResolvedExpr,
+    count: Count,
+) -> Result<(Box<Condition>, Count), RangeFault>
+    ensures { Gives (λ f. (condition_view f.0.value, count_view f.1)) result
+        (tested_at (spot_of (expr_of expr.now)) (judge (sight_view course.now) (map kept_view numbers.now) (expr_of expr.now) (count_view count))) }
+{
+    let (found, count) = judge(alloc, course, numbers, expr, count)?;
+    let condition = condition(alloc, spot_of(expr), Box::into_inner(found))?;
+    let condition = Box::new(alloc, condition)?;
+    Ok((condition, count))
+}
+
+/// `condition ? first : second`
+#[inline(never)]
+#[cycle(judging)]
+fn choice(
+    alloc: Global,
+    course: &Course,
+    numbers: &[Kept],
+    condition: &ResolvedExpr,
+    first: &ResolvedExpr,
+    second: &ResolvedExpr,
+    count: Count,
+) -> Result<(Box<Found>, Count), RangeFault>
+    ensures { Gives (λ f. (found_view f.0.value, count_view f.1)) result
+        (chosen_by (tested_at (spot_of (expr_of condition.now)) (judge (sight_view course.now) (map kept_view numbers.now) (expr_of condition.now) (count_view count)))
+        (spot_of (expr_of first.now)) (judge (sight_view course.now) (map kept_view numbers.now) (expr_of first.now))
+        (spot_of (expr_of second.now)) (judge (sight_view course.now) (map kept_view numbers.now) (expr_of second.now))) }
+{
+    let (condition, count) = tested(alloc, course, numbers, condition, count)?;
+    match Box::into_inner(condition) {
+        Condition::Always(z) => {
+            if z == 0 {
+                one_of(alloc, course, numbers, second, count)
+            } else {
+                one_of(alloc, course, numbers, first, count)
+            }
+        }
+        Condition::Tested { word } => both_of(alloc, course, numbers, word, first, second, count),
+    }
+}
+
+/// An argument, and the counts behind it.
+#[inline(never)]
+#[cycle(judging)]
+fn argument(
+    alloc: Global,
+    course: &Course,
+    numbers: &[Kept],
+    expr: &ResolvedExpr,
+    count: Count,
+) -> Result<(Passed, Count), RangeFault>
+    ensures { Gives (λ p. (passed_view p.0, count_view p.1)) result
+        (argument_of (sight_view course.now) (map kept_view numbers.now) (expr_of expr.now) (count_view count)) }
+{
+    let (found, count) = judge(alloc, course, numbers, expr, count)?;
+    let passed = passed(alloc, spot_of(expr), Box::into_inner(found))?;
+    Ok((passed, count))
+}
+
+/// The arguments of a call, in a loop, since there may be many.
+#[inline(never)]
+#[cycle(judging)]
+fn judge_all(
+    alloc: Global,
+    course: &Course,
+    numbers: &[Kept],
+    arguments: &ResolvedArguments,
+    count: Count,
+) -> Result<(Vec<Passed>, Count), RangeFault>
+    ensures { Gives (λ g. (map passed_view g.0.items, count_view g.1)) result
+        (judge_all (sight_view course.now) (map kept_view numbers.now) (list_of arguments.now) (count_view count)) }
+{
+    let mut given = Vec::new(alloc);
+    let mut left = arguments;
+    let mut count = count;
+    'arguments: loop {
+        match left {
+            ResolvedArguments::End => return Ok((given, count)),
+            ResolvedArguments::More {
+                argument: first,
+                rest,
+            } => {
+                let (passed, behind) = argument(alloc, course, numbers, first, count)?;
+                given.push(passed)?;
+                count = behind;
+                left = rest;
+            }
+        }
+    }
+}
+
+/// A call, by its arguments.
+#[inline(never)]
+#[cycle(judging)]
+fn call(
+    alloc: Global,
+    course: &Course,
+    numbers: &[Kept],
+    spot: Spot,
+    function: usize,
+    arguments: &ResolvedArguments,
+    count: Count,
+) -> Result<(Box<Found>, Count), RangeFault>
+    ensures { Gives (λ f. (found_view f.0.value, count_view f.1)) result
+        (judge (sight_view course.now) (map kept_view numbers.now) (node.call spot function (list_of arguments.now)) (count_view count)) }
+{
+    let count = count.step(spot.inner)?;
+    let (given, count) = judge_all(alloc, course, numbers, arguments, count)?;
+    called_at(
+        alloc,
+        course.is_kept,
+        course.functions,
+        function,
+        spot,
+        given,
+        count,
+    )
+}

@@ -1,0 +1,170 @@
+//! The ways of an IF that may be taken.
+
+ghost use Rattle.std.specs.Prelude.{◌≡◌, IfOk, map, reverse};
+ghost use Rattle.std.specs.List.{list_all};
+ghost use Rattle.std.specs.Option.{option_map};
+ghost use Rattle.vg_interval.specs.Views.{kept_view};
+ghost use Rattle.vg_script.specs.Views.{script_of, word_of};
+ghost use Rattle.vg_range.specs.Met.{way_view, ways_view};
+ghost use Rattle.vg_range.specs.Seen.{course_view, stand_view};
+ghost use Rattle.vg_range.specs.Walk.{branch_of, closed, does_nothing, in_front, is_empty, joined_with, no_ways, with_way};
+
+use crate::course::Course;
+use crate::joining::join;
+use crate::stand::{Stand, is_empty, with_script};
+use std::alloc::{AllocError, Global};
+use vg_interval::{Count, Kept};
+use vg_script::{Script, Word, make_branch, make_last, make_way};
+
+/// A way that may be taken: its condition and what it does.
+#[derive(Debug, Drop)]
+pub struct WayTaken {
+    pub condition: Word,
+    pub body: Script,
+}
+
+/// Ways that may be taken, found so far, the last at the end, and what is known behind any of them.
+#[derive(Debug, Drop)]
+pub struct Ways {
+    pub scripts: Vec<WayTaken>,
+    pub joined: Option<Vec<Kept>>,
+}
+
+/// A way that was looked at: others may be taken behind those found, or it is the last.
+#[derive(Debug, Drop)]
+pub enum Met {
+    Further { found: Ways, count: Count },
+    Final { found: Ways, last: Box<Stand> },
+}
+
+/// No way is found yet.
+pub fn no_ways(alloc: Global) -> Ways
+    ensures { ways_view result ≡ no_ways }
+{
+    Ways {
+        scripts: Vec::new(alloc),
+        joined: None,
+    }
+}
+
+/// What is known behind a way more.
+fn joined_with(
+    alloc: Global,
+    joined: Option<Vec<Kept>>,
+    numbers: Vec<Kept>,
+) -> Result<Vec<Kept>, AllocError>
+    ensures { IfOk result (λ ks. map kept_view ks.items ≡
+        joined_with (option_map (λ js. map kept_view js.items) joined) (map kept_view numbers.items)) }
+{
+    match joined {
+        None => Ok(numbers),
+        Some(first) => join(alloc, first.as_slice(), numbers.as_slice()),
+    }
+}
+
+/// One way more.
+#[inline(never)]
+#[tactic(auto, using(crate::proofs::Lists::view_last))]
+pub fn with_way(
+    alloc: Global,
+    course: &Course,
+    condition: Word,
+    stand: Box<Stand>,
+    found: Ways,
+) -> Result<Ways, AllocError>
+    ensures { IfOk result (λ w. ways_view w ≡
+        with_way (course_view course.now) (word_of condition) (stand_view stand.value) (ways_view found)) }
+{
+    let Stand {
+        numbers,
+        count: _,
+        script: body,
+    } = Box::into_inner(stand);
+    let Ways {
+        mut scripts,
+        joined,
+    } = found;
+    let joined = Some(joined_with(alloc, joined, numbers)?);
+    if course.is_kept {
+        scripts.push(WayTaken { condition, body })?;
+        Ok(Ways { scripts, joined })
+    } else {
+        let scripts = Vec::new(alloc);
+        Ok(Ways { scripts, joined })
+    }
+}
+
+/// The ways in their order in front of what the last one does.
+#[tactic(auto, using(crate::proofs::Lists::view_last))]
+fn in_front(alloc: Global, mut ways: Vec<WayTaken>, last: Script) -> Result<Script, AllocError>
+    ensures { IfOk result (λ s. script_of s ≡ in_front (reverse (map way_view ways.items)) (script_of last)) }
+{
+    let mut script = last;
+    'ways: while let Some(way) = ways.pop() {
+        script = make_way(alloc, way.condition, way.body, script)?;
+    }
+    Ok(script)
+}
+
+fn all_empty(ways: &[WayTaken]) -> bool
+    ensures { result ≡ list_all (λ w. is_empty (script_of w.body)) ways.now }
+{
+    ways.iter().all(|way| is_empty(&way.body))
+}
+
+fn does_nothing(ways: &[WayTaken], last: &Script) -> bool
+    ensures { result ≡ does_nothing (reverse (map way_view ways.now)) (script_of last.now) }
+{
+    is_empty(last) && all_empty(ways)
+}
+
+/// An IF of these ways and this last one; where there are no ways before it, the last alone.
+fn branch_of(alloc: Global, ways: Vec<WayTaken>, last: Script) -> Result<Script, AllocError>
+    ensures { IfOk result (λ s. script_of s ≡ branch_of (reverse (map way_view ways.items)) (script_of last)) }
+{
+    if ways.is_empty() {
+        Ok(last)
+    } else if does_nothing(ways.as_slice(), &last) {
+        Ok(Script::Stop)
+    } else {
+        let last = make_last(alloc, last)?;
+        let ways = in_front(alloc, ways, last)?;
+        make_branch(alloc, ways)
+    }
+}
+
+/// An IF whose last way is taken where no other is.
+#[inline(never)]
+pub fn closed(
+    alloc: Global,
+    course: &Course,
+    stand: Box<Stand>,
+    found: Ways,
+    last: Box<Stand>,
+) -> Result<Box<Stand>, AllocError>
+    ensures { IfOk result (λ w. stand_view w.value ≡
+        closed (course_view course.now) (stand_view stand.value) (ways_view found) (stand_view last.value)) }
+{
+    let Stand {
+        numbers: _,
+        count: _,
+        script: before,
+    } = Box::into_inner(stand);
+    let Stand {
+        numbers,
+        count,
+        script: body,
+    } = Box::into_inner(last);
+    let Ways { scripts, joined } = found;
+    let branch = branch_of(alloc, scripts, body)?;
+    let numbers = joined_with(alloc, joined, numbers)?;
+    let stand = Box::new(
+        alloc,
+        Stand {
+            numbers,
+            count,
+            script: before,
+        },
+    )?;
+    with_script(alloc, course, branch, stand)
+}
