@@ -4,3 +4,4 @@ pub mod Holding
 pub mod Entering
 pub mod Rooms
 pub mod Ready
+mod Answering

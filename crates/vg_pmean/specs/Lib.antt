@@ -4,3 +4,4 @@ pub mod Room
 pub mod Places
 pub mod Applied
 pub mod Readied
+pub mod Entries

@@ -3,6 +3,7 @@
 
 mod apply;
 mod cells;
+pub mod entries;
 mod evaluate;
 mod extent;
 mod frames;
@@ -12,5 +13,6 @@ mod pieces;
 pub mod prepared;
 pub mod room;
 
+pub use entries::answer_once;
 pub use instance::Instance;
 pub use prepared::Prepared;
