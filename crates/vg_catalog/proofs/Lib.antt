@@ -1,0 +1,11 @@
+pub mod EntryLists
+pub mod FileSteps
+pub mod FilesAgain
+pub mod FilesFound
+pub mod HeaderWords
+pub mod HeadersAgain
+pub mod HeadersFound
+pub mod Laws
+pub mod ParamLists
+pub mod Standing
+pub mod WrittenEntries

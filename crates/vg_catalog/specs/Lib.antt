@@ -1,0 +1,11 @@
+pub mod Catalogs
+pub mod Entries
+pub mod Extensions
+pub mod Faults
+pub mod Files
+pub mod Gives
+pub mod Grammar
+pub mod Headers
+pub mod Lexing
+pub mod Words
+pub mod Written

@@ -1,0 +1,69 @@
+//! As many entries and instances as there may be, and one more; files that end too early.
+
+use crate::file_texts::refuse_marked;
+use std::alloc::Global;
+use std::process::Abort;
+use std::test::Fail;
+use vg_catalog::parse_file;
+
+const ENTRY: &str = " PARAM a 128 UI8 RESULT dst 128 UI8 EXTENSION SSE2 COST 1 OPERATION END\n";
+
+const INSTANCES: &str = concat!(
+    " PARAM a 128 UI8 IMM k 0 to 255 RESULT dst 128 UI8 EXTENSION SSE2 COST 1 OPERATION",
+    " dst[0] := k[0] END\n",
+);
+
+/// Entries with names of their own, each with the same words behind its name.
+fn entries(alloc: Global, count: u32, behind: &str) -> Result<Vec<u8>, Fail> {
+    let mut text = Vec::new(alloc);
+    for number in 0..count {
+        text.extend_from_slice(b"INSTRUCTION ")?;
+        text.push(b'a' + (number / 256 % 16) as u8)?;
+        text.push(b'a' + (number / 16 % 16) as u8)?;
+        text.push(b'a' + (number % 16) as u8)?;
+        text.extend_from_slice(behind.as_bytes())?;
+    }
+    Ok(text)
+}
+
+fn accept_count(rt: &impl Abort, alloc: Global, text: &[u8], count: usize) -> Result<(), Fail> {
+    let Ok(catalog) = parse_file(alloc, text) else {
+        return Err("a file is refused".into());
+    };
+    assert_eq!(rt; catalog.entries().len(), count);
+    Ok(())
+}
+
+#[test]
+fn as_many_entries_as_there_may_be(rt: HostRuntime) -> Result<(), Fail> {
+    let mut text = entries(rt.alloc(), 1_024, ENTRY)?;
+    accept_count(&rt, rt.alloc(), text.as_slice(), 1_024)?;
+    text.extend_from_slice(b"@FOO")?;
+    refuse_marked(&rt, rt.alloc(), text.as_slice(), 14, "one entry more")
+}
+
+#[test]
+fn as_many_instances_as_there_may_be(rt: HostRuntime) -> Result<(), Fail> {
+    let mut text = entries(rt.alloc(), 16, INSTANCES)?;
+    accept_count(&rt, rt.alloc(), text.as_slice(), 16)?;
+    text.extend_from_slice(b"@INSTRUCTION zzz PARAM a 128 UI8 RESULT dst 128 UI8 ")?;
+    text.extend_from_slice(b"EXTENSION SSE2 COST 1 OPERATION )")?;
+    refuse_marked(&rt, rt.alloc(), text.as_slice(), 14, "one instance more")
+}
+
+#[test]
+fn files_that_end_too_early(rt: HostRuntime) -> Result<(), Fail> {
+    let first = entries(rt.alloc(), 1, ENTRY)?;
+    let text = entries(rt.alloc(), 2, ENTRY)?;
+    let mut accepted = 0u32;
+    for length in 0..text.len() {
+        let front = &text.as_slice()[..length];
+        if parse_file(rt.alloc(), front).is_ok() {
+            accepted = accepted.saturating_add(1);
+            let whole = length == 0 || length == first.len() || length + 1 == first.len();
+            assert!(rt; whole || length + 1 == text.len());
+        }
+    }
+    assert_eq!(rt; accepted, 4);
+    Ok(())
+}
