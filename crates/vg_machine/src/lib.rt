@@ -6,8 +6,9 @@
 
 mod inputs;
 pub mod machine;
-mod scalar;
+mod memory;
 mod steps;
+mod vector;
 
 pub use machine::Machine;
 pub use vg_bits::Outcome;

@@ -1,23 +1,24 @@
 -- Whole programs: what is read is valid and is spelled so, and the text of each valid program is read.
-use Rattle.std.proofs.Common.{◌≡◌, ℕ, ◌+◌, ◌^◌, ◌<◌, ◌≤◌, List, [], ◌∷◌, ◌++◌, length, true, ◌==◌, Result, Ok, Err, refl, sym, ap, subst, ◌∙◌, inl, inr, append_assoc, length-append, sum_by, arith}
+use Rattle.std.proofs.Common.{◌≡◌, ℕ, ◌^◌, ◌<◌, ◌≤◌, List, [], ◌∷◌, ◌++◌, length, true, ◌==◌, Result, Ok, Err, refl, sym, ap, subst, ◌∙◌, inl, inr, append_assoc, length-append, sum_by, arith}
 use Rattle.std.specs.Prelude.{codes, nat_lt, nat_le, IfOk}
 use Rattle.std.specs.Fmt.{decimal}
 use Rattle.std.proofs.lemmas.Bool.{cases_Bool, eqb-true, eq-eqb, ltb-true, ltb-false, lt-ltb, le-ltb, leb-true, le-leb}
 use Rattle.std.proofs.lemmas.List.{append-nil, nil_from_length}
-use Rattle.std.proofs.lemmas.List.Sums.{sum_by-cons}
 use Rattle.vg_text.specs.Place.{first_place}
+use Rattle.vg_pseudo.specs.declared.header.Header.{Header}
+use Rattle.vg_program.specs.declared.counts.Counts.{Counts}
 use Rattle.vg_program.specs.declared.param.Param.{Param}
 use Rattle.vg_program.specs.declared.line.Line.{Line}
-use Rattle.vg_program.specs.declared.line.Line.TheVariants.{Load, Store, Two, Shift, Resize, Compare, Select}
 use Rattle.vg_program.specs.declared.program.Program.{Program}
 use Rattle.vg_program.specs.declared.fault.Fault.{Fault}
 use Rattle.vg_program.specs.declared.fault.Fault.TheVariants.{CostWrong, Range}
 use Rattle.vg_program.specs.declared.stop.Stop.{Stop}
 use Rattle.vg_program.specs.declared.program_fault.ProgramFault.{ProgramFault}
 use Rattle.vg_program.specs.declared.program_fault.ProgramFault.TheVariants as refused
-use Rattle.vg_program.specs.Text.{line_end, given, lines_text, text_of}
+use Rattle.vg_program.specs.Before.{nothing_before, counted}
+use Rattle.vg_program.specs.Text.{line_end, defined, no_counts, lines_text, text_of}
 use Rattle.vg_program.specs.Cost.{line_cost}
-use Rattle.vg_program.specs.Valid.{AreLines, IsValid}
+use Rattle.vg_program.specs.Valid.{AreLines, KeepsRules, IsValid}
 use Rattle.vg_program.specs.Tokens.{signs_at, is_word, word_at}
 use Rattle.vg_program.specs.Grammar.{cost_from, scalar_from, scalar_at, cost_at, last_line_at, program_at}
 use Rattle.vg_program.specs.Faults.{located, read, Returns}
@@ -60,14 +61,14 @@ scalar_from_is n s e = elim (cases_Bool (nat_le n 16384)) [
     bad : Result ℕ Fault
     bad = Err Range
 
-cost_takes : (counted : ℕ) (text : List ℕ) → Holds (cost_at counted text) (λ x. (text ≡ codes " " ++ (decimal x.0 ++ x.1)) × (x.0 ≡ counted))
+cost_takes : (counted : ℕ) (text : List ℕ) → Holds (cost_at counted text) (λ x. (text ≡ codes " " ++ (decimal x.0 ++ x.1)) × (x.0 ≡ counted) × (x.0 < 2 ^ 32))
 unfolding cost_at
 cost_takes counted text =
     and_then _ _ _ _ (signs_takes (codes " ") text) (λ gap a.
     and_then _ _ _ _ (number_takes gap) (λ n t.
     and_then _ _ (Stated counted n.0) _ (judged_ok _ _ _ (cost_from_is counted n.0)) (λ cost s.
     let spelled : text ≡ codes " " ++ (decimal cost ++ n.1) = a ∙ ap (λ (b : List ℕ). codes " " ++ b) (t (omega (arith, s.same, s.small)) ∙ ap (λ (k : ℕ). decimal k ++ n.1) s.same) in
-    now _ _ (spelled, s.counts))))
+    now _ _ (spelled, s.counts, s.small))))
 
 scalar_takes : (text : List ℕ) → Holds (scalar_at text) (λ x. (text ≡ codes " scalar " ++ (decimal x.0 ++ x.1)) × (x.0 ≤ 16384))
 unfolding scalar_at
@@ -90,7 +91,7 @@ last_text-joined cost scalar rest = joined (decimal cost) (decimal scalar) rest
     joined : (x y rest : List ℕ) → ((((codes "end cost " ++ x) ++ codes " scalar ") ++ y) ++ line_end) ++ rest ≡ codes "end cost " ++ (x ++ (codes " scalar " ++ (y ++ (line_end ++ rest))))
     joined x y rest = simp append_assoc
 
-last_takes : (counted : ℕ) (text : List ℕ) → Holds (last_line_at counted text) (λ x. (text ≡ last_text x.0 x.1 ++ x.2) × (x.0 ≡ counted) × (x.1 ≤ 16384))
+last_takes : (counted : ℕ) (text : List ℕ) → Holds (last_line_at counted text) (λ x. (text ≡ last_text x.0 x.1 ++ x.2) × (x.0 ≡ counted) × (x.1 ≤ 16384) × (x.0 < 2 ^ 32))
 unfolding last_line_at
 last_takes counted text =
     and_then _ _ _ _ (word_takes (codes "end") text) (λ end a.
@@ -101,7 +102,7 @@ last_takes counted text =
     and_then _ _ _ _ (signs_takes line_end scalar.1) (λ rest e.
     let numbers : cost.1 ≡ codes " scalar " ++ (decimal scalar.0 ++ (line_end ++ rest)) = s.0 ∙ ap (λ (r : List ℕ). codes " scalar " ++ (decimal scalar.0 ++ r)) e in
     let spelled : text ≡ last_text cost.0 scalar.0 ++ rest = a ∙ ap (λ (r : List ℕ). codes "end" ++ r) (b ∙ ap (λ (r : List ℕ). codes " " ++ r) (c ∙ ap (λ (r : List ℕ). codes "cost" ++ r) (d.0 ∙ ap (λ (r : List ℕ). codes " " ++ (decimal cost.0 ++ r)) numbers))) ∙ sym (last_text-joined cost.0 scalar.0 rest) in
-    now _ _ (spelled, d.1, s.1)))))))
+    now _ _ (spelled, d.1, s.1, d.2)))))))
 
 last_again : (cost scalar : ℕ) (rest : List ℕ) → cost < 2 ^ 32 → scalar ≤ 16384 → last_line_at cost (last_text cost scalar ++ rest) ≡ Ok (cost, scalar, rest)
 unfolding last_line_at cost_at scalar_at word_at is_word signs_at
@@ -110,60 +111,49 @@ last_again cost scalar rest small few =
 
 -- ---- the whole
 
-program_takes : (text : List ℕ) → length text ≤ 4194304 → Holds (program_at text) (λ p. IsValid p × (text_of p ≡ text))
+program_takes : (headers : List Header) (text : List ℕ) → length text ≤ 4194304 → Holds (program_at headers text) (λ p. IsValid headers p × (text_of p ≡ text))
 unfolding program_at text_of
-program_takes text small =
+program_takes headers text small =
     and_then _ _ _ _ (first_line_takes text) (λ first f.
-    and_then _ _ _ _ (lines_take 4194304 first.1 [] [] first.2 (omega arith)) (λ lines l.
+    let b = nothing_before headers first.1 in
+    and_then _ _ _ _ (lines_take 4194304 b [] first.2 (f.2.few, omega arith, omega arith)) (λ lines l.
     and_then _ _ _ _ (last_takes (sum_by line_cost lines.0) lines.1) (λ last e.
     if_ok _ _ _ _ (λ ended.
     let p : Program = record { name = first.0; params = first.1; lines = lines.0; cost = last.0; scalar = last.1 } in
     let nothing : last.2 ≡ [] = nil_from_length last.2 (eqb-true (length last.2) 0 ended) in
     let front = first_text first.0 first.1 in
-    let middle = lines_text first.1 0 lines.0 in
+    let middle = lines_text first.1 no_counts lines.0 in
     let end = last_text last.0 last.1 in
-    let behind : first.2 ≡ middle ++ lines.1 = l.spelled ∙ ap (λ (ls : List Line). lines_text first.1 0 ls ++ lines.1) (sym l.all) in
+    let behind : first.2 ≡ middle ++ lines.1 = l.spelled ∙ ap (λ (ls : List Line). lines_text first.1 no_counts ls ++ lines.1) (sym l.all) in
     let ending : lines.1 ≡ end = e.0 ∙ ap (λ (r : List ℕ). end ++ r) nothing ∙ append-nil end in
     let whole : text ≡ text_of p = f.0 ∙ ap (λ (r : List ℕ). front ++ r) (behind ∙ ap (λ (r : List ℕ). middle ++ r) ending) ∙ sym (append_assoc front middle end) in
-    let lined = subst (λ (ls : List Line). AreLines first.1 [] ls) (sym l.all) l.valid in
-    let valid : IsValid p = record { name = f.1; params = f.2; lines = lined; cost = e.1; scalar = e.2; size = subst (λ (t : List ℕ). length t ≤ 4194304) whole small } in
+    let lined = subst (λ (ls : List Line). AreLines b ls) (sym l.all) l.valid in
+    let rules : KeepsRules headers p = record { name = f.1; params = f.2; lines = lined; cost = e.1; small = e.3; scalar = e.2 } in
+    let valid : IsValid headers p = record { rules = rules; size = subst (λ (t : List ℕ). length t ≤ 4194304) whole small } in
     (valid, sym whole)))))
 
-lines_long : (params : List Param) (k : ℕ) (ls : List Line) → length ls ≤ length (lines_text params k ls)
+lines_long : (params : List Param) (c : Counts) (ls : List Line) → length ls ≤ length (lines_text params c ls)
 unfolding lines_text
-lines_long params k [] = omega arith
-lines_long params k (l ∷ ls) = simp length-append (omega (arith, lines_long params (k + length (given l)) ls))
-
-cost_few : (ls : List Line) → sum_by line_cost ls ≤ length ls
-cost_few [] = omega arith
-cost_few (l ∷ ls) = rw (sum_by-cons line_cost l ls) (omega (arith, one l, cost_few ls))
-  where
-    one : (l : Line) → line_cost l ≤ 1
-    one (Load w a) = omega arith
-    one (Store a v) = omega arith
-    one (Two op w x y) = omega arith
-    one (Shift op w v n) = omega arith
-    one (Resize op w from v) = omega arith
-    one (Compare op w x y) = omega arith
-    one (Select w c x y) = omega arith
+lines_long params c [] = omega arith
+lines_long params c (l ∷ ls) = simp length-append (omega (arith, lines_long params (counted c (defined l)) ls))
 
 last_ends : (cost scalar : ℕ) (rest : List ℕ) → is_word (codes "end") (last_text cost scalar ++ rest) ≡ true
 unfolding is_word
 last_ends cost scalar rest = refl
 
-program_again : (p : Program) → IsValid p → program_at (text_of p) ≡ Ok p
+program_again : (headers : List Header) (p : Program) → IsValid headers p → program_at headers (text_of p) ≡ Ok p
 unfolding program_at text_of
-program_again p valid =
+program_again headers p v =
+    let valid = v.rules in
     let front = first_text p.name p.params in
-    let middle = lines_text p.params 0 p.lines in
+    let middle = lines_text p.params no_counts p.lines in
     let end = last_text p.cost p.scalar in
     let joined : text_of p ≡ front ++ (middle ++ (end ++ [])) = append_assoc front middle end ∙ ap (λ (r : List ℕ). front ++ (middle ++ r)) (sym (append-nil end)) in
-    let short : length p.lines ≤ 4194304 = omega (arith, lines_long p.params 0 p.lines, valid.size, ap length joined, length-append front (middle ++ (end ++ [])), length-append middle (end ++ [])) in
-    let small : p.cost < 2 ^ 32 = omega (arith, valid.cost, cost_few p.lines, short) in
+    let short : length p.lines ≤ 4194304 = omega (arith, lines_long p.params no_counts p.lines, v.size, ap length joined, length-append front (middle ++ (end ++ [])), length-append middle (end ++ [])) in
     let first = first_line_again p.name p.params (middle ++ (end ++ [])) valid.name valid.params in
-    let lines = lines_again 4194304 p.params [] [] p.lines (end ++ []) valid.params (omega arith) short valid.lines (last_ends p.cost p.scalar []) in
-    let last : last_line_at (sum_by line_cost p.lines) (end ++ []) ≡ Ok (p.cost, p.scalar, []) = ap (λ (k : ℕ). last_line_at k (end ++ [])) (sym valid.cost) ∙ last_again p.cost p.scalar [] small valid.scalar in
-    ap program_at joined ∙ rw (first, lines, last) refl
+    let lines = lines_again 4194304 (nothing_before headers p.params) [] p.lines (end ++ []) valid.params (valid.params.few, omega arith, omega arith) short valid.lines (last_ends p.cost p.scalar []) in
+    let last : last_line_at (sum_by line_cost p.lines) (end ++ []) ≡ Ok (p.cost, p.scalar, []) = ap (λ (k : ℕ). last_line_at k (end ++ [])) (sym valid.cost) ∙ last_again p.cost p.scalar [] valid.small valid.scalar in
+    ap (program_at headers) joined ∙ rw (first, lines, last) refl
 
 -- ---- with the limit and the places
 
@@ -171,26 +161,26 @@ located_ok : (text : List ℕ) (r : Result Program Stop) (p : Program) → locat
 located_ok text (Ok q) p e = cc
 located_ok text (Err stop) p e = absurd cc
 
-pub read_sound : (text : List ℕ) (r : Result Program ProgramFault) → Returns r (read text) → IfOk r (λ p. IsValid p × (text_of p ≡ text))
+pub read_sound : (headers : List Header) (text : List ℕ) (r : Result Program ProgramFault) → Returns r (read headers text) → IfOk r (λ p. IsValid headers p × (text_of p ≡ text))
 unfolding read
-read_sound text (Ok p) given = elim (cases_Bool (nat_lt 4194304 (length text))) [
+read_sound headers text (Ok p) given = elim (cases_Bool (nat_lt 4194304 (length text))) [
   | inl large ↦ let is : refusing ≡ Ok p = rw large at given in absurd cc
-  | inr small ↦ (program_takes text (ltb-false 4194304 (length text) small)).holds p (located_ok text (program_at text) p (rw small at given))
+  | inr small ↦ (program_takes headers text (ltb-false 4194304 (length text) small)).holds p (located_ok text (program_at headers text) p (rw small at given))
 ]
   where
     refusing : Result Program ProgramFault
     refusing = Err (refused.TooLarge first_place)
-read_sound text (Err fault) given = tt
+read_sound headers text (Err fault) given = tt
 
-pub read_again : (p : Program) → IsValid p → read (text_of p) ≡ Ok p
+pub read_again : (headers : List Header) (p : Program) → IsValid headers p → read headers (text_of p) ≡ Ok p
 unfolding read
-read_again p valid = rw (le-ltb 4194304 (length (text_of p)) valid.size, program_again p valid) refl
+read_again headers p valid = rw (le-ltb 4194304 (length (text_of p)) valid.size, program_again headers p valid) refl
 
-pub read_complete : (text : List ℕ) (r : Result Program ProgramFault) → Returns r (read text) → (p : Program) → IsValid p → text ≡ text_of p → Returns r (Ok p)
-read_complete text r given p valid same = subst (λ (a : Result Program ProgramFault). Returns r a) (ap read same ∙ read_again p valid) given
+pub read_complete : (headers : List Header) (text : List ℕ) (r : Result Program ProgramFault) → Returns r (read headers text) → (p : Program) → IsValid headers p → text ≡ text_of p → Returns r (Ok p)
+read_complete headers text r given p valid same = subst (λ (a : Result Program ProgramFault). Returns r a) (ap (read headers) same ∙ read_again headers p valid) given
 
-pub one_text : (p q : Program) → IsValid p → IsValid q → text_of p ≡ text_of q → p ≡ q
-one_text p q vp vq same = ok_is p q (sym (read_again p vp) ∙ ap read same ∙ read_again q vq)
+pub one_text : (headers : List Header) (p q : Program) → IsValid headers p → IsValid headers q → text_of p ≡ text_of q → p ≡ q
+one_text headers p q vp vq same = ok_is p q (sym (read_again headers p vp) ∙ ap (read headers) same ∙ read_again headers q vq)
   where
     read_ok : Program → Result Program ProgramFault
     read_ok p = Ok p

@@ -5,6 +5,7 @@
 pub enum Fault {
     Token,
     Shape,
+    UnknownInstruction,
     UnknownRegister,
     WidthMismatch,
     CostWrong { stated: u64, counted: u64 },

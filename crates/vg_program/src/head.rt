@@ -13,4 +13,10 @@ pub enum Head {
     Resize(Resize, Width),
     Compare(Comparison),
     Select(Width),
+    VectorLoad,
+    VectorStore,
+    Constant,
+    Insert,
+    Extract(Width),
+    Call,
 }

@@ -4,22 +4,23 @@ ghost use Rattle.std.specs.Prelude.{◌≡◌};
 ghost use Rattle.std.specs.List.{find};
 ghost use Rattle.std.specs.Str.{bytes_eq};
 ghost use Rattle.vg_program.specs.Tokens.{Gives};
-ghost use Rattle.vg_program.specs.Grammar.{head_text, numbers, head_named, left_type_at, register_left_at, left_at, head_at};
+ghost use Rattle.vg_program.specs.Grammar.{head_text, numbers, head_named, left_type_at, scalar_left_at, vector_left_at, left_at, head_at};
 
+use crate::counts::Counts;
 use crate::fault::Fault;
 use crate::head::Head;
 use crate::left::Left;
 use crate::stop::ReadError;
 use crate::tokens::{
-    begins, behind_word, is_word, met, register_at, signs_at, type_at, unfit, word_of,
+    begins, behind_word, is_word, met, register_at, signs_at, skip, type_at, unfit, word_of,
 };
 use crate::words::head_text;
 use vg_base::width::Width;
 use vg_scalar::{Comparison, Resize, Shift, TwoOp};
 use vg_text::byte::is_text;
 
-/// The lines that give a register of this width.
-fn numbers(width: Width) -> [Head; 18]
+/// The lines that define a scalar of this width.
+fn numbers(width: Width) -> [Head; 19]
     ensures { result ≡ numbers width }
 {
     [
@@ -41,6 +42,7 @@ fn numbers(width: Width) -> [Head; 18]
         Head::Resize(Resize::Zext, width),
         Head::Resize(Resize::Trunc, width),
         Head::Select(width),
+        Head::Extract(width),
     ]
 }
 
@@ -59,7 +61,7 @@ fn head_named(left: Left, word: &[u8]) -> Option<Head>
     ensures { result ≡ head_named left word.now }
 {
     match left {
-        Left::Nothing => named(&[Head::Store], word),
+        Left::Nothing => named(&[Head::Store, Head::VectorStore], word),
         Left::Bit => named(
             &[
                 Head::Compare(Comparison::Eq),
@@ -69,6 +71,10 @@ fn head_named(left: Left, word: &[u8]) -> Option<Head>
             word,
         ),
         Left::Number(width) => named(&numbers(width), word),
+        Left::Vector => named(
+            &[Head::VectorLoad, Head::Constant, Head::Insert, Head::Call],
+            word,
+        ),
     }
 }
 
@@ -83,12 +89,12 @@ fn left_type_at(text: &[u8]) -> Result<(Left, &[u8]), ReadError>
     Ok((Left::Number(width), rest))
 }
 
-#[tactic(auto, unfolding(crate::specs::Grammar::register_left_at))]
-fn register_left_at(given: usize, text: &[u8]) -> Result<(Left, &[u8]), ReadError>
-    ensures { Gives (λ x. (x.0, x.1.now)) result (register_left_at given text.now) }
+#[tactic(auto, unfolding(crate::specs::Grammar::scalar_left_at))]
+fn scalar_left_at(defined: u64, text: &[u8]) -> Result<(Left, &[u8]), ReadError>
+    ensures { Gives (λ x. (x.0, x.1.now)) result (scalar_left_at defined text.now) }
 {
-    let (register, rest) = register_at(text)?;
-    if register != given as u128 {
+    let (register, rest) = register_at(b's', text)?;
+    if register != defined as u128 {
         return Err(ReadError::At(met(Fault::Shape, text)));
     }
     let rest = signs_at(b":", rest)?;
@@ -97,23 +103,37 @@ fn register_left_at(given: usize, text: &[u8]) -> Result<(Left, &[u8]), ReadErro
     Ok((left, rest))
 }
 
-#[tactic(auto, unfolding(crate::specs::Grammar::left_at))]
-fn left_at(given: usize, text: &[u8]) -> Result<(Left, &[u8]), ReadError>
-    ensures { Gives (λ x. (x.0, x.1.now)) result (left_at given text.now) }
+#[tactic(auto, unfolding(crate::specs::Grammar::vector_left_at))]
+fn vector_left_at(defined: u64, text: &[u8]) -> Result<(Left, &[u8]), ReadError>
+    ensures { Gives (λ x. (x.0, x.1.now)) result (vector_left_at defined text.now) }
 {
-    if begins(b'%', text) {
-        register_left_at(given, text)
-    } else {
+    let (register, rest) = register_at(b'v', text)?;
+    if register != defined as u128 {
+        return Err(ReadError::At(met(Fault::Shape, text)));
+    }
+    let rest = signs_at(b" = ", rest)?;
+    Ok((Left::Vector, rest))
+}
+
+#[tactic(auto, unfolding(crate::specs::Grammar::left_at))]
+fn left_at(counts: Counts, text: &[u8]) -> Result<(Left, &[u8]), ReadError>
+    ensures { Gives (λ x. (x.0, x.1.now)) result (left_at counts text.now) }
+{
+    if !begins(b'%', text) {
         Ok((Left::Nothing, text))
+    } else if begins(b'v', skip(text, 1)) {
+        vector_left_at(counts.vectors, text)
+    } else {
+        scalar_left_at(counts.scalars, text)
     }
 }
 
-/// What stands in front of the operands of a line, where so many registers are given before.
+/// What stands in front of the operands of a line, where so many are defined before.
 #[tactic(auto, unfolding(crate::specs::Grammar::head_at))]
-pub(crate) fn head_at(given: usize, text: &[u8]) -> Result<(Head, &[u8]), ReadError>
-    ensures { Gives (λ x. (x.0, x.1.now)) result (head_at given text.now) }
+pub(crate) fn head_at(counts: Counts, text: &[u8]) -> Result<(Head, &[u8]), ReadError>
+    ensures { Gives (λ x. (x.0, x.1.now)) result (head_at counts text.now) }
 {
-    let (left, rest) = left_at(given, text)?;
+    let (left, rest) = left_at(counts, text)?;
     match head_named(left, word_of(rest)) {
         None => Err(ReadError::At(unfit(rest))),
         Some(head) => {

@@ -8,4 +8,5 @@ pub enum Left {
     Nothing,
     Bit,
     Number(Width),
+    Vector,
 }

@@ -5,7 +5,11 @@
 //! `specs/Grammar.antt` says what the first fault of any other text is.
 #![tactic(auto)]
 
+mod before;
+mod call_reading;
 pub mod costs;
+pub mod counts;
+pub mod defined;
 mod fault;
 mod head;
 mod head_reading;
@@ -13,6 +17,7 @@ mod left;
 pub mod line;
 mod line_reading;
 mod named;
+mod naming;
 pub mod operand;
 mod operand_reading;
 pub mod param;
@@ -22,12 +27,18 @@ pub mod parsing;
 pub mod printing;
 pub mod program;
 pub mod program_fault;
+pub mod sizes;
 mod stop;
 mod tokens;
+pub mod traps;
+mod vector_reading;
+pub mod vector_size;
 mod wanted;
 mod words;
 
 pub use costs::cost;
+pub use counts::Counts;
+pub use defined::Defined;
 pub use line::Line;
 pub use operand::Operand;
 pub use param::Param;
@@ -36,3 +47,6 @@ pub use parsing::{MOST_BYTES, one_program, parse_program};
 pub use printing::print_program;
 pub use program::Program;
 pub use program_fault::ProgramFault;
+pub use sizes::short_programs_fit;
+pub use traps::traps_outside;
+pub use vector_size::VectorSize;

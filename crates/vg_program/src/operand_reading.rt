@@ -1,43 +1,20 @@
 //! Places in memory and operands.
 
-ghost use Rattle.std.specs.Prelude.{◌≡◌, ◌≤◌, ◌+◌, length, slice_get, nat_lt, ◌^◌, ◌==◌};
+ghost use Rattle.std.specs.Prelude.{◌≡◌, nat_lt, ◌^◌};
 ghost use Rattle.vg_program.specs.Tokens.{Gives};
 ghost use Rattle.vg_base.specs.Width.{bits_of};
-ghost use Rattle.vg_program.specs.Grammar.{named_in, judged, pointer_of, integer_of, fits, positive_offset, negative_offset, negative_at, positive_at, offset_at, address_at, given_operand_at, literal_at, argument_at, operand_at, width_with, sized_at, pair_at};
+ghost use Rattle.vg_program.specs.Grammar.{judged, pointer_of, integer_of, fits, positive_offset, negative_offset, negative_at, positive_at, offset_at, address_at, given_operand_at, literal_at, argument_at, operand_at, width_with, sized_at, pair_at};
 
+use crate::before::Before;
 use crate::fault::Fault;
 use crate::named::Named;
 use crate::operand::Operand;
-use crate::param::Param;
-use crate::param_kind::ParamKind;
 use crate::stop::ReadError;
 use crate::tokens::{begins, met, name_at, number_at, register_at, signs_at, type_at};
 use crate::wanted::Wanted;
 use vg_base::address::Address;
 use vg_base::width::Width;
-use vg_text::byte::{begins_digit, is_text};
-
-/// What a name stands for among these parameters.
-#[tactic(auto, unfolding(crate::specs::Grammar::named_in))]
-fn named_in(params: &[Param], name: &[u8]) -> Named
-    requires { length params.now ≤ 16 }
-    ensures { result ≡ named_in 0 0 params.now name.now }
-{
-    let mut pointers: u32 = 0;
-    let mut integers: u32 = 0;
-    let mut rest = params;
-    'params: while let [param, behind @ ..] = rest {
-        let found = is_text(param.name.bytes(), name);
-        match param.kind {
-            ParamKind::Pointer if found => return Named::Pointer(pointers),
-            ParamKind::Pointer => pointers += 1,
-            ParamKind::Integer(width) if found => return Named::Integer(integers, width),
-            ParamKind::Integer(_) => integers += 1,
-        }
-        rest = behind;
-    }
-    Named::Nothing
-}
+use vg_text::byte::begins_digit;
 
 fn pointer_of(named: Named) -> Result<u32, Fault>
     ensures { result ≡ pointer_of named }
@@ -137,43 +114,30 @@ fn offset_at(text: &[u8]) -> Result<(i32, &[u8]), ReadError>
 
 #[tactic(auto, unfolding(crate::specs::Grammar::address_at))]
 pub(crate) fn address_at<'a>(
-    params: &[Param],
+    before: &Before,
     text: &'a [u8],
 ) -> Result<(Address, &'a [u8]), ReadError>
-    requires { length params.now ≤ 16 }
-    ensures { Gives (λ x. (x.0, x.1.now)) result (address_at params.now text.now) }
+    ensures { Gives (λ x. (x.0, x.1.now)) result (address_at before.now text.now) }
 {
     let (name, rest) = name_at(text)?;
-    let pointer = judged(text, pointer_of(named_in(params, name)))?;
+    let pointer = judged(text, pointer_of(before.named(name)))?;
     let (offset, rest) = offset_at(rest)?;
     Ok((Address { pointer, offset }, rest))
 }
 
-/// The width of a register, where it is given before.
-fn width_of(widths: &[u32], register: u128) -> Option<u32>
-    ensures { result ≡ slice_get widths.now register }
-{
-    if register < widths.len() as u128 {
-        Some(widths[register as usize])
-    } else {
-        None
-    }
-}
-
 #[tactic(auto, unfolding(crate::specs::Grammar::given_operand_at))]
 fn given_operand_at<'a>(
-    widths: &[u32],
+    before: &Before,
     wanted: Wanted,
     text: &'a [u8],
 ) -> Result<(Operand, u32, &'a [u8]), ReadError>
-    requires { length widths.now ≤ 4194304 }
     ensures { Gives (λ x. ((x.0, x.1), x.2.now)) result
-        (given_operand_at widths.now wanted text.now) }
+        (given_operand_at before.now wanted text.now) }
 {
-    let (register, rest) = register_at(text)?;
-    match width_of(widths, register) {
+    let (register, rest) = register_at(b's', text)?;
+    match before.scalar(register) {
         None => Err(ReadError::At(met(Fault::UnknownRegister, text))),
-        Some(bits) if fits(wanted, bits) => Ok((Operand::Register(register as u32), bits, rest)),
+        Some((number, bits)) if fits(wanted, bits) => Ok((Operand::Register(number), bits, rest)),
         Some(_) => Err(ReadError::At(met(Fault::WidthMismatch, text))),
     }
 }
@@ -214,15 +178,14 @@ fn literal_at(wanted: Wanted, text: &[u8]) -> Result<(Operand, u32, &[u8]), Read
 
 #[tactic(auto, unfolding(crate::specs::Grammar::argument_at))]
 fn argument_at<'a>(
-    params: &[Param],
+    before: &Before,
     wanted: Wanted,
     text: &'a [u8],
 ) -> Result<(Operand, u32, &'a [u8]), ReadError>
-    requires { length params.now ≤ 16 }
-    ensures { Gives (λ x. ((x.0, x.1), x.2.now)) result (argument_at params.now wanted text.now) }
+    ensures { Gives (λ x. ((x.0, x.1), x.2.now)) result (argument_at before.now wanted text.now) }
 {
     let (name, rest) = name_at(text)?;
-    let (number, width) = judged(text, integer_of(named_in(params, name)))?;
+    let (number, width) = judged(text, integer_of(before.named(name)))?;
     if !fits(wanted, width.bits()) {
         return Err(ReadError::At(met(Fault::WidthMismatch, text)));
     }
@@ -232,22 +195,19 @@ fn argument_at<'a>(
 /// An operand with its width in bits.
 #[tactic(auto, unfolding(crate::specs::Grammar::operand_at))]
 pub(crate) fn operand_at<'a>(
-    params: &[Param],
-    widths: &[u32],
+    before: &Before,
     wanted: Wanted,
     text: &'a [u8],
 ) -> Result<(Operand, u32, &'a [u8]), ReadError>
-    requires params { length params.now ≤ 16 }
-    requires widths { length widths.now ≤ 4194304 }
     ensures { Gives (λ x. ((x.0, x.1), x.2.now)) result
-        (operand_at params.now widths.now wanted text.now) }
+        (operand_at before.now wanted text.now) }
 {
     if begins(b'%', text) {
-        given_operand_at(widths, wanted, text)
+        given_operand_at(before, wanted, text)
     } else if begins_digit(text) {
         literal_at(wanted, text)
     } else {
-        argument_at(params, wanted, text)
+        argument_at(before, wanted, text)
     }
 }
 
@@ -266,17 +226,14 @@ fn width_with(bits: u32) -> Option<Width>
 /// An operand of 8, 16, 32 or 64 bits with its width.
 #[tactic(auto, unfolding(crate::specs::Grammar::sized_at))]
 pub(crate) fn sized_at<'a>(
-    params: &[Param],
-    widths: &[u32],
+    before: &Before,
     wanted: Wanted,
     text: &'a [u8],
 ) -> Result<(Operand, Width, &'a [u8]), ReadError>
-    requires params { length params.now ≤ 16 }
-    requires widths { length widths.now ≤ 4194304 }
     ensures { Gives (λ x. ((x.0, x.1), x.2.now)) result
-        (sized_at params.now widths.now wanted text.now) }
+        (sized_at before.now wanted text.now) }
 {
-    let (operand, bits, rest) = operand_at(params, widths, wanted, text)?;
+    let (operand, bits, rest) = operand_at(before, wanted, text)?;
     match width_with(bits) {
         None => Err(ReadError::At(met(Fault::WidthMismatch, text))),
         Some(width) => Ok((operand, width, rest)),
@@ -286,18 +243,15 @@ pub(crate) fn sized_at<'a>(
 /// Two operands of one width.
 #[tactic(auto, unfolding(crate::specs::Grammar::pair_at))]
 pub(crate) fn pair_at<'a>(
-    params: &[Param],
-    widths: &[u32],
+    before: &Before,
     width: Width,
     text: &'a [u8],
 ) -> Result<(Operand, Operand, &'a [u8]), ReadError>
-    requires params { length params.now ≤ 16 }
-    requires widths { length widths.now ≤ 4194304 }
     ensures { Gives (λ x. ((x.0, x.1), x.2.now)) result
-        (pair_at params.now widths.now width text.now) }
+        (pair_at before.now width text.now) }
 {
-    let (first, _, rest) = operand_at(params, widths, Wanted::Exactly(width), text)?;
+    let (first, _, rest) = operand_at(before, Wanted::Exactly(width), text)?;
     let rest = signs_at(b" ", rest)?;
-    let (second, _, rest) = operand_at(params, widths, Wanted::Exactly(width), rest)?;
+    let (second, _, rest) = operand_at(before, Wanted::Exactly(width), rest)?;
     Ok((first, second, rest))
 }

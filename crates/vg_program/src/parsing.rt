@@ -1,6 +1,7 @@
 //! The reading of a program.
 
-ghost use Rattle.std.specs.Prelude.{◌≡◌, ◌≤◌, ◌+◌, ◌^◌, length, sum_by, IfOk, Ok};
+ghost use Rattle.std.specs.Prelude.{◌≡◌, ◌≤◌, ◌+◌, ◌^◌, length, sum_by, List, IfOk, Ok};
+ghost use Rattle.vg_pseudo.specs.declared.header.Header.{Header};
 ghost use Rattle.vg_text.specs.Place.{first_place, place_after};
 ghost use Rattle.vg_program.specs.Cost.{line_cost};
 ghost use Rattle.vg_program.specs.declared.program.Program.{Program};
@@ -10,7 +11,7 @@ ghost use Rattle.vg_program.specs.Tokens.{Gives};
 ghost use Rattle.vg_program.specs.Grammar.{cost_from, scalar_from, scalar_at, cost_at, last_line_at, program_at};
 ghost use Rattle.vg_program.specs.Faults.{place_in, read, Returns};
 
-use crate::costs::lines_cost;
+use crate::costs::cost_of_few;
 use crate::fault::Fault;
 use crate::line_reading::lines_at;
 use crate::operand_reading::judged;
@@ -21,6 +22,7 @@ use crate::stop::{ReadError, Stop};
 use crate::tokens::{met, number_at, signs_at, unfit, word_at};
 use std::alloc::Global;
 use vg_base::items::Items;
+use vg_pseudo::Header;
 use vg_text::place::{Place, end_place, place_after};
 
 /// The most bytes of the text of a program: 4 MiB.
@@ -87,12 +89,12 @@ fn last_line_at(counted: u64, text: &[u8]) -> Result<(u32, u32, &[u8]), ReadErro
 }
 
 #[tactic(auto, unfolding(crate::specs::Grammar::program_at))]
-fn program_at(alloc: Global, text: &[u8]) -> Result<Program, ReadError>
-    ensures { Gives (λ p. p) result (program_at text.now) }
+fn program_at(alloc: Global, headers: &[Header], text: &[u8]) -> Result<Program, ReadError>
+    ensures { Gives (λ p. p) result (program_at headers.now text.now) }
 {
     let (name, params, rest) = first_line_at(alloc, text)?;
-    let (lines, rest) = lines_at(alloc, MOST_BYTES, &params, rest)?;
-    let (cost, scalar, rest) = last_line_at(lines_cost(&lines), rest)?;
+    let (lines, rest) = lines_at(alloc, MOST_BYTES, &params, headers, rest)?;
+    let (cost, scalar, rest) = last_line_at(cost_of_few(&lines), rest)?;
     if !rest.is_empty() {
         return Err(ReadError::At(unfit(rest)));
     }
@@ -120,15 +122,15 @@ fn place_in(text: &[u8], n: usize) -> Place
 
 /// The reading alone, without its laws.
 #[tactic(auto, unfolding(crate::specs::Faults::read))]
-fn read(alloc: Global, text: &[u8]) -> Result<Program, ProgramFault>
-    ensures { Returns result (read text.now) }
+fn read(alloc: Global, text: &[u8], headers: &[Header]) -> Result<Program, ProgramFault>
+    ensures { Returns result (read headers.now text.now) }
 {
     if text.len() > MOST_BYTES {
         return Err(ProgramFault::TooLarge {
             place: Place { line: 1, column: 1 },
         });
     }
-    match program_at(alloc, text) {
+    match program_at(alloc, headers, text) {
         Ok(program) => Ok(program),
         Err(ReadError::Memory(error)) => Err(ProgramFault::Memory(error)),
         Err(ReadError::At(stop)) => {
@@ -138,21 +140,27 @@ fn read(alloc: Global, text: &[u8]) -> Result<Program, ProgramFault>
     }
 }
 
-/// Reads the text of a program of scalar lines.
+/// Reads the text of a program that may call the instructions of these headers.
 ///
 /// An error is the first fault of the text, as `ProgramFault` tells, or want of memory.
-pub fn parse_program(alloc: Global, text: &[u8]) -> Result<Program, ProgramFault>
+pub fn parse_program(
+    alloc: Global,
+    text: &[u8],
+    headers: &[Header],
+) -> Result<Program, ProgramFault>
     // The result is the one that the definition names, unless memory ran out.
-    ensures exact { Returns result (read text.now) }
+    ensures exact { Returns result (read headers.now text.now) }
     // What is read is valid, and the text is its text.
-    ensures sound { IfOk result (λ p. IsValid p × (text_of p ≡ text.now)) }
+    ensures sound { IfOk result (λ p. IsValid headers.now p × (text_of p ≡ text.now)) }
     // The text of a valid program is read as this program, unless memory ran out.
-    ensures complete { (p : Program) → IsValid p → text.now ≡ text_of p → Returns result (Ok p) }
+    ensures complete { (p : Program) → IsValid headers.now p → text.now ≡ text_of p →
+        Returns result (Ok p) }
 {
-    read(alloc, text)
+    read(alloc, text, headers)
 }
 
-/// A law: no two valid programs have one text.
+/// A law: no two programs that are valid for one list of headers have one text.
 pub fn one_program()
-    ensures { (p q : Program) → IsValid p → IsValid q → text_of p ≡ text_of q → p ≡ q }
+    ensures { (headers : List Header) (p q : Program) → IsValid headers p → IsValid headers q →
+        text_of p ≡ text_of q → p ≡ q }
 {}

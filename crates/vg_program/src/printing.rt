@@ -1,16 +1,20 @@
 //! The text of a program.
 
-ghost use Rattle.std.specs.Prelude.{◌≡◌, ◌++◌, ◌∷◌, List, [], IfOk, OnOk, length, slice_get};
+ghost use Rattle.std.specs.Prelude.{◌≡◌, ◌+◌, ◌^◌, ◌<◌, ◌≤◌, ◌++◌, IfOk, OnOk, slice_get, codes};
 ghost use Rattle.std.specs.Fmt.{decimal, signed_decimal};
 ghost use Rattle.vg_program.specs.Params.{pointers, integers, name_of};
-ghost use Rattle.vg_program.specs.Text.{type_text, kind_text, param_text, params_text, offset_text, address_text, register_text, bits_text, operand_text, pair_text, operands_text, given, left_text, line_text, lines_text, first_line, last_line, text_of};
+ghost use Rattle.vg_program.specs.Before.{counted};
+ghost use Rattle.vg_program.specs.Vectors.{bytes_of, hex_digit, hex_text};
+ghost use Rattle.vg_program.specs.Text.{type_text, kind_text, param_text, params_text, offset_text, address_text, scalar_text, vector_text, bits_text, operand_text, pair_text, registers_text, imm_text, operands_text, no_counts, left_text, line_text, lines_text, first_line, last_line, text_of};
 
-use crate::line::Line;
-use crate::line_reading::given;
+use crate::counts::Counts;
+use crate::defined::Defined;
+use crate::line::{Line, defined};
 use crate::operand::Operand;
 use crate::param::Param;
 use crate::param_kind::ParamKind;
 use crate::program::Program;
+use crate::vector_size::VectorSize;
 use crate::words::word_text;
 use std::alloc::{AllocError, Global};
 use vg_base::address::Address;
@@ -116,11 +120,18 @@ fn put_address(
     Ok(())
 }
 
-fn put_register(alloc: Global, to: &mut Vec<u8>, register: u64) -> Result<(), AllocError>
-    ensures { OnOk result (to.new.items ≡ to.old.items ++ register_text register) }
+fn put_scalar(alloc: Global, to: &mut Vec<u8>, number: u64) -> Result<(), AllocError>
+    ensures { OnOk result (to.new.items ≡ to.old.items ++ scalar_text number) }
 {
     to.extend_from_slice(b"%s")?;
-    put_number(alloc, to, register)
+    put_number(alloc, to, number)
+}
+
+fn put_vector(alloc: Global, to: &mut Vec<u8>, number: u64) -> Result<(), AllocError>
+    ensures { OnOk result (to.new.items ≡ to.old.items ++ vector_text number) }
+{
+    to.extend_from_slice(b"%v")?;
+    put_number(alloc, to, number)
 }
 
 fn put_operand(
@@ -132,7 +143,7 @@ fn put_operand(
     ensures { OnOk result (to.new.items ≡ to.old.items ++ operand_text params.now operand) }
 {
     match operand {
-        Operand::Register(register) => put_register(alloc, to, register as u64)?,
+        Operand::Register(register) => put_scalar(alloc, to, register as u64)?,
         Operand::Argument(number) => to.extend_from_slice(integer_name(params, number))?,
         Operand::Literal { width, number } => {
             put_number(alloc, to, number)?;
@@ -156,55 +167,170 @@ fn put_pair(
     put_operand(alloc, to, params, right)
 }
 
+/// A hexadecimal digit in lower case.
+fn hex_digit(number: u8) -> u8
+    requires { number < 16 }
+    ensures { result ≡ hex_digit number }
+{
+    if number < 10 {
+        number + 48
+    } else {
+        number + 87
+    }
+}
+
+#[tactic(auto, unfolding(crate::specs::Vectors::hex_text))]
+fn put_bytes(to: &mut Vec<u8>, bytes: &[u8]) -> Result<(), AllocError>
+    ensures { OnOk result (to.new.items ≡ to.old.items ++ hex_text bytes.now) }
+{
+    let mut rest = bytes;
+    'bytes: while let [byte, behind @ ..] = rest {
+        to.push(hex_digit(*byte / 16))?;
+        to.push(hex_digit(*byte % 16))?;
+        rest = behind;
+    }
+    Ok(())
+}
+
+#[tactic(auto, unfolding(crate::specs::Text::registers_text))]
+fn put_registers(alloc: Global, to: &mut Vec<u8>, registers: &[u32]) -> Result<(), AllocError>
+    ensures { OnOk result (to.new.items ≡ to.old.items ++ registers_text registers.now) }
+{
+    let mut rest = registers;
+    'registers: while let [register, behind @ ..] = rest {
+        to.extend_from_slice(b" ")?;
+        put_vector(alloc, to, *register as u64)?;
+        rest = behind;
+    }
+    Ok(())
+}
+
+/// The number of bytes of an access, and a space.
+fn put_sized(alloc: Global, to: &mut Vec<u8>, size: VectorSize) -> Result<(), AllocError>
+    ensures { OnOk result (to.new.items ≡ to.old.items ++ (decimal (bytes_of size) ++ codes " ")) }
+{
+    put_number(alloc, to, size.bytes() as u64)?;
+    to.extend_from_slice(b" ")?;
+    Ok(())
+}
+
+/// A register and the number of a lane.
+fn put_lane(alloc: Global, to: &mut Vec<u8>, register: u32, lane: u32) -> Result<(), AllocError>
+    ensures { OnOk result (to.new.items ≡ to.old.items ++
+        (vector_text register ++ codes " " ++ decimal lane)) }
+{
+    put_vector(alloc, to, register as u64)?;
+    to.extend_from_slice(b" ")?;
+    put_number(alloc, to, lane as u64)
+}
+
+fn put_imm(alloc: Global, to: &mut Vec<u8>, imm: Option<u8>) -> Result<(), AllocError>
+    ensures { OnOk result (to.new.items ≡ to.old.items ++ imm_text imm) }
+{
+    if let Some(number) = imm {
+        to.extend_from_slice(b" imm ")?;
+        put_number(alloc, to, number as u64)?;
+    }
+    Ok(())
+}
+
 fn put_operands(
     alloc: Global,
     to: &mut Vec<u8>,
     params: &[Param],
-    line: Line,
+    line: &Line,
 ) -> Result<(), AllocError>
-    ensures { OnOk result (to.new.items ≡ to.old.items ++ operands_text params.now line) }
+    ensures { OnOk result (to.new.items ≡ to.old.items ++ operands_text params.now line.now) }
 {
     match line {
-        Line::Load { address, .. } => put_address(alloc, to, params, address)?,
-        Line::Store { address, value } => {
-            put_address(alloc, to, params, address)?;
+        Line::Load { address, .. } => put_address(alloc, to, params, *address)?,
+        Line::Store { address, value, .. } => {
+            put_address(alloc, to, params, *address)?;
             to.extend_from_slice(b" ")?;
-            put_operand(alloc, to, params, value)?;
+            put_operand(alloc, to, params, *value)?;
         }
-        Line::Two { left, right, .. } => put_pair(alloc, to, params, left, right)?,
+        Line::Two { left, right, .. } => put_pair(alloc, to, params, *left, *right)?,
         Line::Shift {
             operand,
             amount,
             ..
         } => {
-            put_operand(alloc, to, params, operand)?;
+            put_operand(alloc, to, params, *operand)?;
             to.extend_from_slice(b" ")?;
-            put_number(alloc, to, amount as u64)?;
+            put_number(alloc, to, *amount as u64)?;
         }
-        Line::Resize { operand, .. } => put_operand(alloc, to, params, operand)?,
-        Line::Compare { left, right, .. } => put_pair(alloc, to, params, left, right)?,
+        Line::Resize { operand, .. } => put_operand(alloc, to, params, *operand)?,
+        Line::Compare { left, right, .. } => put_pair(alloc, to, params, *left, *right)?,
         Line::Select {
             condition,
             first,
             second,
             ..
         } => {
-            put_operand(alloc, to, params, condition)?;
+            put_operand(alloc, to, params, *condition)?;
             to.extend_from_slice(b" ")?;
-            put_pair(alloc, to, params, first, second)?;
+            put_pair(alloc, to, params, *first, *second)?;
+        }
+        Line::VectorLoad { size, address } => {
+            put_sized(alloc, to, *size)?;
+            put_address(alloc, to, params, *address)?;
+        }
+        Line::VectorStore {
+            size,
+            address,
+            register,
+        } => {
+            put_sized(alloc, to, *size)?;
+            put_address(alloc, to, params, *address)?;
+            to.extend_from_slice(b" ")?;
+            put_vector(alloc, to, *register as u64)?;
+        }
+        Line::Constant { bytes } => put_bytes(to, bytes.as_slice())?,
+        Line::Insert {
+            register,
+            lane,
+            value,
+            ..
+        } => {
+            put_lane(alloc, to, *register, *lane)?;
+            to.extend_from_slice(b" ")?;
+            put_operand(alloc, to, params, *value)?;
+        }
+        Line::Extract { register, lane, .. } => put_lane(alloc, to, *register, *lane)?,
+        Line::Call {
+            name,
+            registers,
+            imm,
+            ..
+        } => {
+            to.extend_from_slice(name.bytes())?;
+            put_registers(alloc, to, registers.as_slice())?;
+            put_imm(alloc, to, *imm)?;
         }
     }
     Ok(())
 }
 
-fn put_left(alloc: Global, to: &mut Vec<u8>, register: u64, line: Line) -> Result<(), AllocError>
-    ensures { OnOk result (to.new.items ≡ to.old.items ++ left_text register (given line)) }
+fn put_left(
+    alloc: Global,
+    to: &mut Vec<u8>,
+    counts: Counts,
+    defined: Defined,
+) -> Result<(), AllocError>
+    ensures { OnOk result (to.new.items ≡ to.old.items ++ left_text counts defined) }
 {
-    if let Some(bits) = given(line) {
-        put_register(alloc, to, register)?;
-        to.extend_from_slice(b":")?;
-        put_bits(alloc, to, bits)?;
-        to.extend_from_slice(b" = ")?;
+    match defined {
+        Defined::Nothing => {}
+        Defined::Scalar(bits) => {
+            put_scalar(alloc, to, counts.scalars)?;
+            to.extend_from_slice(b":")?;
+            put_bits(alloc, to, bits)?;
+            to.extend_from_slice(b" = ")?;
+        }
+        Defined::Vector(_) => {
+            put_vector(alloc, to, counts.vectors)?;
+            to.extend_from_slice(b" = ")?;
+        }
     }
     Ok(())
 }
@@ -213,24 +339,35 @@ fn put_line(
     alloc: Global,
     to: &mut Vec<u8>,
     params: &[Param],
-    register: u64,
-    line: Line,
+    counts: Counts,
+    line: &Line,
 ) -> Result<(), AllocError>
-    ensures { OnOk result (to.new.items ≡ to.old.items ++ line_text params.now register line) }
+    ensures { OnOk result (to.new.items ≡ to.old.items ++ line_text params.now counts line.now) }
 {
-    put_left(alloc, to, register, line)?;
+    put_left(alloc, to, counts, defined(line))?;
     to.extend_from_slice(word_text(line))?;
     to.extend_from_slice(b" ")?;
     put_operands(alloc, to, params, line)
 }
 
-/// How many registers a line gives.
-fn registers_of(line: Line) -> u64
-    ensures { result ≡ length (given line) }
+/// How many are defined behind a line.
+fn counted(counts: Counts, defined: Defined) -> Counts
+    requires scalars { counts.scalars < 2 ^ 63 }
+    requires vectors { counts.vectors < 2 ^ 63 }
+    ensures exact { result ≡ counted counts defined }
+    ensures scalars { result.scalars ≤ counts.scalars + 1 }
+    ensures vectors { result.vectors ≤ counts.vectors + 1 }
 {
-    match given(line) {
-        None => 0,
-        Some(_) => 1,
+    match defined {
+        Defined::Nothing => counts,
+        Defined::Scalar(_) => Counts {
+            scalars: counts.scalars + 1,
+            vectors: counts.vectors,
+        },
+        Defined::Vector(_) => Counts {
+            scalars: counts.scalars,
+            vectors: counts.vectors + 1,
+        },
     }
 }
 
@@ -241,14 +378,18 @@ fn put_lines(
     params: &[Param],
     lines: &[Line],
 ) -> Result<(), AllocError>
-    ensures { OnOk result (to.new.items ≡ to.old.items ++ lines_text params.now 0 lines.now) }
+    ensures { OnOk result
+        (to.new.items ≡ to.old.items ++ lines_text params.now no_counts lines.now) }
 {
-    let mut registers: u64 = 0;
+    let mut counts = Counts {
+        scalars: 0,
+        vectors: 0,
+    };
     let mut rest = lines;
     'lines: while let [line, behind @ ..] = rest {
-        put_line(alloc, to, params, registers, *line)?;
+        put_line(alloc, to, params, counts, line)?;
         to.extend_from_slice(b"\n")?;
-        registers += registers_of(*line);
+        counts = counted(counts, defined(line));
         rest = behind;
     }
     Ok(())

@@ -23,7 +23,7 @@ pub(crate) fn skip(text: &[u8], n: usize) -> &[u8]
     if n <= text.len() { &text[n..] } else { b"" }
 }
 
-fn front(text: &[u8], n: usize) -> &[u8]
+pub(crate) fn front(text: &[u8], n: usize) -> &[u8]
     ensures { result.now ≡ take n text.now }
 {
     if n <= text.len() { &text[..n] } else { text }
@@ -210,13 +210,13 @@ pub(crate) fn number_at(text: &[u8]) -> Result<(u128, &[u8]), ReadError>
 }
 
 #[tactic(auto, unfolding(crate::specs::Tokens::register_at))]
-pub(crate) fn register_at(text: &[u8]) -> Result<(u128, &[u8]), ReadError>
-    ensures { Gives (λ x. (x.0, x.1.now)) result (register_at text.now) }
+pub(crate) fn register_at(letter: u8, text: &[u8]) -> Result<(u128, &[u8]), ReadError>
+    ensures { Gives (λ x. (x.0, x.1.now)) result (register_at letter text.now) }
 {
     let behind = skip(text, 2);
     let length = digits_length(behind);
     let digits = front(behind, length);
-    if text.starts_with(b"%s") && is_numeral(digits) {
+    if text.starts_with(&[b'%', letter]) && is_numeral(digits) {
         Ok((number_of(digits), skip(behind, length)))
     } else {
         Err(ReadError::At(unfit(text)))

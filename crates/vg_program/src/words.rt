@@ -67,20 +67,32 @@ pub(crate) fn head_text(head: Head) -> &'static [u8]
         Head::Resize(op, _) => resize_text(op),
         Head::Compare(op) => comparison_text(op),
         Head::Select(_) => b"select",
+        Head::VectorLoad => b"vload",
+        Head::VectorStore => b"vstore",
+        Head::Constant => b"const",
+        Head::Insert => b"insert",
+        Head::Extract(_) => b"extract",
+        Head::Call => b"call",
     }
 }
 
 /// The word of a line.
-pub(crate) fn word_text(line: Line) -> &'static [u8]
-    ensures { result.now ≡ word_text line }
+pub(crate) fn word_text(line: &Line) -> &'static [u8]
+    ensures { result.now ≡ word_text line.now }
 {
     match line {
         Line::Load { .. } => b"load",
         Line::Store { .. } => b"store",
-        Line::Two { op, .. } => two_text(op),
-        Line::Shift { op, .. } => shift_text(op),
-        Line::Resize { op, .. } => resize_text(op),
-        Line::Compare { op, .. } => comparison_text(op),
+        Line::Two { op, .. } => two_text(*op),
+        Line::Shift { op, .. } => shift_text(*op),
+        Line::Resize { op, .. } => resize_text(*op),
+        Line::Compare { op, .. } => comparison_text(*op),
         Line::Select { .. } => b"select",
+        Line::VectorLoad { .. } => b"vload",
+        Line::VectorStore { .. } => b"vstore",
+        Line::Constant { .. } => b"const",
+        Line::Insert { .. } => b"insert",
+        Line::Extract { .. } => b"extract",
+        Line::Call { .. } => b"call",
     }
 }

@@ -2,7 +2,7 @@ use Rattle.vg_program.proofs.ProgramLaws.{read_sound, read_complete}
 use Rattle.vg_program.proofs.parsing.parse_program.Goals as goal
 
 pub returns-clause-sound : goal.returns-clause-sound
-returns-clause-sound c = read_sound c.args.text.now c.read.result c.read.ensures
+returns-clause-sound c = read_sound c.args.headers.now c.args.text.now c.read.result c.read.ensures
 
 pub returns-clause-complete : goal.returns-clause-complete
-returns-clause-complete c = read_complete c.args.text.now c.read.result c.read.ensures
+returns-clause-complete c = read_complete c.args.headers.now c.args.text.now c.read.result c.read.ensures

@@ -1,6 +1,6 @@
 use Rattle.std.proofs.Common.{◌≡◌, ◌≤◌, ◌+◌, length}
 use Rattle.vg_program.specs.Grammar.{named_in}
-use Rattle.vg_program.proofs.operand_reading.named_in.Given as goal
+use Rattle.vg_program.proofs.naming.named_in.Given as goal
 
 abbrev pub invariant-params : goal.invariant-params
 invariant-params l = record {

@@ -1,0 +1,9 @@
+//! How long the texts of programs are.
+
+ghost use Rattle.vg_program.specs.Sizes.{ShortProgramsFit};
+
+/// A law: a program of at most 12,288 lines that keeps the rules is valid, where the instructions
+/// take at most four registers.
+pub fn short_programs_fit()
+    ensures { ShortProgramsFit }
+{}
