@@ -125,21 +125,6 @@ fn kernels_that_are_refused(rt: HostRuntime) -> Result<(), Fail> {
 }
 
 #[test]
-fn instructions_are_not_read_today(rt: HostRuntime) -> Result<(), Fail> {
-    let mut desk = Desk::with_kernel(rt.alloc(), COPY)?;
-    desk.shelf.put("i", b" ")?;
-    desk.expect(
-        &rt,
-        &["compile", "i", "k"],
-        Status::InstructionsRefused,
-        b"",
-        b"vegen: instructions: 0 NotYet at 1:1\n",
-    )?;
-    assert_eq!(rt; desk.shelf.reads(), 1);
-    Ok(())
-}
-
-#[test]
 fn a_sink_of_too_little_room_keeps_the_front(rt: HostRuntime) -> Result<(), Fail> {
     let mut desk = Desk::new(rt.alloc(), 10)?;
     desk.shelf.put("i", b"")?;

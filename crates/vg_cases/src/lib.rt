@@ -10,6 +10,8 @@ mod desk;
 #[cfg(test)]
 mod eval_cases;
 #[cfg(test)]
+mod instruction_files;
+#[cfg(test)]
 mod kernel_faults;
 #[cfg(test)]
 mod kernel_fronts;
@@ -31,3 +33,5 @@ mod program_cases;
 mod run_cases;
 #[cfg(test)]
 mod token_cases;
+#[cfg(test)]
+mod vector_cases;

@@ -12,7 +12,7 @@ fn left_by(
     places: &[u64],
     args: &[u64],
 ) -> Result<Option<Vec<u8>>, Fail> {
-    let program = parse_program(rt.alloc(), text)
+    let program = parse_program(rt.alloc(), text, &[])
         .ok()
         .ok_or("the program is valid")?;
     let mut machine = Machine::new(rt.alloc(), &program)?;

@@ -35,7 +35,7 @@ end cost 24 scalar 16384
 
 #[test]
 fn each_line_is_read_and_printed_again(rt: HostRuntime) -> Result<(), Fail> {
-    let program = parse_program(rt.alloc(), LINES)
+    let program = parse_program(rt.alloc(), LINES, &[])
         .ok()
         .ok_or("the program is valid")?;
     assert_eq!(rt; cost(&program), 24);
@@ -48,7 +48,7 @@ fn each_line_is_read_and_printed_again(rt: HostRuntime) -> Result<(), Fail> {
 
 /// Whether a text is refused with this number at this place.
 fn is_refused(rt: &HostRuntime, text: &[u8], number: u32, line: u32, column: u32) -> bool {
-    match parse_program(rt.alloc(), text) {
+    match parse_program(rt.alloc(), text, &[]) {
         Ok(_) => false,
         Err(fault) => {
             fault.number() == Some(number) && fault.place() == Some(Place { line, column })
@@ -129,7 +129,7 @@ fn refusals_of_a_line(rt: HostRuntime) -> Result<(), Fail> {
             (b"%s0:i32 = load d*0".as_slice(), 2, 17),
             (b"%s1:i32 = load d+0".as_slice(), 2, 1),
             (b"%s00:i32 = load d+0".as_slice(), 2, 1),
-            (b"%v0 = vload 16 d+0".as_slice(), 2, 1),
+            (b"%v1 = vload 16 d+0".as_slice(), 2, 1),
             (b"%s0:i2 = load d+0".as_slice(), 2, 5),
             (b"%s0:i32 = add k 1i32".as_slice(), 5, 15),
             (b"%s0:i8 = add k d".as_slice(), 5, 16),
@@ -147,7 +147,7 @@ fn refusals_of_a_line(rt: HostRuntime) -> Result<(), Fail> {
             (b"store d+0 7 i8".as_slice(), 2, 12),
             (b"store d+0  k".as_slice(), 2, 11),
             (b"store d+0 k ".as_slice(), 2, 12),
-            (b"vstore 16 d+0 %v0".as_slice(), 2, 1),
+            (b"vstore 16 d+0 %v0".as_slice(), 4, 15),
             (b"end cost 00 scalar 0".as_slice(), 2, 10),
             (b"end cost 1 scalar 0".as_slice(), 6, 10),
             (b"end cost 4294967295 scalar 0".as_slice(), 6, 10),
@@ -263,7 +263,7 @@ fn refusals_at_the_end(rt: HostRuntime) {
 
 #[test]
 fn a_wrong_cost_is_printed_with_both_costs(rt: HostRuntime) -> Result<(), Fail> {
-    match parse_program(rt.alloc(), b"program n()\nend cost 3 scalar 0\n") {
+    match parse_program(rt.alloc(), b"program n()\nend cost 3 scalar 0\n", &[]) {
         Ok(_) => Err("the cost is wrong".into()),
         Err(fault) => {
             let text = format!(in rt.alloc(); "{fault}")?;
@@ -299,7 +299,7 @@ pub fn largest_program(alloc: Global) -> Result<Vec<u8>, AllocError> {
 fn the_largest_text_is_read_and_printed_again(rt: HostRuntime) -> Result<(), Fail> {
     let largest = largest_program(rt.alloc())?;
     assert_eq!(rt; largest.len(), 4_194_304);
-    let program = parse_program(rt.alloc(), largest.as_slice())
+    let program = parse_program(rt.alloc(), largest.as_slice(), &[])
         .ok()
         .ok_or("the program is valid")?;
     assert_eq!(rt; cost(&program), 349_521);

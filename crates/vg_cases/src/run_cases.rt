@@ -218,7 +218,7 @@ fn programs_with_tokens_and_shapes_that_are_refused(rt: HostRuntime) -> Result<(
             b"2 Shape at 1:19",
         ),
         (b"program p()\nend cost 0 scalar 0\nx", b"2 Shape at 3:1"),
-        (b"program p(d: ptr)\nvstore 4 d+0 %v0\n", b"2 Shape at 2:1"),
+        (b"program p(d: ptr)\nvstores 4 d+0 %v0\n", b"2 Shape at 2:1"),
         // The type of a literal is judged before its number.
         (
             b"program p(k: i8)\n%s0:i8 = add 999i7 k\n",

@@ -1,5 +1,5 @@
 -- The text of the scalar program answers its kernel.
-use Rattle.std.proofs.Common.{◌≡◌, ℕ, List, Result, Ok, Err, refl, sym, ◌∙◌, ap, subst, arith}
+use Rattle.std.proofs.Common.{◌≡◌, ℕ, List, Result, Ok, Err, refl, sym, ◌∙◌, ap, subst, arith, []}
 use Rattle.std.specs.Prelude.{Vec}
 use Rattle.std.specs.Result.{IfOk}
 use Rattle.std.specs.declared.alloc.Global.{Global}
@@ -20,8 +20,8 @@ use Rattle.vg_top.specs.KernelFile.{IsTree}
 use Rattle.vg_top.proofs.Valid.{program_of-valid}
 use Rattle.vg_top.proofs.Runs.{program_of-meaning}
 
-pub valid_of : (k : Tree) (r : Result Program AllocError) → IsWellFormed k → IfOk r (λ p. p ≡ program_of k) → IfOk r IsValid
-valid_of k (Ok p) h e = subst IsValid (sym e) (program_of-valid k h)
+pub valid_of : (k : Tree) (r : Result Program AllocError) → IsWellFormed k → IfOk r (λ p. p ≡ program_of k) → IfOk r (λ p. IsValid [] p)
+valid_of k (Ok p) h e = subst (λ (p : Program). IsValid [] p) (sym e) (program_of-valid k h)
 valid_of k (Err a) h e = tt
 
 -- the program means the kernel
@@ -35,7 +35,7 @@ answer_of k p bytes h e text = record {
   valid = program_of-valid k h;
   means = means_of k h;
   scalar = refl;
-  cost = let same = (program_of-valid k h).cost in omega (arith, same);
+  cost = let same = (program_of-valid k h).rules.cost in omega (arith, same);
 }
 
 -- an answer to the kernel that was read is one to the kernel that is told

@@ -15,11 +15,11 @@ pub assign-lines : (names now_names : List Operand) (k : ℕ) (e : Expression) (
 unfolding lines_of
 assign-lines names now_names k e v before now rest a b c = rw (a, b, c) (append_assoc before (value_lines names k e) _)
 
-pub store-lines : (names : List Operand) (k : ℕ) (w : Width) (to : Address) (e : Expression) (v : Operand) (before middle now : List Line) (rest : List Statement) → middle ≡ before ++ value_lines names k e → now ≡ middle ++ Store to v ∷ [] → v ≡ value_of names k e
+pub store-lines : (names : List Operand) (k : ℕ) (w : Width) (to : Address) (e : Expression) (v : Operand) (before middle now : List Line) (rest : List Statement) → middle ≡ before ++ value_lines names k e → now ≡ middle ++ Store w to v ∷ [] → v ≡ value_of names k e
     → now ++ lines_of names (k + expression_cost e) rest ≡ before ++ lines_of names k (store w to e ∷ rest)
 unfolding lines_of
 store-lines names k w to e v before middle now rest a b c =
-    rw (b, a, c) (append_assoc (before ++ value_lines names k e) (Store to (value_of names k e) ∷ []) _ ∙ append_assoc before (value_lines names k e) _)
+    rw (b, a, c) (append_assoc (before ++ value_lines names k e) (Store w to (value_of names k e) ∷ []) _ ∙ append_assoc before (value_lines names k e) _)
 
 -- no statement is left
 pub end-lines : (names : List Operand) (k : ℕ) (rest : List KStmt) (before all : List Line) → length rest < 1 → before ++ lines_of names k (map statement_of rest) ≡ all → before ≡ all

@@ -40,7 +40,7 @@ unwritten_may (Some x) may = tt
 pub stopped_may : (a : Option Asked) (e : Ending) → MayStop a (Some e) → MayEnd a (status_of e)
 stopped_may None e may = let k : e ≡ Usage = cc in ap status_of k
 stopped_may (Some x) Usage may = may
-stopped_may (Some x) (Instructions n) may = may
+stopped_may (Some x) (Instructions n f) may = may
 stopped_may (Some x) (Kernel n f) may = may
 stopped_may (Some x) (Program n f) may = may
 stopped_may (Some x) (Absent n) may = may
@@ -54,7 +54,7 @@ stopped_may (Some x) Memory may = may
 -- the status of the ending that the verdict names
 pub status_from_verdict : (e : Ending) (v : Result Outcome Ending) → EndedBy (Some e) v → status_of e ≢ status.NoMemory → status_of e ≢ status.ReadFault → status_of e ≢ status.WriteFault → status_of e ≡ status_told v
 status_from_verdict Usage v told memory read write = sym (ap status_told told)
-status_from_verdict (Instructions n) v told memory read write = sym (ap status_told told)
+status_from_verdict (Instructions n f) v told memory read write = sym (ap status_told told)
 status_from_verdict (Kernel n f) v told memory read write = sym (ap status_told told)
 status_from_verdict (Program n f) v told memory read write = sym (ap status_told told)
 status_from_verdict (Absent n) v told memory read write = sym (ap status_told told)
@@ -71,7 +71,7 @@ not_rose before now rose same below = omega arith
 
 pub not_read_fault : (e : Ending) (before now : ℕ) → CountsFault before now (Some e) → now ≡ before → before < 2 ^ 64 - 1 → status_of e ≢ status.ReadFault
 not_read_fault Usage before now counts same below = λ is. absurd (cc)
-not_read_fault (Instructions n) before now counts same below = λ is. absurd (cc)
+not_read_fault (Instructions n f) before now counts same below = λ is. absurd (cc)
 not_read_fault (Kernel n f) before now counts same below = λ is. absurd (cc)
 not_read_fault (Program n f) before now counts same below = λ is. absurd (cc)
 not_read_fault (Absent n) before now counts same below = λ is. absurd (cc)
@@ -85,7 +85,7 @@ not_read_fault Memory before now counts same below = λ is. absurd (cc)
 pub not_write_fault : (a : Option Asked) (e : Ending) → MayStop a (Some e) → status_of e ≢ status.WriteFault
 not_write_fault None e may = λ is. let k : e ≡ Usage = cc in let same : status.Usage ≡ status.WriteFault = sym (ap status_of k) ∙ is in absurd (cc)
 not_write_fault (Some x) Usage may = λ is. absurd (cc)
-not_write_fault (Some x) (Instructions n) may = λ is. absurd (cc)
+not_write_fault (Some x) (Instructions n f) may = λ is. absurd (cc)
 not_write_fault (Some x) (Kernel n f) may = λ is. absurd (cc)
 not_write_fault (Some x) (Program n f) may = λ is. absurd (cc)
 not_write_fault (Some x) (Absent n) may = λ is. absurd (cc)

@@ -5,7 +5,6 @@ pub mod Endings
 pub mod Fronts
 pub mod LineCosts
 pub mod Runs
-pub mod TextSizes
 pub mod Valid
 pub mod Wide
 pub mod Works

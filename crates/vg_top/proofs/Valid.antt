@@ -2,7 +2,6 @@
 use Rattle.std.proofs.Common.{◌≡◌, ℕ, suc, ◌≤◌, Bool, true, false, List, [], ◌∷◌, length, map, refl, sym, ap, arith}
 use Rattle.std.specs.Prelude.{IsTrue, nat_le, not, ◌&&◌, sum_by}
 use Rattle.std.specs.List.{AllByRecursion, list_all}
-use Rattle.std.proofs.lemmas.Bool.{leb-true}
 use Rattle.vg_text.specs.Byte.{is_name_text, is_letter, is_name}
 use Rattle.vg_kernel.specs.declared.parameter.KParam.{KParam}
 use Rattle.vg_kernel.specs.Tree.{Tree}
@@ -10,30 +9,26 @@ use Rattle.vg_kernel.specs.Words.{is_free, is_reserved}
 use Rattle.vg_kernel.specs.WellFormed as well
 use Rattle.vg_kernel.specs.Cost.{statement_cost}
 use Rattle.vg_kernel.proofs.CostLaws.{cost-most}
-use Rattle.vg_program.specs.Valid.{IsValid}
+use Rattle.vg_program.specs.Valid.{KeepsRules, IsValid}
+use Rattle.vg_program.specs.Before.{nothing_before}
+use Rattle.vg_program.proofs.TextSizes.{short_fits}
 use Rattle.vg_top.specs.Emission.{param_of, lines_of, program_of}
 use Rattle.vg_top.proofs.LineCosts.{lines-count, lines-cost}
-use Rattle.vg_top.proofs.TextSizes.{AreShort, text-short}
 use Rattle.vg_top.proofs.Wide.{lines-valid}
 
 -- a name that may be given is a name of a program
-free-name : (name : List ℕ) → IsTrue (is_free name) → IsTrue (is_name_text name) × (length name ≤ 64)
+free-name : (name : List ℕ) → IsTrue (is_free name) → IsTrue (is_name_text name)
 free-name [] free = absurd (let no : false ≡ true = free in cc)
 free-name (b ∷ bs) free =
-    let parts = both_true (is_letter b && (list_all is_name bs && nat_le (length bs) 63)) (not (is_reserved (b ∷ bs))) free in
-    let behind = both_true (is_letter b) (list_all is_name bs && nat_le (length bs) 63) parts.0 in
-    (parts.0, omega (arith, leb-true (length bs) 63 ((both_true (list_all is_name bs) (nat_le (length bs) 63) behind.1).1)))
+    (both_true (is_letter b && (list_all is_name bs && nat_le (length bs) 63)) (not (is_reserved (b ∷ bs))) free).0
   where
     both_true : (a c : Bool) → (a && c) ≡ true → (a ≡ true) × (c ≡ true)
     both_true true c e = (refl, e)
     both_true false c e = cc
 
-names-valid : (ps : List KParam) → AllByRecursion (λ p. IsTrue (is_free p.name)) ps → AllByRecursion (λ q. IsTrue (is_name_text q.name)) (map param_of ps) × AreShort (map param_of ps)
-names-valid [] all = (tt, tt)
-names-valid (p ∷ ps) all =
-    let rest = names-valid ps all.1 in
-    let one = free-name p.name all.0 in
-    ((one.0, rest.0), (one.1, rest.1))
+names-valid : (ps : List KParam) → AllByRecursion (λ p. IsTrue (is_free p.name)) ps → AllByRecursion (λ q. IsTrue (is_name_text q.name)) (map param_of ps)
+names-valid [] all = tt
+names-valid (p ∷ ps) all = (free-name p.name all.0, names-valid ps all.1)
 
 same_names : (ps : List KParam) → map (λ q. q.name) (map param_of ps) ≡ map (λ p. p.name) ps
 same_names [] = refl
@@ -47,19 +42,18 @@ same_length (p ∷ ps) = ap suc (same_length ps)
 small-cost : (k : Tree) → well.IsWellFormed k → sum_by statement_cost k.statements ≤ 12288
 small-cost k h = omega (arith, cost-most k.statements, h.uses, h.statements)
 
-pub program_of-valid : (k : Tree) → well.IsWellFormed k → IsValid (program_of k)
+pub program_of-valid : (k : Tree) → well.IsWellFormed k → IsValid [] (program_of k)
 program_of-valid k h =
-    let names = names-valid k.params h.names in
-    let name = free-name k.name h.name in
     let small = small-cost k h in
     let same = lines-cost [] 0 k.statements in
-    let count = lines-count (lines_of [] 0 k.statements) in
     let lines = lines-valid k.params k.statements h.each in
-    record {
-      name = name.0;
-      params = record { few = rw same_length h.params; names = names.0; distinct = rw same_names h.distinct };
+    let count = lines-count (nothing_before [] (map param_of k.params)) (lines_of [] 0 k.statements) refl lines in
+    let rules : KeepsRules [] (program_of k) = record {
+      name = free-name k.name h.name;
+      params = record { few = rw same_length h.params; names = names-valid k.params h.names; distinct = rw same_names h.distinct };
       lines = lines;
       cost = sym same;
+      small = omega (arith, small);
       scalar = omega (arith, small);
-      size = text-short (program_of k) name.1 names.1 (rw same_length h.params) lines (omega (arith, small, same, count)) (omega (arith, small)) (omega (arith, small));
-    }
+    } in
+    short_fits [] (program_of k) tt rules (omega (arith, small, same, count))

@@ -1,7 +1,7 @@
 -- The lines of a well-formed kernel are valid: each operand stands before the line that uses it and has the width that the
 -- line asks for.
-use Rattle.std.proofs.Common.{◌≡◌, ◌≢◌, ℕ, zero, suc, cond, ◌+◌, ◌^◌, ◌<◌, ℤ, pos, negsuc, Bool, List, [], ◌∷◌, ◌++◌, length, Option, Some, None, map, refl, sym, ◌∙◌, ap, subst, arith, length-append, append_assoc, append-nil}
-use Rattle.std.specs.Prelude.{slice_get, IsSomeAnd, IsTrue}
+use Rattle.std.proofs.Common.{◌≡◌, ℕ, zero, suc, cond, ◌+◌, ◌^◌, ◌<◌, Bool, List, [], ◌∷◌, ◌++◌, length, Option, Some, None, map, refl, sym, ◌∙◌, ap, subst, arith, length-append, append_assoc, append-nil}
+use Rattle.std.specs.Prelude.{slice_get, IsTrue}
 use Rattle.std.specs.Option.{option_map, option_map_or}
 use Rattle.std.proofs.lemmas.Bool.{ltb-true, lt-ltb}
 use Rattle.vg_base.specs.declared.address.Address.{Address}
@@ -26,7 +26,10 @@ use Rattle.vg_program.specs.declared.operand.Operand.{Operand}
 use Rattle.vg_program.specs.declared.operand.Operand.TheVariants.{Register, Argument, Literal}
 use Rattle.vg_program.specs.declared.param.Param.{Param}
 use Rattle.vg_program.specs.Params as program
-use Rattle.vg_program.specs.Text.{given}
+use Rattle.vg_program.specs.declared.defined.Defined.{Defined}
+use Rattle.vg_program.specs.declared.defined.Defined.TheVariants.{Scalar}
+use Rattle.vg_program.specs.Before.{Before, nothing_before, with_defined}
+use Rattle.vg_program.specs.Text.{defined}
 use Rattle.vg_base.specs.Offset.{IsAddress}
 use Rattle.vg_program.specs.Valid.{Resizes, width_of, IsLine, AreLines}
 use Rattle.vg_top.specs.Emission.{kind_of, param_of, named, value_of, value_lines, lines_of}
@@ -50,19 +53,23 @@ resize-valid Sext to from h = ltb-true (bits_of from) (bits_of to) h
 resize-valid Zext to from h = ltb-true (bits_of from) (bits_of to) h
 resize-valid Trunc to from h = ltb-true (bits_of to) (bits_of from) h
 
+-- what stands before a line, where these scalars are given
+abbrev at : List Param → List ℕ → Before
+at params widths = record { params = params; headers = []; scalars = widths; vectors = [] }
+
 -- an operand has the bits of a type, and goes on to where more registers are given
 Wide : List Param → List ℕ → Operand → ValueType → Type 0
-Wide params widths v t = (more : List ℕ) → width_of params (widths ++ more) v ≡ Some (bits_in t)
+Wide params widths v t = (more : List ℕ) → width_of (at params (widths ++ more)) v ≡ Some (bits_in t)
 
 Wide-more : (params : List Param) (widths more : List ℕ) (v : Operand) (t : ValueType) → Wide params widths v t → Wide params (widths ++ more) v t
 unfolding Wide
-Wide-more params widths more v t h = λ others. ap (λ (ws : List ℕ). width_of params ws v) (append_assoc widths more others) ∙ h (more ++ others)
+Wide-more params widths more v t h = λ others. ap (λ (ws : List ℕ). width_of (at params ws) v) (append_assoc widths more others) ∙ h (more ++ others)
 
-Wide-now : (params : List Param) (widths : List ℕ) (v : Operand) (t : ValueType) → Wide params widths v t → width_of params widths v ≡ Some (bits_in t)
+Wide-now : (params : List Param) (widths : List ℕ) (v : Operand) (t : ValueType) → Wide params widths v t → width_of (at params widths) v ≡ Some (bits_in t)
 unfolding Wide
-Wide-now params widths v t h = ap (λ (ws : List ℕ). width_of params ws v) (sym (append-nil widths)) ∙ h []
+Wide-now params widths v t h = ap (λ (ws : List ℕ). width_of (at params ws) v) (sym (append-nil widths)) ∙ h []
 
-Wide-integer : (params : List Param) (widths : List ℕ) (v : Operand) (t u : ValueType) → t ≡ u → Wide params widths v t → width_of params widths v ≡ Some (bits_in u)
+Wide-integer : (params : List Param) (widths : List ℕ) (v : Operand) (t u : ValueType) → t ≡ u → Wide params widths v t → width_of (at params widths) v ≡ Some (bits_in u)
 Wide-integer params widths v t u e h = Wide-now params widths v t h ∙ ap (λ (q : ValueType). Some (bits_in q)) e
 
 Wide-last : (params : List Param) (widths : List ℕ) (k : ℕ) (t : ValueType) → length widths ≡ k → Wide params (widths ++ bits_in t ∷ []) (Register k) t
@@ -118,24 +125,24 @@ argument-some ps k w e = by w (argument-wide ps k w e)
 
 -- what stands behind the lines of an expression is valid, whatever the widths of the registers that they gave
 Behind : List Param → List ℕ → List Line → ℕ → Operand → ValueType → Type 0
-Behind params widths rest cost v t = (more : List ℕ) → length more ≡ cost → Wide params (widths ++ more) v t → AreLines params (widths ++ more) rest
+Behind params widths rest cost v t = (more : List ℕ) → length more ≡ cost → Wide params (widths ++ more) v t → AreLines (at params (widths ++ more)) rest
 
 -- an expression without lines
-no-lines : (params : List Param) (widths : List ℕ) (rest : List Line) (v : Operand) (t : ValueType) → Wide params widths v t → Behind params widths rest 0 v t → AreLines params widths rest
+no-lines : (params : List Param) (widths : List ℕ) (rest : List Line) (v : Operand) (t : ValueType) → Wide params widths v t → Behind params widths rest 0 v t → AreLines (at params widths) rest
 unfolding Behind
-no-lines params widths rest v t d h = subst (λ (ws : List ℕ). AreLines params ws rest) (append-nil widths) (h [] refl (Wide-more params widths [] v t d))
+no-lines params widths rest v t d h = subst (λ (ws : List ℕ). AreLines (at params ws) rest) (append-nil widths) (h [] refl (Wide-more params widths [] v t d))
 
 -- the line of an operation, behind those of its operands
-own-line : (params : List Param) (line : Line) (rest : List Line) (widths front : List ℕ) (k cost : ℕ) (t : ValueType) → length widths + length front ≡ k → length front + 1 ≡ cost → given line ≡ bits_in t ∷ []
-    → IsLine params (widths ++ front) line → Behind params widths rest cost (Register k) t → AreLines params (widths ++ front) (line ∷ rest)
+own-line : (params : List Param) (line : Line) (rest : List Line) (widths front : List ℕ) (k cost : ℕ) (t : ValueType) → length widths + length front ≡ k → length front + 1 ≡ cost → defined line ≡ Scalar (bits_in t)
+    → IsLine (at params (widths ++ front)) line → Behind params widths rest cost (Register k) t → AreLines (at params (widths ++ front)) (line ∷ rest)
 unfolding Behind
 own-line params line rest widths front k cost t len counts gives is h =
     let x = bits_in t in
     let group = append_assoc widths front (x ∷ []) in
     let all : length (front ++ x ∷ []) ≡ cost = omega (arith, length-append front (x ∷ [])) in
     let d = subst (λ (ws : List ℕ). Wide params ws (Register k) t) group (Wide-last params (widths ++ front) k t (omega (arith, length-append widths front))) in
-    let next = subst (λ (ws : List ℕ). AreLines params ws rest) (sym group) (h (front ++ x ∷ []) all d) in
-    (is, subst (λ (g : List ℕ). AreLines params ((widths ++ front) ++ g) rest) (sym gives) next)
+    let next = subst (λ (ws : List ℕ). AreLines (at params ws) rest) (sym group) (h (front ++ x ∷ []) all d) in
+    (is, subst (λ (d : Defined). AreLines (with_defined (at params (widths ++ front)) d) rest) (sym gives) next)
 
 joined-widths : (params : List Param) (widths more others : List ℕ) (v : Operand) (t : ValueType) → Wide params (widths ++ more) v t → Wide params (widths ++ (more ++ others)) v t
 joined-widths params widths more others v t d = subst (λ (ws : List ℕ). Wide params ws v t) (append_assoc widths more others) (Wide-more params (widths ++ more) others v t d)
@@ -148,7 +155,7 @@ choice-line : (params : List Param) (w : Width) (vc vx vy : Operand) (rest : Lis
     → length widths ≡ k → length first ≡ c → length second ≡ x → length third ≡ y → tc ≡ types.Bit → tx ≡ types.Integer w → ty ≡ types.Integer w
     → Wide params (widths ++ first) vc tc → Wide params ((widths ++ first) ++ second) vx tx → Wide params (((widths ++ first) ++ second) ++ third) vy ty
     → Behind params widths rest (c + x + y + 1) (Register (k + c + x + y)) (types.Integer w)
-    → AreLines params (((widths ++ first) ++ second) ++ third) (Select w vc vx vy ∷ rest)
+    → AreLines (at params (((widths ++ first) ++ second) ++ third)) (Select w vc vx vy ∷ rest)
 choice-line params w vc vx vy rest widths first second third k c x y tc tx ty len counts counts' counts'' ec ex ey dc dx dy h =
     let front = first ++ (second ++ third) in
     let all = append_assoc (widths ++ first) second third ∙ append_assoc widths first (second ++ third) in
@@ -156,17 +163,17 @@ choice-line params w vc vx vy rest widths first second third k c x y tc tx ty le
     let wc = Wide-integer params now vc tc types.Bit ec (joined-widths params widths first (second ++ third) vc tc dc) in
     let wx = Wide-integer params now vx tx (types.Integer w) ex (subst (λ (ws : List ℕ). Wide params ws vx tx) all (Wide-more params ((widths ++ first) ++ second) third vx tx dx)) in
     let wy = Wide-integer params now vy ty (types.Integer w) ey (subst (λ (ws : List ℕ). Wide params ws vy ty) all dy) in
-    subst (λ (ws : List ℕ). AreLines params ws (Select w vc vx vy ∷ rest)) (sym all)
+    subst (λ (ws : List ℕ). AreLines (at params ws) (Select w vc vx vy ∷ rest)) (sym all)
     (own-line params (Select w vc vx vy) rest widths front (k + c + x + y) (c + x + y + 1) (types.Integer w) (omega (arith, length-append first (second ++ third), length-append second third))
     (omega (arith, length-append first (second ++ third), length-append second third)) refl (wc, wx, wy) h)
 
 -- a literal
-literal-wide : (params : List Param) (widths : List ℕ) (w : Width) (n : ℕ) → n < 2 ^ bits_of w → width_of params widths (Literal w n) ≡ Some (bits_of w)
+literal-wide : (params : List Param) (widths : List ℕ) (w : Width) (n : ℕ) → n < 2 ^ bits_of w → width_of (at params widths) (Literal w n) ≡ Some (bits_of w)
 literal-wide params widths w n small = ap (λ (b : Bool). cond b (Some (bits_of w)) None) (lt-ltb n (2 ^ bits_of w) small)
 
 -- the lines of an expression are valid where what stands behind them is
 value-valid : (ps : List KParam) (given : List ValueType) (vs : List Operand) (e : Expression) (widths : List ℕ) (k : ℕ) (rest : List Line) → well.IsExpression ps given e → length widths ≡ k
-    → AreWide (map param_of ps) widths vs given → Behind (map param_of ps) widths rest (expression_cost e) (value_of vs k e) (type_of e) → AreLines (map param_of ps) widths (value_lines vs k e ++ rest)
+    → AreWide (map param_of ps) widths vs given → Behind (map param_of ps) widths rest (expression_cost e) (value_of vs k e) (type_of e) → AreLines (at (map param_of ps) widths) (value_lines vs k e ++ rest)
 unfolding Behind Wide
 value-valid ps given vs (argument j w) widths k rest is len names h = no-lines (map param_of ps) widths rest (Argument j) (types.Integer w) (λ more. argument-some ps j w is) h
 value-valid ps given vs (assigned j t) widths k rest is len names h = no-lines (map param_of ps) widths rest (named vs j) t (name-wide (map param_of ps) widths vs given j t names is) h
@@ -178,20 +185,20 @@ value-valid ps given vs (two op w x y) widths k rest is len names h =
     let vx = value_of vs k x in
     let vy = value_of vs j y in
     let line = Two op w vx vy in
-    subst (λ (ls : List Line). AreLines qs widths ls) (sym (regroup (value_lines vs k x) (value_lines vs j y) rest line))
+    subst (λ (ls : List Line). AreLines (at qs widths) ls) (sym (regroup (value_lines vs k x) (value_lines vs j y) rest line))
     (value-valid ps given vs x widths k (value_lines vs j y ++ line ∷ rest) is.2 len names (λ more counts d.
     value-valid ps given vs y (widths ++ more) j (line ∷ rest) is.3 (omega (arith, length-append widths more)) (AreWide-more qs widths more vs given names) (λ others counts' d'.
     let front = more ++ others in
     let all = append_assoc widths more others in
     let first = Wide-integer qs (widths ++ front) vx (type_of x) (types.Integer w) is.0 (joined-widths qs widths more others vx (type_of x) d) in
     let second = Wide-integer qs (widths ++ front) vy (type_of y) (types.Integer w) is.1 (subst (λ (ws : List ℕ). Wide qs ws vy (type_of y)) all d') in
-    subst (λ (ws : List ℕ). AreLines qs ws (line ∷ rest)) (sym all)
+    subst (λ (ws : List ℕ). AreLines (at qs ws) (line ∷ rest)) (sym all)
     (own-line qs line rest widths front (j + expression_cost y) (expression_cost x + expression_cost y + 1) (types.Integer w) (omega (arith, length-append more others)) (omega (arith, length-append more others)) refl (first, second) h))))
 value-valid ps given vs (shift op w n x) widths k rest is len names h =
     let qs = map param_of ps in
     let vx = value_of vs k x in
     let line = Shift op w vx n in
-    subst (λ (ls : List Line). AreLines qs widths ls) (sym (append_assoc (value_lines vs k x) (line ∷ []) rest))
+    subst (λ (ls : List Line). AreLines (at qs widths) ls) (sym (append_assoc (value_lines vs k x) (line ∷ []) rest))
     (value-valid ps given vs x widths k (line ∷ rest) is.2 len names (λ more counts d.
     own-line qs line rest widths more (k + expression_cost x) (expression_cost x + 1) (types.Integer w) (omega arith) (omega arith) refl
     (Wide-integer qs (widths ++ more) vx (type_of x) (types.Integer w) is.0 d, is.1) h))
@@ -199,7 +206,7 @@ value-valid ps given vs (resize op w v x) widths k rest is len names h =
     let qs = map param_of ps in
     let vx = value_of vs k x in
     let line = Resize op w v vx in
-    subst (λ (ls : List Line). AreLines qs widths ls) (sym (append_assoc (value_lines vs k x) (line ∷ []) rest))
+    subst (λ (ls : List Line). AreLines (at qs widths) ls) (sym (append_assoc (value_lines vs k x) (line ∷ []) rest))
     (value-valid ps given vs x widths k (line ∷ rest) is.2 len names (λ more counts d.
     own-line qs line rest widths more (k + expression_cost x) (expression_cost x + 1) (types.Integer w) (omega arith) (omega arith) refl
     (Wide-integer qs (widths ++ more) vx (type_of x) (types.Integer v) is.0 d, resize-valid op w v is.1) h))
@@ -209,14 +216,14 @@ value-valid ps given vs (compare op w x y) widths k rest is len names h =
     let vx = value_of vs k x in
     let vy = value_of vs j y in
     let line = Compare op w vx vy in
-    subst (λ (ls : List Line). AreLines qs widths ls) (sym (regroup (value_lines vs k x) (value_lines vs j y) rest line))
+    subst (λ (ls : List Line). AreLines (at qs widths) ls) (sym (regroup (value_lines vs k x) (value_lines vs j y) rest line))
     (value-valid ps given vs x widths k (value_lines vs j y ++ line ∷ rest) is.2 len names (λ more counts d.
     value-valid ps given vs y (widths ++ more) j (line ∷ rest) is.3 (omega (arith, length-append widths more)) (AreWide-more qs widths more vs given names) (λ others counts' d'.
     let front = more ++ others in
     let all = append_assoc widths more others in
     let first = Wide-integer qs (widths ++ front) vx (type_of x) (types.Integer w) is.0 (joined-widths qs widths more others vx (type_of x) d) in
     let second = Wide-integer qs (widths ++ front) vy (type_of y) (types.Integer w) is.1 (subst (λ (ws : List ℕ). Wide qs ws vy (type_of y)) all d') in
-    subst (λ (ws : List ℕ). AreLines qs ws (line ∷ rest)) (sym all)
+    subst (λ (ws : List ℕ). AreLines (at qs ws) (line ∷ rest)) (sym all)
     (own-line qs line rest widths front (j + expression_cost y) (expression_cost x + expression_cost y + 1) types.Bit (omega (arith, length-append more others)) (omega (arith, length-append more others)) refl (first, second) h))))
 value-valid ps given vs (select w c x y) widths k rest is len names h =
     let qs = map param_of ps in
@@ -227,7 +234,7 @@ value-valid ps given vs (select w c x y) widths k rest is len names h =
     let vy = value_of vs ky y in
     let line = Select w vc vx vy in
     let all = value_lines vs ky y ++ line ∷ rest in
-    subst (λ (ls : List Line). AreLines qs widths ls)
+    subst (λ (ls : List Line). AreLines (at qs widths) ls)
     (sym (append_assoc (value_lines vs k c) (value_lines vs kx x ++ (value_lines vs ky y ++ line ∷ [])) rest ∙ ap (λ (t : List Line). value_lines vs k c ++ t) (regroup (value_lines vs kx x) (value_lines vs ky y) rest line)))
     (value-valid ps given vs c widths k (value_lines vs kx x ++ all) is.3 len names (λ first counts dc.
     value-valid ps given vs x (widths ++ first) kx all is.4 (omega (arith, length-append widths first)) (AreWide-more qs widths first vs given names) (λ second counts' dx.
@@ -235,20 +242,9 @@ value-valid ps given vs (select w c x y) widths k rest is len names h =
     (AreWide-more qs (widths ++ first) second vs given (AreWide-more qs widths first vs given names)) (λ third counts'' dy.
     choice-line qs w vc vx vy rest widths first second third k (expression_cost c) (expression_cost x) (expression_cost y) (type_of c) (type_of x) (type_of y) len counts counts' counts'' is.0 is.1 is.2 dc dx dy h))))
 
--- a width that can be stored
-not-one : (o : Option ℕ) (w : Width) → o ≡ Some (bits_of w) → IsSomeAnd o (λ n. n ≢ 1)
-not-one (Some n) w e = λ one. by w (cc)
-  where
-    by : (w : Width) → bits_of w ≡ 1 → ⊥
-    by W8 h = cc
-    by W16 h = cc
-    by W32 h = cc
-    by W64 h = cc
-not-one None w e = absurd (cc)
-
 -- the lines of statements are valid
 statements-valid : (ps : List KParam) (given : List ValueType) (vs : List Operand) (ss : List Statement) (widths : List ℕ) (k : ℕ) → well.AreStatements ps given ss → length widths ≡ k
-    → AreWide (map param_of ps) widths vs given → AreLines (map param_of ps) widths (lines_of vs k ss)
+    → AreWide (map param_of ps) widths vs given → AreLines (at (map param_of ps) widths) (lines_of vs k ss)
 unfolding lines_of Behind
 statements-valid ps given vs [] widths k are len names = tt
 statements-valid ps given vs (assign e ∷ ss) widths k are len names =
@@ -261,11 +257,11 @@ statements-valid ps given vs (store w a e ∷ ss) widths k are len names =
     let qs = map param_of ps in
     let v = value_of vs k e in
     let j = k + expression_cost e in
-    value-valid ps given vs e widths k (Store a v ∷ lines_of vs j ss) are.0.1 len names (λ more counts d.
+    value-valid ps given vs e widths k (Store w a v ∷ lines_of vs j ss) are.0.1 len names (λ more counts d.
     let wide = Wide-integer qs (widths ++ more) v (type_of e) (types.Integer w) are.0.3 d in
     let next = statements-valid ps given vs ss (widths ++ more) j (subst (λ (ts : List ValueType). well.AreStatements ps ts ss) (append-nil given) are.1) (omega (arith, length-append widths more)) (AreWide-more qs widths more vs given names) in
-    ((address-valid ps a are.0.0, not-one (width_of qs (widths ++ more) v) w wide), subst (λ (ws : List ℕ). AreLines qs ws (lines_of vs j ss)) (sym (append-nil (widths ++ more))) next))
+    ((address-valid ps a are.0.0, wide), next))
 
-pub lines-valid : (ps : List KParam) (ss : List Statement) → well.AreStatements ps [] ss → AreLines (map param_of ps) [] (lines_of [] 0 ss)
+pub lines-valid : (ps : List KParam) (ss : List Statement) → well.AreStatements ps [] ss → AreLines (nothing_before [] (map param_of ps)) (lines_of [] 0 ss)
 unfolding AreWide
 lines-valid ps ss are = statements-valid ps [] [] ss [] 0 are refl tt

@@ -6,9 +6,9 @@ use Rattle.vg_outside.specs.declared.shelf.Shelf as shelf
 use Rattle.vg_top.specs.declared.ending.FileNumber.{FileNumber}
 use Rattle.vg_top.specs.declared.ending.Ending.{Ending}
 use Rattle.vg_top.specs.declared.ending.Ending.TheVariants.{Usage, Instructions, Kernel, Program, Absent, ReadFault, TooLarge, Bindings, Trap, WriteFault, Memory}
-use Rattle.vg_top.specs.Causes.{MayStop, reads_kernel, reads_program, runs}
+use Rattle.vg_top.specs.Causes.{MayStop, reads_instructions, reads_kernel, reads_program, runs}
 use Rattle.vg_top.specs.Request.{Asked, files_of}
-use Rattle.vg_top.specs.Works.{GrewBy, IsReadCount, CountsAbsence, CountsFault, Works, ReadsFile, IsOfFile, IsOfKernel, IsOfProgram, IsOfRun, ending_of}
+use Rattle.vg_top.specs.Works.{GrewBy, IsReadCount, CountsAbsence, CountsFault, Works, ReadsFile, IsOfFile, IsOfInstructions, IsOfKernel, IsOfProgram, IsOfRun, ending_of}
 
 one_more : (n : ℕ) (before middle now : Option ℕ) → n ≤ 9 → GrewBy n before middle → CountsRead middle now → GrewBy (n + 1) before now
 one_more n (Some b) middle now few so_far read = λ small.
@@ -46,7 +46,7 @@ stops_file asked number (ReadFault n) is = tt
 stops_file asked number (TooLarge n) is = tt
 stops_file asked number Memory is = tt
 stops_file asked number Usage is = absurd is
-stops_file asked number (Instructions n) is = absurd is
+stops_file asked number (Instructions n f) is = absurd is
 stops_file asked number (Kernel n f) is = absurd is
 stops_file asked number (Program n f) is = absurd is
 stops_file asked number Bindings is = absurd is
@@ -59,7 +59,7 @@ counts_file files number (ReadFault n) low high is = (ap (λ (m : FileNumber). m
 counts_file files number (TooLarge n) low high is = (ap (λ (m : FileNumber). m.0) (sym is), low, high)
 counts_file files number Memory low high is = high
 counts_file files number Usage low high is = absurd is
-counts_file files number (Instructions n) low high is = absurd is
+counts_file files number (Instructions n f) low high is = absurd is
 counts_file files number (Kernel n f) low high is = absurd is
 counts_file files number (Program n f) low high is = absurd is
 counts_file files number Bindings low high is = absurd is
@@ -92,7 +92,7 @@ IsQuiet e = Unit {0}
 quiet_absence : (before now : ℕ) (e : Option Ending) → IsQuiet e → now ≡ before → CountsAbsence before now e
 quiet_absence before now None quiet same = same
 quiet_absence before now (Some Usage) quiet same = same
-quiet_absence before now (Some (Instructions n)) quiet same = same
+quiet_absence before now (Some (Instructions n f)) quiet same = same
 quiet_absence before now (Some (Kernel n f)) quiet same = same
 quiet_absence before now (Some (Program n f)) quiet same = same
 quiet_absence before now (Some (Absent n)) quiet same = absurd quiet
@@ -106,7 +106,7 @@ quiet_absence before now (Some Memory) quiet same = same
 quiet_fault : (before now : ℕ) (e : Option Ending) → IsQuiet e → now ≡ before → CountsFault before now e
 quiet_fault before now None quiet same = same
 quiet_fault before now (Some Usage) quiet same = same
-quiet_fault before now (Some (Instructions n)) quiet same = same
+quiet_fault before now (Some (Instructions n f)) quiet same = same
 quiet_fault before now (Some (Kernel n f)) quiet same = same
 quiet_fault before now (Some (Program n f)) quiet same = same
 quiet_fault before now (Some (Absent n)) quiet same = same
@@ -130,13 +130,28 @@ ends g asked n before now e h quiet may count = record {
   faults_never_fall = let b = h.faults in omega (arith, b);
 }
 
+-- the instruction file, which is the last that was read, is refused
+pub stops_instructions : {S : Type 0} (g : shelf.Ghosts S) (asked : Asked) (number : FileNumber) (before now : S) (e : Ending)
+    → 1 ≤ number.0 → number.0 ≤ length (files_of asked) → reads_instructions asked ≡ true → HasRead g number.0 before now → IsOfInstructions number e → Works g (Some asked) before now (Some e)
+stops_instructions g asked number before now (Instructions n f) low high reads h is = ends g asked number.0 before now (Some (Instructions n f)) h tt reads (ap (λ (m : FileNumber). m.0) (sym is), low, high)
+stops_instructions g asked number before now Memory low high reads h is = ends g asked number.0 before now (Some Memory) h tt tt high
+stops_instructions g asked number before now Usage low high reads h is = absurd is
+stops_instructions g asked number before now (Kernel n f) low high reads h is = absurd is
+stops_instructions g asked number before now (Program n f) low high reads h is = absurd is
+stops_instructions g asked number before now (Absent n) low high reads h is = absurd is
+stops_instructions g asked number before now (ReadFault n) low high reads h is = absurd is
+stops_instructions g asked number before now (TooLarge n) low high reads h is = absurd is
+stops_instructions g asked number before now Bindings low high reads h is = absurd is
+stops_instructions g asked number before now Trap low high reads h is = absurd is
+stops_instructions g asked number before now WriteFault low high reads h is = absurd is
+
 -- the kernel in the last file that was read is refused
 pub stops_kernel : {S : Type 0} (g : shelf.Ghosts S) (asked : Asked) (number : FileNumber) (before now : S) (e : Ending)
     → 1 ≤ number.0 → number.0 ≤ length (files_of asked) → reads_kernel asked ≡ true → HasRead g number.0 before now → IsOfKernel number e → Works g (Some asked) before now (Some e)
 stops_kernel g asked number before now (Kernel n f) low high reads h is = ends g asked number.0 before now (Some (Kernel n f)) h tt reads (ap (λ (m : FileNumber). m.0) (sym is), low, high)
 stops_kernel g asked number before now Memory low high reads h is = ends g asked number.0 before now (Some Memory) h tt tt high
 stops_kernel g asked number before now Usage low high reads h is = absurd is
-stops_kernel g asked number before now (Instructions n) low high reads h is = absurd is
+stops_kernel g asked number before now (Instructions n f) low high reads h is = absurd is
 stops_kernel g asked number before now (Program n f) low high reads h is = absurd is
 stops_kernel g asked number before now (Absent n) low high reads h is = absurd is
 stops_kernel g asked number before now (ReadFault n) low high reads h is = absurd is
@@ -151,7 +166,7 @@ pub stops_program : {S : Type 0} (g : shelf.Ghosts S) (asked : Asked) (number : 
 stops_program g asked number before now (Program n f) low high reads h is = ends g asked number.0 before now (Some (Program n f)) h tt reads (ap (λ (m : FileNumber). m.0) (sym is), low, high)
 stops_program g asked number before now Memory low high reads h is = ends g asked number.0 before now (Some Memory) h tt tt high
 stops_program g asked number before now Usage low high reads h is = absurd is
-stops_program g asked number before now (Instructions n) low high reads h is = absurd is
+stops_program g asked number before now (Instructions n f) low high reads h is = absurd is
 stops_program g asked number before now (Kernel n f) low high reads h is = absurd is
 stops_program g asked number before now (Absent n) low high reads h is = absurd is
 stops_program g asked number before now (ReadFault n) low high reads h is = absurd is
@@ -167,7 +182,7 @@ stops_run g asked before now Bindings may h is = ends g asked (length (files_of 
 stops_run g asked before now Trap may h is = ends g asked (length (files_of asked)) before now (Some Trap) h tt may refl
 stops_run g asked before now Memory may h is = ends g asked (length (files_of asked)) before now (Some Memory) h tt tt (omega arith)
 stops_run g asked before now Usage may h is = absurd is
-stops_run g asked before now (Instructions n) may h is = absurd is
+stops_run g asked before now (Instructions n f) may h is = absurd is
 stops_run g asked before now (Kernel n f) may h is = absurd is
 stops_run g asked before now (Program n f) may h is = absurd is
 stops_run g asked before now (Absent n) may h is = absurd is

@@ -1,5 +1,5 @@
 -- What may be written for a kernel.
-use Rattle.std.specs.Prelude.{◌≡◌, ℕ, ◌≤◌, List}
+use Rattle.std.specs.Prelude.{◌≡◌, ℕ, ◌≤◌, List, []}
 use Rattle.vg_kernel.specs.Tree.{Tree}
 use Rattle.vg_kernel.specs.Cost.{scalar_cost}
 use Rattle.vg_program.specs.declared.program.Program.{Program}
@@ -12,7 +12,7 @@ use Rattle.vg_top.specs.Means.{Means}
 pub record Answer (k : Tree) (bytes : List ℕ) : Type 0 where
   pub program : Program
   pub text : bytes ≡ text_of program
-  pub valid : IsValid program
+  pub valid : IsValid [] program
   pub means : Means program k
   pub scalar : program.scalar ≡ scalar_cost k
   pub cost : cost_of program ≤ scalar_cost k

@@ -7,7 +7,9 @@ use Rattle.vg_outside.specs.Shelf.{Held}
 use Rattle.vg_kernel.specs.Tree.{Tree}
 use Rattle.vg_kernel.specs.Statements.{kernel_of}
 use Rattle.vg_top.specs.declared.ending.Ending.{Ending}
-use Rattle.vg_top.specs.Files.{first_file, second_file, instructions_limit, kernel_limit, file_of, without_instructions}
+use Rattle.vg_top.specs.Files.{first_file, second_file, instructions_limit, kernel_limit, file_of}
+use Rattle.vg_catalog.specs.Files.{file_of as entries_of}
+use Rattle.vg_top.specs.InstructionFile.{entries_or_refusal}
 use Rattle.vg_top.specs.KernelFile.{kernel_or_refusal}
 use Rattle.vg_top.specs.Answer.{Answer}
 
@@ -18,6 +20,6 @@ Answers bytes k = Answer k bytes.items
 abbrev pub compiled : Held → List ℕ → List ℕ → Result Tree Ending
 compiled held instructions kernel = do
   file ← file_of held first_file instructions instructions_limit
-  without_instructions first_file file (do
-    text ← file_of held second_file kernel kernel_limit
-    kernel_or_refusal second_file (kernel_of text))
+  entries ← entries_or_refusal first_file (entries_of file)
+  text ← file_of held second_file kernel kernel_limit
+  kernel_or_refusal second_file (kernel_of text)

@@ -77,7 +77,7 @@ lines_of names k [] = []
 lines_of names k (assign e ∷ ss) =
     value_lines names k e ++ lines_of (names ++ value_of names k e ∷ []) (k + expression_cost e) ss
 lines_of names k (store w a e ∷ ss) =
-    value_lines names k e ++ Store a (value_of names k e) ∷ lines_of names (k + expression_cost e) ss
+    value_lines names k e ++ Store w a (value_of names k e) ∷ lines_of names (k + expression_cost e) ss
 
 -- the program of a kernel
 abbrev pub program_of : Tree → Program

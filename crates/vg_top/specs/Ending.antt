@@ -6,7 +6,7 @@ use Rattle.vg_top.specs.declared.status.Status.TheVariants as status
 
 abbrev pub status_of : Ending → Status
 status_of Usage = status.Usage
-status_of (Instructions n) = status.InstructionsRefused
+status_of (Instructions n f) = status.InstructionsRefused
 status_of (Kernel n f) = status.KernelRefused
 status_of (Program n f) = status.ProgramRefused
 status_of (Absent n) = status.InputAbsent

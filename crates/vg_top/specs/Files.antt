@@ -1,11 +1,11 @@
 -- The files of a request, where it is known what the shelf holds.
-use Rattle.std.specs.Prelude.{◌≡◌, ℕ, List, length, Option, Some, None, Result, Ok, Err, ◌==◌, nat_le, if◌then◌else◌, Vec}
+use Rattle.std.specs.Prelude.{◌≡◌, ℕ, List, length, Option, Some, None, Result, Ok, Err, nat_le, if◌then◌else◌, Vec}
 use Rattle.std.specs.FinMap.{get}
 use Rattle.std.specs.declared.alloc.Global.{Global}
 use Rattle.vg_outside.specs.Shelf.{Held}
 use Rattle.vg_top.specs.declared.ending.FileNumber.{FileNumber}
 use Rattle.vg_top.specs.declared.ending.Ending.{Ending}
-use Rattle.vg_top.specs.declared.ending.Ending.TheVariants.{Instructions, Absent, ReadFault, TooLarge, WriteFault, Memory}
+use Rattle.vg_top.specs.declared.ending.Ending.TheVariants.{Absent, ReadFault, TooLarge, WriteFault, Memory}
 
 abbrev pub first_file : FileNumber
 first_file = record { 0 = 1 }
@@ -37,11 +37,6 @@ judged n limit (Some file) = if nat_le (length file) limit then Ok file else Err
 
 abbrev pub file_of : Held → FileNumber → List ℕ → ℕ → Result (List ℕ) Ending
 file_of held n name limit = judged n limit (get held name)
-
--- no instruction is read today: the file, which has this number, is empty
-abbrev pub without_instructions : {A : Type 0}
-    → FileNumber → List ℕ → Result A Ending → Result A Ending
-without_instructions n file next = if length file == 0 then next else Err (Instructions n)
 
 -- A result against what the definition says. A fault of the outside and want of memory may come in
 -- its place; counts tell of the first.

@@ -6,6 +6,7 @@ pub mod Emission
 pub mod Ending
 pub mod Eval
 pub mod Files
+pub mod InstructionFile
 pub mod KernelFile
 pub mod Line
 pub mod Means

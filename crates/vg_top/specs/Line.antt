@@ -2,6 +2,8 @@
 use Rattle.std.specs.Prelude.{ℕ, ◌-◌, ◌≤◌, List, [], ◌∷◌, ◌++◌, Option, Some, None, Result, OnOk, OnErr, slice_get, unwrap_or, codes, ◌⊎◌}
 use Rattle.std.specs.Fmt.{decimal}
 use Rattle.vg_text.specs.declared.place.Place.{Place}
+use Rattle.vg_catalog.specs.declared.fault.CatalogFault.{CatalogFault}
+use Rattle.vg_catalog.specs.Faults as catalog
 use Rattle.vg_kernel.specs.declared.fault.KernelFault.{KernelFault}
 use Rattle.vg_kernel.specs.Faults as kernel
 use Rattle.vg_kernel.specs.FaultName as kernel_names
@@ -35,7 +37,7 @@ place_text (Some p) = (codes " at " ++ decimal p.line) ++ (codes ":" ++ decimal 
 -- what it begins with
 abbrev pub head_of : Ending → List ℕ
 head_of Usage = codes "vegen: usage"
-head_of (Instructions n) = codes "vegen: instructions: 0 NotYet at 1:1"
+head_of (Instructions n f) = codes "vegen: instructions: "
 head_of (Kernel n f) = codes "vegen: kernel: "
 head_of (Program n f) = codes "vegen: program: "
 head_of (Absent n) = codes "vegen: absent: "
@@ -45,6 +47,10 @@ head_of Bindings = codes "vegen: bindings"
 head_of Trap = codes "vegen: trap"
 head_of WriteFault = codes "vegen: write fault"
 head_of Memory = codes "vegen: memory"
+
+-- the refusal of an instruction file: its name and its place
+abbrev pub instructions_refusal : CatalogFault → List ℕ
+instructions_refusal f = catalog.name_of_fault f ++ place_text (catalog.place_of_fault f)
 
 -- the refusal of a kernel: its name and its place
 abbrev pub kernel_refusal : KernelFault → List ℕ
@@ -56,6 +62,7 @@ program_refusal f = name_of_fault f ++ (costs_text f ++ place_text (place_of_fau
 
 -- the file that it names, or the refusal
 abbrev pub tail_of : List (List ℕ) → Ending → List ℕ
+tail_of files (Instructions n f) = instructions_refusal f
 tail_of files (Kernel n f) = kernel_refusal f
 tail_of files (Program n f) = program_refusal f
 tail_of files (Absent n) = file_name files n

@@ -1,6 +1,6 @@
 -- What `run` answers, where it is known what the shelf holds: the memory that the program leaves,
 -- or the first refusal. The files are judged one after the other, and behind them the bindings.
-use Rattle.std.specs.Prelude.{◌≡◌, ℕ, List, Option, Some, None, Result, Ok, Err, Vec}
+use Rattle.std.specs.Prelude.{◌≡◌, ℕ, List, [], Option, Some, None, Result, Ok, Err, Vec}
 use Rattle.std.specs.declared.alloc.Global.{Global}
 use Rattle.vg_base.specs.Bind.{◌>>=◌}
 use Rattle.vg_outside.specs.Shelf.{Held}
@@ -8,10 +8,13 @@ use Rattle.vg_program.specs.declared.program.Program.{Program}
 use Rattle.vg_program.specs.declared.program_fault.ProgramFault.{ProgramFault}
 use Rattle.vg_program.specs.Faults.{read}
 use Rattle.vg_program.specs.Meaning.{meaning}
+use Rattle.vg_machine.specs.State.{no_instructions}
 use Rattle.vg_top.specs.declared.ending.FileNumber.{FileNumber}
 use Rattle.vg_top.specs.declared.ending.Ending.{Ending}
 use Rattle.vg_top.specs.declared.ending.Ending.TheVariants.{Program as ProgramRefused, Bindings, Trap}
-use Rattle.vg_top.specs.Files.{first_file, second_file, third_file, instructions_limit, program_limit, memory_limit, file_of, without_instructions}
+use Rattle.vg_top.specs.Files.{first_file, second_file, third_file, instructions_limit, program_limit, memory_limit, file_of}
+use Rattle.vg_catalog.specs.Files.{file_of as entries_of}
+use Rattle.vg_top.specs.InstructionFile.{entries_or_refusal}
 use Rattle.vg_top.specs.Binding.{Binding, InputLists, inputs_of}
 
 -- a fault of the program file, which has this number
@@ -26,7 +29,7 @@ memory_or_trap None = Err Trap
 
 -- what the program leaves of the memory, where the parameters are bound
 abbrev pub left_by : Program → List ℕ → Option InputLists → Result (List ℕ) Ending
-left_by p memory (Some i) = memory_or_trap (meaning p memory i.places i.args)
+left_by p memory (Some i) = memory_or_trap (meaning no_instructions p memory i.places i.args)
 left_by p memory None = Err Bindings
 
 abbrev pub ran_on : List Binding → Program → List ℕ → Result (List ℕ) Ending
@@ -35,11 +38,11 @@ ran_on bindings p memory = left_by p memory (inputs_of bindings p.params)
 abbrev pub ran : Held → List ℕ → List ℕ → List ℕ → List Binding → Result (List ℕ) Ending
 ran held instructions program memory bindings = do
   file ← file_of held first_file instructions instructions_limit
-  without_instructions first_file file (do
-    text ← file_of held second_file program program_limit
-    p ← program_or_refusal second_file (read text)
-    bytes ← file_of held third_file memory memory_limit
-    ran_on bindings p bytes)
+  entries ← entries_or_refusal first_file (entries_of file)
+  text ← file_of held second_file program program_limit
+  p ← program_or_refusal second_file (read [] text)
+  bytes ← file_of held third_file memory memory_limit
+  ran_on bindings p bytes
 
 -- the bytes of a vector are the memory
 abbrev pub AreLeft : Vec ℕ Global → List ℕ → Type 0

@@ -24,7 +24,7 @@ IsLastRead files n number = (n ≡ number.0) × (1 ≤ n) × (n ≤ files)
 abbrev pub IsReadCount : ℕ → ℕ → Option Ending → Type 0
 IsReadCount files n None = n ≡ files
 IsReadCount files n (Some Usage) = n ≡ 0
-IsReadCount files n (Some (Instructions number)) = IsLastRead files n number
+IsReadCount files n (Some (Instructions number f)) = IsLastRead files n number
 IsReadCount files n (Some (Kernel number f)) = IsLastRead files n number
 IsReadCount files n (Some (Program number f)) = IsLastRead files n number
 IsReadCount files n (Some (Absent number)) = IsLastRead files n number
@@ -72,6 +72,12 @@ IsOfFile number (ReadFault n) = n ≡ number
 IsOfFile number (TooLarge n) = n ≡ number
 IsOfFile number Memory = Unit {0}
 IsOfFile number e = ⊥
+
+-- the judging of an instruction file
+abbrev pub IsOfInstructions : FileNumber → Ending → Type 0
+IsOfInstructions number (Instructions n f) = n ≡ number
+IsOfInstructions number Memory = Unit {0}
+IsOfInstructions number e = ⊥
 
 -- the judging of a kernel in a file
 abbrev pub IsOfKernel : FileNumber → Ending → Type 0

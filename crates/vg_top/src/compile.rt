@@ -11,6 +11,7 @@ ghost use Rattle.vg_top.specs.Compile.{compiled, Answers};
 use crate::emission::program_of;
 use crate::ending::{Ending, FileNumber};
 use crate::files::{INSTRUCTIONS_LIMIT, KERNEL_LIMIT, fetch};
+use crate::instruction_file::catalog_of_text;
 use crate::kernel_file::kernel_of_text;
 use std::alloc::Global;
 use vg_outside::Shelf;
@@ -48,9 +49,7 @@ pub fn compile<S: Shelf>(
 {
     let number = FileNumber(1);
     let file = fetch(alloc, shelf, number, instructions, INSTRUCTIONS_LIMIT)?;
-    if !file.is_empty() {
-        return Err(Ending::Instructions(number));
-    }
+    let _catalog = catalog_of_text(alloc, number, file.as_slice())?;
     let text = fetch(alloc, shelf, FileNumber(2), kernel, KERNEL_LIMIT)?;
     program_text(alloc, text.as_slice())
 }

@@ -248,9 +248,14 @@ fn put_statement(
             names.push(value.operand)?;
             Ok(value.registers)
         }
-        KStmt::Store { address, value, .. } => {
+        KStmt::Store {
+            width,
+            address,
+            value,
+        } => {
             let value = put_value(lines, names.as_slice(), registers, value)?;
             let store = Line::Store {
+                width: *width,
                 address: *address,
                 value: value.operand,
             };
@@ -297,7 +302,7 @@ fn scalar_program(alloc: Global, kernel: &Kernel) -> Result<Program, AllocError>
 pub fn program_of(alloc: Global, kernel: &Kernel) -> Result<Program, AllocError>
     requires { IsWellFormed (tree_of kernel.now) }
     ensures program { IfOk result (λ program. program ≡ program_of (tree_of kernel.now)) }
-    ensures valid { IfOk result IsValid }
+    ensures valid { IfOk result (λ p. IsValid [] p) }
 {
     scalar_program(alloc, kernel)
 }

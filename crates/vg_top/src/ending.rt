@@ -4,6 +4,7 @@ ghost use Rattle.std.specs.Prelude.{◌≡◌};
 ghost use Rattle.vg_top.specs.Ending.{status_of};
 
 use crate::status::Status;
+use vg_catalog::CatalogFault;
 use vg_kernel::KernelFault;
 use vg_program::ProgramFault;
 
@@ -16,8 +17,8 @@ pub struct FileNumber(pub u8);
 pub enum Ending {
     /// The words are no request.
     Usage,
-    /// The instruction file, which has this number, is not one that is read today.
-    Instructions(FileNumber),
+    /// The instruction file, which has this number, has this fault.
+    Instructions(FileNumber, CatalogFault),
     /// The kernel file, which has this number, has this fault.
     Kernel(FileNumber, KernelFault),
     /// The program file, which has this number, has this fault.
@@ -45,7 +46,7 @@ impl Ending {
     {
         match self {
             Ending::Usage => Status::Usage,
-            Ending::Instructions(_) => Status::InstructionsRefused,
+            Ending::Instructions(..) => Status::InstructionsRefused,
             Ending::Kernel(..) => Status::KernelRefused,
             Ending::Program(..) => Status::ProgramRefused,
             Ending::Absent(_) => Status::InputAbsent,

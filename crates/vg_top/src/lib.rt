@@ -8,6 +8,7 @@ pub mod emission;
 pub mod ending;
 pub mod eval;
 pub mod files;
+pub mod instruction_file;
 pub mod kernel_file;
 pub mod message;
 pub mod request;

@@ -4,11 +4,12 @@ ghost use Rattle.std.specs.Prelude.{◌≡◌, ◌++◌, ◌∷◌, [], option_m
 ghost use Rattle.std.specs.Fmt.{decimal};
 ghost use Rattle.vg_program.specs.Faults.{place_of_fault};
 ghost use Rattle.vg_top.specs.Request.{files_in, asked_of};
-ghost use Rattle.vg_top.specs.Line.{file_name, place_text, costs_text, kernel_refusal, program_refusal, head_of, tail_of, line_of, Writes, Says};
+ghost use Rattle.vg_top.specs.Line.{file_name, place_text, costs_text, instructions_refusal, kernel_refusal, program_refusal, head_of, tail_of, line_of, Writes, Says};
 
 use crate::ending::{Ending, FileNumber};
 use crate::request::Request;
 use itoa::Buffer;
+use vg_catalog::CatalogFault;
 use vg_kernel::KernelFault;
 use vg_outside::{Sink, SinkFault};
 use vg_program::ProgramFault;
@@ -29,7 +30,7 @@ fn head_of(ending: &Ending) -> &'static [u8]
 {
     match ending {
         Ending::Usage => b"vegen: usage",
-        Ending::Instructions(_) => b"vegen: instructions: 0 NotYet at 1:1",
+        Ending::Instructions(..) => b"vegen: instructions: ",
         Ending::Kernel(..) => b"vegen: kernel: ",
         Ending::Program(..) => b"vegen: program: ",
         Ending::Absent(_) => b"vegen: absent: ",
@@ -122,6 +123,14 @@ fn write_kernel_refusal<E: Sink>(err: &mut E, fault: &KernelFault) -> Result<(),
     write_place(err, fault.place())
 }
 
+#[tactic(auto, using(crate::proofs::Fronts::cut_first, crate::proofs::Fronts::cut_second, crate::proofs::Fronts::appends_both))]
+fn write_instructions_refusal<E: Sink>(err: &mut E, fault: &CatalogFault) -> Result<(), SinkFault>
+    ensures { Writes E.Sink (instructions_refusal fault.now) err.old err.new result }
+{
+    err.write(fault.name().as_bytes())?;
+    write_place(err, fault.place())
+}
+
 /// What stands between the head of the line and its end.
 fn write_tail<E: Sink>(
     err: &mut E,
@@ -132,6 +141,7 @@ fn write_tail<E: Sink>(
         err.old err.new result }
 {
     match ending {
+        Ending::Instructions(_, fault) => write_instructions_refusal(err, fault),
         Ending::Kernel(_, fault) => write_kernel_refusal(err, fault),
         Ending::Program(_, fault) => write_program_refusal(err, fault),
         Ending::Absent(number) => err.write(file_name(request, *number).as_bytes()),

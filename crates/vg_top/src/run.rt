@@ -1,7 +1,8 @@
 //! The command `run`.
 
-ghost use Rattle.std.specs.Prelude.{Some, IfSome, IfErr};
+ghost use Rattle.std.specs.Prelude.{Some, [], IfSome, IfOk, IfErr};
 ghost use Rattle.vg_program.specs.Faults.{read};
+ghost use Rattle.vg_program.specs.Valid.{KeepsRules};
 ghost use Rattle.vg_top.specs.Files.{Tells};
 ghost use Rattle.vg_top.specs.Request.{run as run_asked};
 ghost use Rattle.vg_top.specs.Works.{Works, IsOfProgram, IsOfRun, ending_of};
@@ -11,6 +12,7 @@ ghost use Rattle.vg_top.specs.Run.{ran, ran_on, program_or_refusal, AreLeft, IsP
 use crate::binding::{bind, bindings_of};
 use crate::ending::{Ending, FileNumber};
 use crate::files::{INSTRUCTIONS_LIMIT, MEMORY_LIMIT, PROGRAM_LIMIT, fetch};
+use crate::instruction_file::catalog_of_text;
 use std::alloc::Global;
 use vg_machine::{Machine, Outcome};
 use vg_outside::{Bytes, Shelf};
@@ -18,10 +20,11 @@ use vg_program::{Program, ProgramFault, parse_program};
 
 /// The program of the text of the request's file of this number.
 fn program_of_text(alloc: Global, number: FileNumber, text: &[u8]) -> Result<Program, Ending>
-    ensures told { Tells IsProgram result (program_or_refusal number (read text.now)) }
+    ensures told { Tells IsProgram result (program_or_refusal number (read [] text.now)) }
     ensures refusal { IfErr result (IsOfProgram number) }
+    ensures rules { IfOk result (λ p. KeepsRules [] p) }
 {
-    match parse_program(alloc, text) {
+    match parse_program(alloc, text, &[]) {
         Ok(program) => Ok(program),
         Err(ProgramFault::Memory(_)) => Err(Ending::Memory),
         Err(fault) => Err(Ending::Program(number, fault)),
@@ -35,6 +38,7 @@ fn run_on(
     memory: Vec<u8>,
     words: &[Bytes],
 ) -> Result<Vec<u8>, Ending>
+    requires { KeepsRules [] program.now }
     ensures told { Tells AreLeft result
         (ran_on (bindings_in words.now) program.now memory.items) }
     ensures refusal { IfErr result IsOfRun }
@@ -81,9 +85,7 @@ pub fn run<S: Shelf>(
 {
     let first = FileNumber(1);
     let file = fetch(alloc, shelf, first, instructions, INSTRUCTIONS_LIMIT)?;
-    if !file.is_empty() {
-        return Err(Ending::Instructions(first));
-    }
+    let _catalog = catalog_of_text(alloc, first, file.as_slice())?;
     let second = FileNumber(2);
     let text = fetch(alloc, shelf, second, program, PROGRAM_LIMIT)?;
     let program = program_of_text(alloc, second, text.as_slice())?;

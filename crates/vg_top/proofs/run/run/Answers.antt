@@ -1,7 +1,7 @@
 use Rattle.std.proofs.Common.{arith, refl}
 use Rattle.std.proofs.lemmas.Result.{err_from_is_err_and}
 use Rattle.vg_top.specs.Files.{first_file, second_file, third_file}
-use Rattle.vg_top.proofs.Works.{begins, reads_on, stops_at, stops_program, run_last}
+use Rattle.vg_top.proofs.Works.{begins, reads_on, stops_at, stops_instructions, stops_program, run_last}
 use Rattle.vg_top.proofs.run.run.Goals as goal
 
 pub returns-in_err-file-clause-shelf : goal.returns-in_err-file-clause-shelf
@@ -40,3 +40,10 @@ returns-clause-shelf g c =
     let two = reads_on s 1 second_file _ _ _ (omega arith) one c.in_ok-text.ensures.shelf in
     let three = reads_on s 2 third_file _ _ _ (omega arith) two c.in_ok-memory.ensures.shelf in
     run_last s _ _ _ _ refl three c.run_on.ensures.refusal
+
+pub returns-in_err-_catalog-clause-shelf : goal.returns-in_err-_catalog-clause-shelf
+returns-in_err-_catalog-clause-shelf g c =
+    let s = g.S.Shelf in
+    let same = err_from_is_err_and c.from_residual-in_err-_catalog.result c.from_residual-in_err-_catalog.ensures.1 in
+    let one = reads_on s 0 first_file _ _ _ (omega arith) (begins s c.args.shelf.now) c.in_ok-file.ensures.shelf in
+    rw (same.1, same.2) (stops_instructions s _ first_file _ _ _ (omega arith) (omega arith) refl one c.in_err-_catalog.ensures.refusal)
