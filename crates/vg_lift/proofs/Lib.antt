@@ -1,0 +1,11 @@
+pub mod Stands
+pub mod Gathering
+pub mod Joining
+pub mod Holding
+pub mod Entering
+pub mod Lifting
+pub mod Lanes
+pub mod Inside
+pub mod Nodes
+pub mod JoinSteps
+pub mod StateSteps

@@ -1,0 +1,15 @@
+//! The terms of the lanes of instances.
+//!
+//! `specs/LaneTerm.antt` says what the term of a lane is, over `specs/Gather.antt` and
+//! `specs/Join.antt`, and `specs/Means.antt` that its value is the lane.
+#![tactic(auto)]
+
+pub mod bit;
+pub mod gather;
+pub mod join;
+pub mod join_states;
+pub mod law;
+pub mod run;
+pub mod state;
+
+pub use law::{lane_terms_mean_their_lanes, leaves_are_parameters};

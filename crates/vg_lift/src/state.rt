@@ -1,0 +1,98 @@
+//! The registers and variables of a body, as bits and nodes.
+
+ghost use Rattle.std.specs.Prelude.{◌≡◌, ◌+◌, ◌++◌, ◌<◌, ◌≤◌, [], IfOk, OnOk, length, get_or, set};
+ghost use Rattle.vg_bits.specs.Range.{range, replaced};
+ghost use Rattle.vg_pool.specs.Pool.{Keeps, StandsFor, tree_at};
+ghost use Rattle.vg_lift.specs.Join.{join_registers, join_variables};
+ghost use Rattle.vg_lift.specs.LaneTerm.{joined};
+ghost use Rattle.vg_lift.specs.States.{AllFit, AreNodes, StateFits, state_of, widths_in};
+ghost use Rattle.vg_lift.specs.Views.{BitsFit, IsNode, bits_of};
+
+use crate::bit::Bit;
+use crate::join::join;
+use std::alloc::{AllocError, Global};
+use vg_base::Items;
+use vg_pool::{Pool, pool_is_shared};
+
+/// The bits of each register, lowest first, and the node of 128 bits of each variable.
+#[derive(Debug, Drop)]
+pub struct State {
+    pub(crate) registers: Vec<Items<Bit>>,
+    pub(crate) variables: Vec<usize>,
+}
+
+/// A list with these bits in the place of as many from a bit on.
+fn replace_bits(
+    alloc: Global,
+    bits: &[Bit],
+    low: usize,
+    new: &[Bit],
+) -> Result<Items<Bit>, AllocError>
+    requires { low + length new.now ≤ length bits.now }
+    ensures { IfOk result (λ v. v ≡ replaced low new.now bits.now) }
+{
+    let mut all = Vec::with_capacity(alloc, bits.len())?;
+    all.extend_from_slice(&bits[..low])?;
+    all.extend_from_slice(new)?;
+    all.extend_from_slice(&bits[low + new.len()..])?;
+    Ok(Items::from_vec(all))
+}
+
+/// A copy of a list.
+pub(crate) fn copy_bits(alloc: Global, bits: &[Bit]) -> Result<Items<Bit>, AllocError>
+    ensures { IfOk result (λ v. v ≡ bits.now) }
+{
+    let mut all = Vec::with_capacity(alloc, bits.len())?;
+    all.extend_from_slice(bits)?;
+    Ok(Items::from_vec(all))
+}
+
+impl State {
+    /// So many bits of a register from a bit on.
+    pub(crate) fn slice(&self, register: usize, low: usize, width: usize) -> &[Bit]
+        requires { low + width ≤ length (get_or self.now.registers.items register []) }
+        ensures { result.now ≡ range low width (get_or self.now.registers.items register []) }
+    {
+        match self.registers.get(register) {
+            None => &[],
+            Some(bits) => &bits.as_slice()[low..low + width],
+        }
+    }
+
+    /// So many bits of a register from a bit on become these.
+    pub(crate) fn put(
+        &mut self,
+        alloc: Global,
+        register: usize,
+        low: usize,
+        new: &[Bit],
+    ) -> Result<(), AllocError>
+        requires { low + length new.now ≤ length (get_or self.old.registers.items register []) }
+        ensures registers { OnOk result (self.new.registers.items ≡ set self.old.registers.items register
+            (replaced low new.now (get_or self.old.registers.items register []))) }
+        ensures variables { self.new.variables.items ≡ self.old.variables.items }
+    {
+        if let Some(bits) = self.registers.get_mut(register) {
+            let all = replace_bits(alloc, bits.as_slice(), low, new)?;
+            *bits = all;
+        }
+        Ok(())
+    }
+
+    /// A copy.
+    pub(crate) fn copy(&self, alloc: Global) -> Result<State, AllocError>
+        ensures registers { IfOk result (λ s. s.registers.items ≡ self.now.registers.items) }
+        ensures variables { IfOk result (λ s. s.variables.items ≡ self.now.variables.items) }
+    {
+        let mut registers = Vec::with_capacity(alloc, self.registers.len())?;
+        'registers: for register in self.registers.as_slice() {
+            registers.push(copy_bits(alloc, register.as_slice())?)?;
+        }
+        let mut variables = Vec::with_capacity(alloc, self.variables.len())?;
+        variables.extend_from_slice(self.variables.as_slice())?;
+        Ok(State {
+            registers,
+            variables,
+        })
+    }
+}
