@@ -1,1 +1,4 @@
+pub mod Description
+pub mod Lane
+pub mod Leaves
 pub mod Registers
