@@ -1,6 +1,6 @@
 -- Descriptions of instances, without the places of their terms in memory.
 use Rattle.std.specs.Prelude.{◌≡◌, ℕ, ◌*◌, Bool, false, List, length, map, flat_map, Option}
-use Rattle.std.specs.List.{All, list_any}
+use Rattle.std.specs.List.{AllByRecursion, list_any}
 use Rattle.vg_terms.specs.Term.{Tree, WellFormed, tree, width_of}
 use Rattle.vg_shapes.specs.declared.description.Description as declared
 use Rattle.vg_shapes.specs.Leaves.{is_odd, leaves, some_clash}
@@ -37,6 +37,6 @@ pub record IsLane (params : List ℕ) (width : ℕ) (t : Tree) : Type 0 where
 -- two of one parameter overlap without being equal.
 pub record IsPackable (d : Description) : Type 0 where
   pub fill : length d.lanes * d.lane_width ≡ d.register
-  pub lanes : All (IsLane d.params d.lane_width) d.lanes
+  pub lanes : AllByRecursion (IsLane d.params d.lane_width) d.lanes
   pub even : list_any is_odd (flat_map leaves d.lanes) ≡ false
   pub apart : some_clash (flat_map leaves d.lanes) ≡ false

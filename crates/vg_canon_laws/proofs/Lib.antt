@@ -1,0 +1,5 @@
+pub mod Kept
+pub mod Sums
+pub mod Widths
+pub mod Choices
+pub mod Leaves
