@@ -1,0 +1,10 @@
+pub mod Disjoint
+pub mod Lists
+pub mod Members
+pub mod Onto
+pub mod Optimal
+pub mod Plain
+pub mod Plans
+pub mod Reach
+pub mod Running
+pub mod Sorting
