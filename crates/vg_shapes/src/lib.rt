@@ -6,6 +6,7 @@
 //! which, and `specs/Order.antt` which orders are legal.
 #![tactic(auto)]
 
+pub mod access;
 pub mod lane;
 pub mod lanes;
 pub mod law;
@@ -18,6 +19,7 @@ pub mod ssa;
 pub mod unit;
 pub mod wanted;
 
+pub use access::Access;
 pub use lane::Lane;
 pub use lanes::Lanes;
 pub use law::leaves_read_registers;
