@@ -1,11 +1,12 @@
 -- Which units depend on which.
-use Rattle.std.specs.Prelude.{ℕ, zero, suc, ◌+◌, ◌||◌, ◌&&◌, not, Bool, true, false, List, [], ◌∷◌, ◌++◌, map, filter, length, Option, Some, None, pos, ◌+ℤ◌, nat_eq, nat_lt, int_lt, if◌then◌else◌}
-use Rattle.std.specs.List.{list_any}
+use Rattle.std.specs.Prelude.{ℕ, zero, suc, ◌+◌, ◌||◌, ◌&&◌, not, Bool, true, false, List, [], ◌∷◌, map, filter, length, Option, Some, None, pos, ◌+ℤ◌, nat_eq, nat_lt, int_lt, if◌then◌else◌}
+use Rattle.std.specs.List.{flat_map}
+use Rattle.std.specs.Option.{option_map_or}
 use Rattle.vg_shapes.specs.declared.access.Access.{Access}
 use Rattle.vg_shapes.specs.declared.ssa.Ssa.{Ssa}
-use Rattle.vg_shapes.specs.declared.unit.Unit.{Unit as Work}
 use Rattle.vg_shapes.specs.Layout.{access_at, is_noalias}
-use Rattle.vg_shapes.specs.Units.{arguments, is_unit, unit_at, uses_of}
+use Rattle.vg_shapes.specs.Order.{numbers_from}
+use Rattle.vg_shapes.specs.Units.{arguments, is_unit, unit_at, uses_value}
 
 -- two accesses through one pointer share a byte
 abbrev pub overlap : Access → Access → Bool
@@ -32,10 +33,9 @@ conflict_of ssa (Some x) (Some y) = conflict ssa x y
 abbrev pub conflict_at : Ssa → ℕ → ℕ → Bool
 conflict_at ssa x y = conflict_of ssa (access_at ssa x) (access_at ssa y)
 
--- a unit uses the value of this number
-abbrev pub uses : Option Work → ℕ → Bool
-uses None v = false
-uses (Some u) v = list_any (λ x. nat_eq x v) (uses_of u)
+-- the unit of one number uses the value of another
+abbrev pub uses_at : Ssa → ℕ → ℕ → Bool
+uses_at ssa v x = option_map_or (uses_value x) (unit_at ssa v) false
 
 -- A unit depends on an earlier unit: it uses its value, or both are accesses, one of them writes,
 -- and they may share a byte.
@@ -43,7 +43,7 @@ abbrev pub depends_on : Ssa → ℕ → ℕ → Bool
 depends_on ssa later earlier =
     is_unit ssa earlier
     && (nat_lt earlier later
-    && (uses (unit_at ssa later) earlier || conflict_at ssa earlier later))
+    && (uses_at ssa later earlier || conflict_at ssa earlier later))
 
 -- the numbers below this one, falling
 abbrev pub numbers_below : ℕ → List ℕ
@@ -54,12 +54,8 @@ numbers_below (suc n) = n ∷ numbers_below n
 abbrev pub depended : Ssa → ℕ → List ℕ
 depended ssa v = filter (depends_on ssa v) (numbers_below v)
 
--- so many units from this one on, each with each unit on which it depends
-abbrev pub dependences_from : Ssa → ℕ → ℕ → List (ℕ × ℕ)
-dependences_from ssa v zero = []
-dependences_from ssa v (suc n) =
-    map (λ x. (v, x)) (depended ssa v) ++ dependences_from ssa (v + 1) n
-
 -- each unit with each unit on which it depends
 abbrev pub dependences : Ssa → List (ℕ × ℕ)
-dependences ssa = dependences_from ssa 0 (arguments ssa + length ssa.units)
+dependences ssa =
+    flat_map (λ v. map (λ x. (v, x)) (depended ssa v))
+    (numbers_from 0 (arguments ssa + length ssa.units))

@@ -1,6 +1,9 @@
+pub mod DepList
 pub mod Depends
 pub mod Layout
+pub mod Nodes
 pub mod Order
+pub mod Pack
 pub mod Registers
 pub mod RunUnits
 pub mod Sound

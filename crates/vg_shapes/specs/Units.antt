@@ -1,5 +1,5 @@
 -- The units of a kernel: their numbers, and what they take.
-use Rattle.std.specs.Prelude.{ℕ, ◌+◌, ◌-◌, List, [], ◌∷◌, ◌++◌, length, filter, Bool, true, false, Option, Some, None, slice_get, nat_lt, if◌then◌else◌}
+use Rattle.std.specs.Prelude.{ℕ, ◌-◌, List, length, filter, Bool, true, false, ◌||◌, Option, Some, None, slice_get, nat_eq, nat_lt, if◌then◌else◌}
 use Rattle.std.specs.Option.{is_some}
 use Rattle.vg_shapes.specs.declared.ssa.SsaParam.{SsaParam}
 use Rattle.vg_shapes.specs.declared.ssa.SsaParamKind.{SsaParamKind}
@@ -16,8 +16,11 @@ is_integer (Pointer noalias) = false
 is_integer (Integer w) = true
 
 -- the parameters that are integers, in order
+abbrev pub integers_of : List SsaParam → List SsaParam
+integers_of params = filter (λ p. is_integer p.kind) params
+
 abbrev pub integers : Ssa → List SsaParam
-integers ssa = filter (λ p. is_integer p.kind) ssa.params
+integers ssa = integers_of ssa.params
 
 -- how many there are; they have the first numbers
 abbrev pub arguments : Ssa → ℕ
@@ -30,18 +33,18 @@ unit_at ssa v = if nat_lt v (arguments ssa) then None else slice_get ssa.units (
 abbrev pub is_unit : Ssa → ℕ → Bool
 is_unit ssa v = is_some (unit_at ssa v)
 
--- the value that is wanted, if one is
-abbrev pub value_of : Wanted → List ℕ
-value_of (Value v) = v ∷ []
-value_of (Constant w n) = []
-value_of Nothing = []
+-- an operand is the value of this number
+abbrev pub is_value : ℕ → Wanted → Bool
+is_value v (Value x) = nat_eq x v
+is_value v (Constant w n) = false
+is_value v Nothing = false
 
--- the values among operands
-abbrev pub values_of : Operands → List ℕ
-values_of xs = value_of xs.first ++ (value_of xs.second ++ value_of xs.third)
+-- the value of this number is among operands
+abbrev pub is_among : ℕ → Operands → Bool
+is_among v xs = is_value v xs.first || (is_value v xs.second || is_value v xs.third)
 
--- the values that a unit uses
-abbrev pub uses_of : Work → List ℕ
-uses_of (Load a w) = []
-uses_of (Store a w x) = value_of x
-uses_of (Operation op w k xs) = values_of xs
+-- a unit uses the value of this number
+abbrev pub uses_value : ℕ → Work → Bool
+uses_value v (Load a w) = false
+uses_value v (Store a w x) = is_value v x
+uses_value v (Operation op w k xs) = is_among v xs

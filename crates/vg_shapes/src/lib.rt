@@ -7,6 +7,7 @@
 #![tactic(auto)]
 
 pub mod access;
+pub mod dep_list;
 pub mod lane;
 pub mod lanes;
 pub mod law;
@@ -20,6 +21,7 @@ pub mod unit;
 pub mod wanted;
 
 pub use access::Access;
+pub use dep_list::DepList;
 pub use lane::Lane;
 pub use lanes::Lanes;
 pub use law::leaves_read_registers;

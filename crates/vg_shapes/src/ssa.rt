@@ -1,5 +1,8 @@
 //! A kernel as numbered values.
 
+ghost use Rattle.std.specs.Prelude.{◌≡◌, length};
+ghost use Rattle.vg_shapes.specs.Units.{arguments, integers_of, is_integer};
+
 use crate::unit::Unit;
 use vg_base::{Items, Name, Width};
 use vg_terms::Term;
@@ -32,4 +35,31 @@ pub struct Ssa {
     pub units: Items<Unit>,
     /// For each number the term of its value.
     pub terms: Items<Term>,
+}
+
+impl SsaParamKind {
+    pub fn is_integer(self) -> bool
+        ensures { result ≡ is_integer self }
+    {
+        match self {
+            SsaParamKind::Pointer { .. } => false,
+            SsaParamKind::Integer(_) => true,
+        }
+    }
+}
+
+// How many of the parameters are integers.
+fn count_integers(params: &[SsaParam]) -> usize
+    ensures { result ≡ length (integers_of params.now) }
+{
+    params.iter().filter(|p| p.kind.is_integer()).count()
+}
+
+impl Ssa {
+    /// The number of integer parameters, which is the number of the first unit.
+    pub fn arguments(&self) -> usize
+        ensures { result ≡ arguments self.now }
+    {
+        count_integers(self.params.as_slice())
+    }
 }

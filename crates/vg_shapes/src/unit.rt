@@ -1,5 +1,10 @@
 //! The loads, operations and stores of a kernel.
 
+ghost use Rattle.std.specs.Prelude.{◌≡◌};
+ghost use Rattle.vg_shapes.specs.Layout.{access_of};
+ghost use Rattle.vg_shapes.specs.Units.{is_among, uses_value};
+
+use crate::access::Access;
 use crate::wanted::Wanted;
 use vg_base::{Address, Width};
 use vg_scalar::{Comparison, Resize, Shift, TwoOp};
@@ -49,4 +54,45 @@ pub enum Unit {
         amount: u32,
         operands: Operands,
     },
+}
+
+impl Unit {
+    /// What a load reads, and what a store writes.
+    pub fn access(&self) -> Option<Access>
+        ensures { result ≡ access_of self.now }
+    {
+        match *self {
+            Unit::Load { address, width } => Some(Access {
+                address,
+                size: width.size(),
+                writes: false,
+            }),
+            Unit::Store { address, width, .. } => Some(Access {
+                address,
+                size: width.size(),
+                writes: true,
+            }),
+            Unit::Operation { .. } => None,
+        }
+    }
+
+    /// Whether it uses the value of this number.
+    pub fn uses(&self, value: u32) -> bool
+        ensures { result ≡ uses_value value self.now }
+    {
+        match self {
+            Unit::Load { .. } => false,
+            Unit::Store { value: stored, .. } => stored.is_value(value),
+            Unit::Operation { operands, .. } => operands.has(value),
+        }
+    }
+}
+
+impl Operands {
+    // Whether the value of this number is among them.
+    fn has(&self, value: u32) -> bool
+        ensures { result ≡ is_among value self.now }
+    {
+        self.first.is_value(value) || self.second.is_value(value) || self.third.is_value(value)
+    }
 }
