@@ -1,4 +1,13 @@
+pub mod DepList
+pub mod Depends
 pub mod Description
 pub mod Lane
+pub mod Layout
 pub mod Leaves
+pub mod Nodes
+pub mod Order
+pub mod Pack
 pub mod Registers
+pub mod RunUnits
+pub mod Sound
+pub mod Units

@@ -1,0 +1,6 @@
+pub mod Accesses
+pub mod Commuting
+pub mod Legal
+pub mod Runs
+pub mod Sequences
+pub mod Traps

@@ -1,0 +1,18 @@
+//! Packs: units that one vector line does together.
+
+use crate::lanes::Lanes;
+
+/// Units that one vector line does together, named by their numbers, lane 0 first.
+#[derive(Drop)]
+pub enum Pack {
+    /// Stores that stand beside each other in memory.
+    Stores(Lanes<u32>),
+    /// Loads that stand beside each other in memory.
+    Loads(Lanes<u32>),
+    /// A call of an instruction, by the number of its description, and for each lane the operation
+    /// that it computes, if any.
+    Call {
+        description: u32,
+        lanes: Lanes<Option<u32>>,
+    },
+}

@@ -1,0 +1,65 @@
+//! A kernel as numbered values.
+
+ghost use Rattle.std.specs.Prelude.{◌≡◌, length};
+ghost use Rattle.vg_shapes.specs.Units.{arguments, integers_of, is_integer};
+
+use crate::unit::Unit;
+use vg_base::{Items, Name, Width};
+use vg_terms::Term;
+
+/// What a parameter is.
+#[derive(Clone, Copy, Debug, PartialEq, Eq)]
+pub enum SsaParamKind {
+    /// A place in memory. What is written through a pointer that is `noalias` is reached through no
+    /// other.
+    Pointer { noalias: bool },
+    /// An integer of this width.
+    Integer(Width),
+}
+
+/// A parameter of a kernel.
+#[derive(Debug, Drop)]
+pub struct SsaParam {
+    pub name: Name,
+    pub kind: SsaParamKind,
+}
+
+/// A kernel as numbered values. The integer parameters are numbered first, from 0, then the units in
+/// the order in which they run.
+#[derive(Debug, Drop)]
+pub struct Ssa {
+    pub name: Name,
+    /// At most 16, with names that differ.
+    pub params: Items<SsaParam>,
+    /// The loads, operations and stores, at most 12,288.
+    pub units: Items<Unit>,
+    /// For each number the term of its value.
+    pub terms: Items<Term>,
+}
+
+impl SsaParamKind {
+    pub fn is_integer(self) -> bool
+        ensures { result ≡ is_integer self }
+    {
+        match self {
+            SsaParamKind::Pointer { .. } => false,
+            SsaParamKind::Integer(_) => true,
+        }
+    }
+}
+
+// How many of the parameters are integers.
+fn count_integers(params: &[SsaParam]) -> usize
+    ensures { result ≡ length (integers_of params.now) }
+{
+    params.iter().filter(|p| p.kind.is_integer()).count()
+}
+
+impl Ssa {
+    /// The number of integer parameters, which is the number of the first unit.
+    pub fn arguments(&self) -> usize
+        ensures { result ≡ arguments self.now }
+    {
+        count_integers(self.params.as_slice())
+    }
+}
