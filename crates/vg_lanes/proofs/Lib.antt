@@ -1,0 +1,3 @@
+pub mod Clashes
+pub mod Lanes
+pub mod Kept

@@ -1,0 +1,5 @@
+pub mod Cause
+pub mod Described
+pub mod Formed
+pub mod Listing
+pub mod Noted

@@ -1,0 +1,15 @@
+//! Descriptions of instances: the canonical terms of their lanes, or why packs cannot call them.
+//!
+//! `specs/Described.antt` says what becomes of the lanes of an instance.
+#![tactic(auto)]
+
+mod canonical_lanes;
+pub mod cause;
+pub mod described;
+mod first_cause;
+mod lane_leaves;
+pub mod listing;
+
+pub use cause::Cause;
+pub use described::{Described, describe};
+pub use listing::list_instance;
