@@ -1,3 +1,4 @@
 pub mod Clashes
+pub mod Inside
 pub mod Lanes
 pub mod Kept

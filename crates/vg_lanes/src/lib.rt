@@ -7,9 +7,11 @@ mod canonical_lanes;
 pub mod cause;
 pub mod described;
 mod first_cause;
+pub mod fitting;
 mod lane_leaves;
 pub mod listing;
 
 pub use cause::Cause;
 pub use described::{Described, describe};
+pub use fitting::are_lanes;
 pub use listing::list_instance;
