@@ -9,7 +9,7 @@ use Rattle.vg_pseudo.specs.Value.{count}
 use Rattle.vg_script.specs.Script.{Word, Script}
 use Rattle.vg_script.specs.Views.{script_of, word_of}
 use Rattle.vg_interval.specs.declared.fault.RangeFault.{RangeFault}
-use Rattle.vg_interval.specs.Found.{Operand}
+use Rattle.vg_interval.specs.Found.{Operand, fixed, moving}
 use Rattle.vg_interval.specs.Judge.{Count, judge, spot_of, step}
 use Rattle.vg_interval.specs.Views.{Condition, always, tested, count_view, kept_view}
 use Rattle.vg_range.specs.Seen.{stand_view, tested_at}
@@ -20,6 +20,8 @@ use Rattle.vg_range.specs.declared.ways.Met as ways_met
 use Rattle.vg_range.specs.declared.ways.Met.TheVariants as m
 use Rattle.vg_range.specs.declared.arms.ArmTaken as taken_arms
 use Rattle.vg_range.specs.declared.arms.Arms as found_arms
+use Rattle.vg_range.specs.declared.selector.Selector as selecting
+use Rattle.vg_range.specs.declared.selector.Selector.TheVariants as s
 
 -- a turn of a FOR, which is a step
 abbrev pub turn_at : Course → Place → Code → ℤ → Stand → Result Stand RangeFault
@@ -115,6 +117,10 @@ arms_picked x arms y w = arms_found x arms w >>= λ g. Ok (picked_by x y w g.0 g
 abbrev pub picked : Course → Code → Stand → Operand → Result Stand RangeFault
 picked x arms w a = arms_of x w a (arm_taken x arms) (all_arms x arms)
 
+abbrev pub selector_view : selecting.Selector → Operand
+selector_view (s.Fixed z) = fixed z
+selector_view (s.Moving i y) = moving i (word_of y.value)
+
 -- What is found so far, in memory: there the last is at the end.
 abbrev pub way_view : taken_ways.WayTaken → Word × Script
 way_view w = (word_of w.condition, script_of w.body)
@@ -126,8 +132,8 @@ ways_view w = record {
 }
 
 abbrev pub met_view : ways_met.Met → Met
-met_view (m.Further found n) = further (ways_view found) (count_view n)
-met_view (m.Final found w) = final (ways_view found) (stand_view w.value)
+met_view (m.Further found n) = further (ways_view found.value) (count_view n)
+met_view (m.Final found w) = final (ways_view found.value) (stand_view w.value)
 
 abbrev pub arm_view : taken_arms.ArmTaken → ℕ × Script
 arm_view a = (a.number, script_of a.body)

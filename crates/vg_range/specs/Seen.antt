@@ -1,8 +1,10 @@
 -- What a walk has in memory, as its definition speaks of it.
-use Rattle.std.specs.Prelude.{ℕ, ◌%◌, ◌^◌, ◌∷◌, set, Option, Some, None, pos, List, [], ◌++◌, map, Result, Ok, if◌then◌else◌}
+use Rattle.std.specs.Prelude.{ℕ, Bool, ◌%◌, ◌^◌, ◌∷◌, set, Option, Some, None, pos, List, [], ◌++◌, map, Result, Ok, if◌then◌else◌}
 use Rattle.std.specs.Ordering.{int_eq}
 use Rattle.vg_base.specs.Bind.{◌>>=◌}
 use Rattle.vg_pseudo.specs.declared.spot.Spot.{Spot}
+use Rattle.vg_pseudo.specs.declared.operators.UnaryOp.{UnaryOp}
+use Rattle.vg_pseudo.specs.declared.operators.BinaryOp.{BinaryOp}
 use Rattle.vg_text.specs.declared.place.Place.{Place}
 use Rattle.vg_pseudo.specs.Value.{count}
 use Rattle.vg_pseudo.specs.Resolved.{Expr, Function, Code, assign, skip, repeat, choose, pick}
@@ -10,16 +12,18 @@ use Rattle.std.specs.Option.{option_map}
 use Rattle.vg_script.specs.Script.{Word, Given, Script, frame, stop}
 use Rattle.vg_script.specs.Script as script
 use Rattle.vg_interval.specs.Found as found
-use Rattle.vg_script.specs.Views.{number_of, script_of}
+use Rattle.vg_script.specs.Views.{number_of, script_of, word_of}
 use Rattle.vg_names.specs.Views.{function_view}
 use Rattle.vg_interval.specs.declared.fault.RangeFault.{RangeFault}
 use Rattle.vg_interval.specs.Found.{Found, Operand, operand, plain, Passed, computed, passed, answered}
-use Rattle.vg_interval.specs.Judge.{Sight, Kept, Count, Judges, branch, judge, spot_of, step, bits_of_element}
+use Rattle.vg_interval.specs.Judge.{Sight, Kept, Count, Index, Judges, branch, judge, spot_of, step, bits_of_element, index_of, slice_at, element_at, unary_at, binary_at}
 use Rattle.vg_interval.specs.Views.{Condition, always, tested, condition_at, either, bits_view, count_view, kept_view}
 use Rattle.vg_range.specs.Walk.{Course, Goal, Stand, walks_from, at_count, judged, constant_at, turns_at, in_turn, walk, walk_ways, no_ways, arms_of, arm_taken, all_arms, assign_at, goal, width_in, zeros, constant_passed, given_of}
 use Rattle.vg_range.specs.declared.course.Course as seeing
 use Rattle.vg_range.specs.declared.stand.Stand as standing
 use Rattle.vg_range.specs.declared.goal.Goal as goals
+use Rattle.vg_range.specs.declared.decision.Decision as deciding
+use Rattle.vg_range.specs.declared.decision.Decision.TheVariants as d
 
 abbrev pub sight_view : seeing.Course → Sight
 sight_view x = record {
@@ -62,6 +66,33 @@ either_of y s first t second c = do
   a ← branch s first c
   b ← branch t second a.1
   Ok (either y a.0 b.0, b.1)
+
+-- what is left of the uses of expressions, behind the last expression in them: here it is known
+abbrev pub slice_behind : Sight → Spot → Bool → ℕ → Option ℕ → Index → Spot → Found → Count → Result (Found × Count) RangeFault
+slice_behind s p is_signed r n high t g c =
+    index_of t g >>= λ low. slice_at s p.inner is_signed r n high low c
+
+abbrev pub element_behind : Sight → Spot → Bool → ℕ → ℕ → Spot → Found → Count → Result (Found × Count) RangeFault
+element_behind s p is_signed r size t f c =
+    index_of t f >>= λ index. element_at s p.inner is_signed r size index c
+
+abbrev pub unary_behind : Spot → UnaryOp → Spot → Found → Count → Result (Found × Count) RangeFault
+unary_behind p op t f c = unary_at p op t f >>= λ g. Ok (g, c)
+
+abbrev pub binary_behind : Spot → BinaryOp → Operand → Spot → Found → Count → Result (Found × Count) RangeFault
+binary_behind p op a t g c = operand t g >>= λ b. binary_at p op t a b c
+
+abbrev pub plain_behind : Spot → Found → Count → Result (Found × Count) RangeFault
+plain_behind t f c = plain_of (operand t f >>= λ a. Ok (a, c))
+
+abbrev pub either_behind : Word → Operand → Spot → Found → Count → Result (Found × Count) RangeFault
+either_behind y a t g c = do
+  b ← branch t (λ n. Ok (g, n)) c
+  Ok (either y a b.0, b.1)
+
+abbrev pub decision_view : deciding.Decision → Condition
+decision_view (d.Always z) = always z
+decision_view (d.Tested y) = tested (word_of y.value)
 
 -- what a condition says, with the counts behind it
 abbrev pub tested_at : Spot → Result (Found × Count) RangeFault → Result (Condition × Count) RangeFault

@@ -37,20 +37,20 @@ pub struct Arms {
 }
 
 /// No arm is found yet.
-pub fn no_arms(alloc: Global, stand: &Stand) -> Result<Arms, AllocError>
-    ensures { IfOk result (λ a. arms_view a ≡ no_arms (stand_view stand.now)) }
+#[inline(never)]
+pub fn no_arms(alloc: Global, stand: &Stand) -> Result<Box<Arms>, AllocError>
+    ensures { IfOk result (λ a. arms_view a.value ≡ no_arms (stand_view stand.now)) }
 {
     let joined = stand.numbers.clone()?;
-    Ok(Arms {
+    let arms = Arms {
         scripts: Vec::new(alloc),
         joined,
-    })
+    };
+    Ok(Box::new(alloc, arms)?)
 }
 
-/// One arm more.
-#[inline(never)]
 #[tactic(auto, using(crate::proofs::Lists::view_last))]
-pub fn with_arm(
+fn with_arm(
     alloc: Global,
     course: &Course,
     number: u128,
@@ -77,6 +77,22 @@ pub fn with_arm(
         let scripts = Vec::new(alloc);
         Ok(Arms { scripts, joined })
     }
+}
+
+/// One arm more.
+#[inline(never)]
+pub fn one_arm_more(
+    alloc: Global,
+    course: &Course,
+    number: u128,
+    stand: Box<Stand>,
+    found: Box<Arms>,
+) -> Result<Box<Arms>, AllocError>
+    ensures { IfOk result (λ a. arms_view a.value ≡
+        with_arm (course_view course.now) number (stand_view stand.value) (arms_view found.value)) }
+{
+    let arms = with_arm(alloc, course, number, stand, Box::into_inner(found))?;
+    Ok(Box::new(alloc, arms)?)
 }
 
 #[tactic(auto, using(crate::proofs::Lists::view_last))]
@@ -118,21 +134,21 @@ fn pick_of(alloc: Global, selector: Word, arms: Vec<ArmTaken>) -> Result<Script,
 pub fn picked_by(
     alloc: Global,
     course: &Course,
-    selector: Word,
+    selector: Box<Word>,
     stand: Box<Stand>,
-    found: Arms,
+    found: Box<Arms>,
     count: Count,
 ) -> Result<Box<Stand>, AllocError>
     ensures { IfOk result (λ w. stand_view w.value ≡
-        picked_by (course_view course.now) (word_of selector) (stand_view stand.value) (arms_view found) (count_view count)) }
+        picked_by (course_view course.now) (word_of selector.value) (stand_view stand.value) (arms_view found.value) (count_view count)) }
 {
     let Stand {
         numbers: _,
         count: _,
         script,
     } = Box::into_inner(stand);
-    let Arms { scripts, joined } = found;
-    let pick = pick_of(alloc, selector, scripts)?;
+    let Arms { scripts, joined } = Box::into_inner(found);
+    let pick = pick_of(alloc, Box::into_inner(selector), scripts)?;
     let stand = Box::new(
         alloc,
         Stand {

@@ -2,30 +2,32 @@
 
 ghost use Rattle.std.specs.Prelude.{◌≡◌, IfSome, ◌<◌};
 ghost use Rattle.std.specs.Option.{option_map};
-ghost use Rattle.vg_interval.specs.Views.{Gives, count_view, operand_view};
+ghost use Rattle.vg_interval.specs.Views.{Gives, count_view};
 ghost use Rattle.vg_names.specs.Views.{code_view, expr_of, target_view};
 ghost use Rattle.vg_pseudo.specs.Resolved as node;
 ghost use Rattle.vg_script.specs.Views.{number_of, word_of};
-ghost use Rattle.vg_range.specs.Met.{arms_found, arms_picked, arms_view, first_arm, first_way, last_at, met_view, picked, rest_arms, rest_ways, turn_at, turns_through, way_at, ways_view};
+ghost use Rattle.vg_range.specs.Met.{arms_found, arms_picked, arms_view, first_arm, first_way, last_at, met_view, picked, rest_arms, selector_view, rest_ways, turn_at, turns_through, way_at, ways_view};
 ghost use Rattle.vg_range.specs.Seen.{choose_at, course_view, first_of, goal_view, pick_at, repeat_at, rest_code, skip_at, stand_view, whole_goal};
 ghost use Rattle.vg_range.specs.Walk.{assign_at, beginning, constant_at, goal_at, walk};
 ghost use Rattle.vg_range.specs.Weight.{code_weight};
 
-use crate::arms::{Arms, arm_of, no_arms, picked_by, with_arm};
+use crate::arms::{Arms, arm_of, no_arms, one_arm_more, picked_by};
 use crate::assigning::assigned;
 use crate::beginning::{beginning, turns_within};
 use crate::course::Course;
+use crate::decision::Decision;
 use crate::goal::{Goal, constant_index};
 use crate::judging::{judge, tested};
+use crate::selector::Selector;
 use crate::spots::spot_of;
 use crate::stand::{Stand, at_count};
 use crate::turns::{first_turn, next_turn};
-use crate::ways::{Met, Ways, closed, no_ways, with_way};
+use crate::uses::selector_in;
+use crate::ways::{Met, Ways, closed, no_ways, one_way_more};
 use std::alloc::Global;
 use vg_interval::moving::width_at;
-use vg_interval::operands::operand;
 use vg_interval::slices::{bits_between, bits_of_element, index_of};
-use vg_interval::{Condition, Count, Operand, RangeFault};
+use vg_interval::{Count, RangeFault};
 use vg_names::{Code, ResolvedExpr, Target};
 use vg_script::{WholeNumber, Word};
 use vg_text::Place;
@@ -288,15 +290,15 @@ fn way_at(
     stand: &Stand,
     condition: &ResolvedExpr,
     body: &Code,
-    found: Ways,
+    found: Box<Ways>,
     count: Count,
 ) -> Result<Met, RangeFault>
     ensures { Gives met_view result
-        (way_at (course_view course.now) (expr_of condition.now) (code_view body.now) (stand_view stand.now) (ways_view found) (count_view count)) }
+        (way_at (course_view course.now) (expr_of condition.now) (code_view body.now) (stand_view stand.now) (ways_view found.value) (count_view count)) }
 {
     let (condition, count) = tested(alloc, course, stand.numbers.as_slice(), condition, count)?;
     match Box::into_inner(condition) {
-        Condition::Always(z) => {
+        Decision::Always(z) => {
             if z == 0 {
                 Ok(Met::Further { found, count })
             } else {
@@ -304,10 +306,10 @@ fn way_at(
                 Ok(Met::Final { found, last })
             }
         }
-        Condition::Tested { word } => {
+        Decision::Tested { word } => {
             let taken = walk_apart(alloc, course, stand, body, count)?;
             let count = taken.count;
-            let found = with_way(alloc, course, word, taken, found)?;
+            let found = one_way_more(alloc, course, word, taken, found)?;
             Ok(Met::Further { found, count })
         }
     }
@@ -340,11 +342,11 @@ fn first_way(
     course: &Course,
     stand: &Stand,
     code: &Code,
-    found: Ways,
+    found: Box<Ways>,
     count: Count,
 ) -> Result<Met, RangeFault>
     ensures { Gives met_view result
-        (first_way (course_view course.now) (code_view code.now) (stand_view stand.now) (ways_view found) (count_view count)) }
+        (first_way (course_view course.now) (code_view code.now) (stand_view stand.now) (ways_view found.value) (count_view count)) }
 {
     match code {
         Code::Way {
@@ -381,7 +383,7 @@ fn choose_at(
 ) -> Result<Box<Stand>, RangeFault>
     ensures { Gives (λ w. stand_view w.value) result (choose_at (course_view course.now) (code_view ways.now) (stand_view stand.value)) }
 {
-    let mut found = no_ways(alloc);
+    let mut found = no_ways(alloc)?;
     let mut count = stand.count;
     let mut left = ways;
     'ways: loop {
@@ -415,11 +417,11 @@ fn first_arm(
     course: &Course,
     stand: &Stand,
     code: &Code,
-    found: Arms,
+    found: Box<Arms>,
     count: Count,
-) -> Result<(Arms, Count), RangeFault>
-    ensures { Gives (λ g. (arms_view g.0, count_view g.1)) result
-        (first_arm (course_view course.now) (code_view code.now) (stand_view stand.now) (arms_view found) (count_view count)) }
+) -> Result<(Box<Arms>, Count), RangeFault>
+    ensures { Gives (λ g. (arms_view g.0.value, count_view g.1)) result
+        (first_arm (course_view course.now) (code_view code.now) (stand_view stand.now) (arms_view found.value) (count_view count)) }
 {
     match code {
         Code::Arm {
@@ -429,7 +431,7 @@ fn first_arm(
         } => {
             let taken = walk_apart(alloc, course, stand, body, count)?;
             let count = taken.count;
-            let found = with_arm(alloc, course, *number, taken, found)?;
+            let found = one_arm_more(alloc, course, *number, taken, found)?;
             Ok((found, count))
         }
         _ => Ok((found, count)),
@@ -455,8 +457,8 @@ fn arms_found(
     course: &Course,
     arms: &Code,
     stand: &Stand,
-) -> Result<(Arms, Count), RangeFault>
-    ensures { Gives (λ g. (arms_view g.0, count_view g.1)) result
+) -> Result<(Box<Arms>, Count), RangeFault>
+    ensures { Gives (λ g. (arms_view g.0.value, count_view g.1)) result
         (arms_found (course_view course.now) (code_view arms.now) (stand_view stand.now)) }
 {
     let mut found = no_arms(alloc, stand)?;
@@ -482,11 +484,11 @@ fn arms_picked(
     alloc: Global,
     course: &Course,
     arms: &Code,
-    selector: Word,
+    selector: Box<Word>,
     stand: Box<Stand>,
 ) -> Result<Box<Stand>, RangeFault>
     ensures { Gives (λ w. stand_view w.value) result
-        (arms_picked (course_view course.now) (code_view arms.now) (word_of selector) (stand_view stand.value)) }
+        (arms_picked (course_view course.now) (code_view arms.now) (word_of selector.value) (stand_view stand.value)) }
 {
     let (found, count) = arms_found(alloc, course, arms, &stand)?;
     Ok(picked_by(alloc, course, selector, stand, found, count)?)
@@ -500,17 +502,17 @@ fn picked(
     course: &Course,
     arms: &Code,
     stand: Box<Stand>,
-    selector: Operand,
+    selector: Selector,
 ) -> Result<Box<Stand>, RangeFault>
     ensures { Gives (λ w. stand_view w.value) result
-        (picked (course_view course.now) (code_view arms.now) (stand_view stand.value) (operand_view selector)) }
+        (picked (course_view course.now) (code_view arms.now) (stand_view stand.value) (selector_view selector)) }
 {
     match selector {
-        Operand::Fixed(number) => match arm_of(number, arms) {
+        Selector::Fixed(number) => match arm_of(number, arms) {
             Some(body) => walk(alloc, course, body, stand),
             None => Ok(stand),
         },
-        Operand::Moving { span: _, word } => arms_picked(alloc, course, arms, word, stand),
+        Selector::Moving { span: _, word } => arms_picked(alloc, course, arms, word, stand),
     }
 }
 
@@ -534,8 +536,9 @@ fn pick_at(
         selector,
         stand.count,
     )?;
-    let operand = operand(alloc, spot_of(selector), Box::into_inner(found))?;
-    picked(alloc, course, arms, at_count(stand, count), operand)
+    let selector = selector_in(alloc, selector, found)?;
+    let stand = at_count(stand, count);
+    picked(alloc, course, arms, stand, Box::into_inner(selector))
 }
 
 /// The first of these statements alone.

@@ -3,24 +3,24 @@
 ghost use Rattle.std.specs.Prelude.{◌≡◌, [], get_or, map, None, pos};
 ghost use Rattle.vg_interval.specs.Found.{known};
 ghost use Rattle.vg_interval.specs.Judge.{branch, judge, judge_all, no_walk, spot_of};
-ghost use Rattle.vg_interval.specs.Views.{Gives, condition_view, count_view, found_view, kept_view, operand_view, passed_view};
+ghost use Rattle.vg_interval.specs.Views.{Gives, count_view, found_view, kept_view, passed_view};
 ghost use Rattle.vg_names.specs.Views.{expr_of, function_view, list_of};
 ghost use Rattle.vg_pseudo.specs.Resolved as node;
 ghost use Rattle.vg_script.specs.Views.{word_of};
-ghost use Rattle.vg_range.specs.Seen.{argument_of, chosen_by, either_of, leaf, plain_of, sight_view, tested_at};
+ghost use Rattle.vg_range.specs.Seen.{argument_of, chosen_by, decision_view, either_of, leaf, plain_of, sight_view, tested_at};
 ghost use Rattle.vg_range.specs.Walk.{walks_from};
 
 use crate::calling::called_at;
-use crate::course::{Course, boxed, counter, element, slice, variable};
-use crate::spots::spot_of;
+use crate::course::{Course, boxed};
+use crate::decision::Decision;
+use crate::uses::{
+    binary_behind, condition_in, either_behind, element_behind, give, index_in, operand_of,
+    passed_in, plain_behind, slice_behind, turn_of, unary_behind, variable_of,
+};
 use std::alloc::Global;
-use vg_interval::binary_uses::binary_at;
-use vg_interval::calls::passed;
 use vg_interval::moving::{constant_at, width_at};
-use vg_interval::operands::{condition, either, operand};
-use vg_interval::slices::{bits_of_element, index_of, slice_found};
-use vg_interval::unary_uses::unary_at;
-use vg_interval::{Condition, Count, Found, Kept, Operand, Passed, RangeFault};
+use vg_interval::slices::{bits_of_element, slice_found};
+use vg_interval::{Count, Found, Kept, Passed, RangeFault};
 use vg_names::{Function, ResolvedArguments, ResolvedExpr};
 use vg_pseudo::{BinaryOp, Spot, UnaryOp};
 use vg_script::{WholeNumber, Word};
@@ -40,13 +40,11 @@ pub fn judge(
 {
     match expr {
         ResolvedExpr::Literal { spot: _, value } => literal(alloc, *value, count),
-        ResolvedExpr::Counter { spot: _, turn } => {
-            boxed(alloc, counter(course.turns, *turn), count)
-        }
+        ResolvedExpr::Counter { spot: _, turn } => turn_of(alloc, course, *turn, count),
         ResolvedExpr::Variable {
             spot: _,
             variable: number,
-        } => boxed(alloc, variable(numbers, *number), count),
+        } => variable_of(alloc, numbers, *number, count),
         ResolvedExpr::Slice {
             spot,
             is_signed,
@@ -55,7 +53,7 @@ pub fn judge(
             high,
             low,
         } => slice_of(
-            alloc, course, numbers, *spot, *is_signed, *register, *spread, high, low, count,
+            alloc, course, numbers, spot, *is_signed, *register, spread, high, low, count,
         ),
         ResolvedExpr::Element {
             spot,
@@ -64,23 +62,23 @@ pub fn judge(
             size,
             index,
         } => element_of(
-            alloc, course, numbers, *spot, *is_signed, *register, *size, index, count,
+            alloc, course, numbers, spot, *is_signed, *register, *size, index, count,
         ),
         ResolvedExpr::Front {
             spot,
             is_signed,
             register,
             size,
-        } => front(alloc, course, *spot, *is_signed, *register, *size, count),
+        } => front(alloc, course, spot, *is_signed, *register, *size, count),
         ResolvedExpr::Unary { spot, op, operand } => {
-            unary(alloc, course, numbers, *spot, *op, operand, count)
+            unary(alloc, course, numbers, spot, *op, operand, count)
         }
         ResolvedExpr::Binary {
             spot,
             op,
             left,
             right,
-        } => binary(alloc, course, numbers, *spot, *op, left, right, count),
+        } => binary(alloc, course, numbers, spot, *op, left, right, count),
         ResolvedExpr::Choice {
             spot: _,
             condition,
@@ -91,7 +89,7 @@ pub fn judge(
             spot,
             function,
             arguments,
-        } => call(alloc, course, numbers, *spot, *function, arguments, count),
+        } => call(alloc, course, numbers, spot, *function, arguments, count),
     }
 }
 
@@ -110,24 +108,23 @@ fn slice_of(
     alloc: Global,
     course: &Course,
     numbers: &[Kept],
-    spot: Spot,
+    spot: &Spot,
     is_signed: bool,
     register: usize,
-    spread: Option<u128>,
+    spread: &Option<u128>,
     high: &ResolvedExpr,
     low: &ResolvedExpr,
     count: Count,
 ) -> Result<(Box<Found>, Count), RangeFault>
     ensures { Gives (λ f. (found_view f.0.value, count_view f.1)) result
         (judge (sight_view course.now) (map kept_view numbers.now)
-        (node.slice spot is_signed register spread (expr_of high.now) (expr_of low.now)) (count_view count)) }
+        (node.slice spot.now is_signed register spread.now (expr_of high.now) (expr_of low.now)) (count_view count)) }
 {
     let (found, count) = judge(alloc, course, numbers, high, count)?;
-    let last = index_of(alloc, spot_of(high), Box::into_inner(found))?;
+    let last = index_in(alloc, high, found)?;
     let (found, count) = judge(alloc, course, numbers, low, count)?;
-    let first = index_of(alloc, spot_of(low), Box::into_inner(found))?;
-    slice(
-        alloc, course, spot.inner, is_signed, register, spread, last, first, count,
+    slice_behind(
+        alloc, course, spot, is_signed, register, spread, last, low, found, count,
     )
 }
 
@@ -138,7 +135,7 @@ fn element_of(
     alloc: Global,
     course: &Course,
     numbers: &[Kept],
-    spot: Spot,
+    spot: &Spot,
     is_signed: bool,
     register: usize,
     size: u32,
@@ -147,12 +144,11 @@ fn element_of(
 ) -> Result<(Box<Found>, Count), RangeFault>
     ensures { Gives (λ f. (found_view f.0.value, count_view f.1)) result
         (judge (sight_view course.now) (map kept_view numbers.now)
-        (node.element spot is_signed register size (expr_of index.now)) (count_view count)) }
+        (node.element spot.now is_signed register size (expr_of index.now)) (count_view count)) }
 {
     let (found, count) = judge(alloc, course, numbers, index, count)?;
-    let place = index_of(alloc, spot_of(index), Box::into_inner(found))?;
-    element(
-        alloc, course, spot.inner, is_signed, register, size, place, count,
+    element_behind(
+        alloc, course, spot, is_signed, register, size, index, found, count,
     )
 }
 
@@ -161,14 +157,14 @@ fn element_of(
 fn front(
     alloc: Global,
     course: &Course,
-    spot: Spot,
+    spot: &Spot,
     is_signed: bool,
     register: usize,
     size: u128,
     count: Count,
 ) -> Result<(Box<Found>, Count), RangeFault>
     ensures { Gives (λ f. (found_view f.0.value, count_view f.1)) result
-        (judge (sight_view course.now) [] (node.front spot is_signed register size) (count_view count)) }
+        (judge (sight_view course.now) [] (node.front spot.now is_signed register size) (count_view count)) }
 {
     let all = width_at(course.widths, register);
     let bits = bits_of_element(spot.inner, all, size, WholeNumber::Natural(0))?;
@@ -187,17 +183,16 @@ fn unary(
     alloc: Global,
     course: &Course,
     numbers: &[Kept],
-    spot: Spot,
+    spot: &Spot,
     op: UnaryOp,
     expr: &ResolvedExpr,
     count: Count,
 ) -> Result<(Box<Found>, Count), RangeFault>
     ensures { Gives (λ f. (found_view f.0.value, count_view f.1)) result
-        (judge (sight_view course.now) (map kept_view numbers.now) (node.unary spot op (expr_of expr.now)) (count_view count)) }
+        (judge (sight_view course.now) (map kept_view numbers.now) (node.unary spot.now op (expr_of expr.now)) (count_view count)) }
 {
     let (found, count) = judge(alloc, course, numbers, expr, count)?;
-    let found = unary_at(alloc, spot, op, spot_of(expr), Box::into_inner(found))?;
-    boxed(alloc, found, count)
+    unary_behind(alloc, spot, op, expr, found, count)
 }
 
 /// An operator or a function of two operands.
@@ -207,40 +202,19 @@ fn binary(
     alloc: Global,
     course: &Course,
     numbers: &[Kept],
-    spot: Spot,
+    spot: &Spot,
     op: BinaryOp,
     left: &ResolvedExpr,
     right: &ResolvedExpr,
     count: Count,
 ) -> Result<(Box<Found>, Count), RangeFault>
     ensures { Gives (λ f. (found_view f.0.value, count_view f.1)) result
-        (judge (sight_view course.now) (map kept_view numbers.now) (node.binary spot op (expr_of left.now) (expr_of right.now)) (count_view count)) }
+        (judge (sight_view course.now) (map kept_view numbers.now) (node.binary spot.now op (expr_of left.now) (expr_of right.now)) (count_view count)) }
 {
     let (found, count) = judge(alloc, course, numbers, left, count)?;
-    let first = operand(alloc, spot_of(left), Box::into_inner(found))?;
+    let first = operand_of(alloc, left, found)?;
     let (found, count) = judge(alloc, course, numbers, right, count)?;
-    let second = operand(alloc, spot_of(right), Box::into_inner(found))?;
-    let (found, count) = binary_at(alloc, spot, op, spot_of(right), first, second, count)?;
-    boxed(alloc, found, count)
-}
-
-/// A branch of a choice.
-#[inline(never)]
-#[cycle(judging)]
-fn branch(
-    alloc: Global,
-    course: &Course,
-    numbers: &[Kept],
-    expr: &ResolvedExpr,
-    count: Count,
-) -> Result<(Box<Operand>, Count), RangeFault>
-    ensures { Gives (λ f. (operand_view f.0.value, count_view f.1)) result
-        (branch (spot_of (expr_of expr.now)) (judge (sight_view course.now) (map kept_view numbers.now) (expr_of expr.now)) (count_view count)) }
-{
-    let (found, count) = judge(alloc, course, numbers, expr, count)?;
-    let operand = operand(alloc, spot_of(expr), Box::into_inner(found))?;
-    let operand = Box::new(alloc, operand)?;
-    Ok((operand, count))
+    binary_behind(alloc, spot, op, first, right, found, count)
 }
 
 /// One branch of a choice whose condition is constant.
@@ -256,8 +230,8 @@ fn one_of(
     ensures { Gives (λ f. (found_view f.0.value, count_view f.1)) result
         (plain_of (branch (spot_of (expr_of expr.now)) (judge (sight_view course.now) (map kept_view numbers.now) (expr_of expr.now)) (count_view count))) }
 {
-    let (operand, count) = branch(alloc, course, numbers, expr, count)?;
-    boxed(alloc, Box::into_inner(operand).into_found(), count)
+    let (found, count) = judge(alloc, course, numbers, expr, count)?;
+    plain_behind(alloc, expr, found, count)
 }
 
 /// Both branches of a choice.
@@ -267,24 +241,19 @@ fn both_of(
     alloc: Global,
     course: &Course,
     numbers: &[Kept],
-    condition: Word,
+    condition: Box<Word>,
     first: &ResolvedExpr,
     second: &ResolvedExpr,
     count: Count,
 ) -> Result<(Box<Found>, Count), RangeFault>
     ensures { Gives (λ f. (found_view f.0.value, count_view f.1)) result
-        (either_of (word_of condition) (spot_of (expr_of first.now)) (judge (sight_view course.now) (map kept_view numbers.now) (expr_of first.now))
+        (either_of (word_of condition.value) (spot_of (expr_of first.now)) (judge (sight_view course.now) (map kept_view numbers.now) (expr_of first.now))
         (spot_of (expr_of second.now)) (judge (sight_view course.now) (map kept_view numbers.now) (expr_of second.now)) (count_view count)) }
 {
-    let (one, count) = branch(alloc, course, numbers, first, count)?;
-    let (other, count) = branch(alloc, course, numbers, second, count)?;
-    let found = either(
-        alloc,
-        condition,
-        Box::into_inner(one),
-        Box::into_inner(other),
-    )?;
-    boxed(alloc, found, count)
+    let (found, count) = judge(alloc, course, numbers, first, count)?;
+    let one = operand_of(alloc, first, found)?;
+    let (found, count) = judge(alloc, course, numbers, second, count)?;
+    either_behind(alloc, condition, one, second, found, count)
 }
 
 /// What a condition says, and the counts behind it.
@@ -296,13 +265,12 @@ pub fn tested(
     numbers: &[Kept],
     expr: &ResolvedExpr,
     count: Count,
-) -> Result<(Box<Condition>, Count), RangeFault>
-    ensures { Gives (λ f. (condition_view f.0.value, count_view f.1)) result
+) -> Result<(Box<Decision>, Count), RangeFault>
+    ensures { Gives (λ f. (decision_view f.0.value, count_view f.1)) result
         (tested_at (spot_of (expr_of expr.now)) (judge (sight_view course.now) (map kept_view numbers.now) (expr_of expr.now) (count_view count))) }
 {
     let (found, count) = judge(alloc, course, numbers, expr, count)?;
-    let condition = condition(alloc, spot_of(expr), Box::into_inner(found))?;
-    let condition = Box::new(alloc, condition)?;
+    let condition = condition_in(alloc, expr, found)?;
     Ok((condition, count))
 }
 
@@ -325,14 +293,14 @@ fn choice(
 {
     let (condition, count) = tested(alloc, course, numbers, condition, count)?;
     match Box::into_inner(condition) {
-        Condition::Always(z) => {
+        Decision::Always(z) => {
             if z == 0 {
                 one_of(alloc, course, numbers, second, count)
             } else {
                 one_of(alloc, course, numbers, first, count)
             }
         }
-        Condition::Tested { word } => both_of(alloc, course, numbers, word, first, second, count),
+        Decision::Tested { word } => both_of(alloc, course, numbers, word, first, second, count),
     }
 }
 
@@ -345,12 +313,12 @@ fn argument(
     numbers: &[Kept],
     expr: &ResolvedExpr,
     count: Count,
-) -> Result<(Passed, Count), RangeFault>
-    ensures { Gives (λ p. (passed_view p.0, count_view p.1)) result
+) -> Result<(Box<Passed>, Count), RangeFault>
+    ensures { Gives (λ p. (passed_view p.0.value, count_view p.1)) result
         (argument_of (sight_view course.now) (map kept_view numbers.now) (expr_of expr.now) (count_view count)) }
 {
     let (found, count) = judge(alloc, course, numbers, expr, count)?;
-    let passed = passed(alloc, spot_of(expr), Box::into_inner(found))?;
+    let passed = passed_in(alloc, expr, found)?;
     Ok((passed, count))
 }
 
@@ -378,7 +346,7 @@ fn judge_all(
                 rest,
             } => {
                 let (passed, behind) = argument(alloc, course, numbers, first, count)?;
-                given.push(passed)?;
+                give(&mut given, passed)?;
                 count = behind;
                 left = rest;
             }
@@ -393,13 +361,13 @@ fn call(
     alloc: Global,
     course: &Course,
     numbers: &[Kept],
-    spot: Spot,
+    spot: &Spot,
     function: usize,
     arguments: &ResolvedArguments,
     count: Count,
 ) -> Result<(Box<Found>, Count), RangeFault>
     ensures { Gives (λ f. (found_view f.0.value, count_view f.1)) result
-        (judge (sight_view course.now) (map kept_view numbers.now) (node.call spot function (list_of arguments.now)) (count_view count)) }
+        (judge (sight_view course.now) (map kept_view numbers.now) (node.call spot.now function (list_of arguments.now)) (count_view count)) }
 {
     let count = count.step(spot.inner)?;
     let (given, count) = judge_all(alloc, course, numbers, arguments, count)?;
@@ -408,7 +376,7 @@ fn call(
         course.is_kept,
         course.functions,
         function,
-        spot,
+        *spot,
         given,
         count,
     )

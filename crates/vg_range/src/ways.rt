@@ -33,18 +33,20 @@ pub struct Ways {
 /// A way that was looked at: others may be taken behind those found, or it is the last.
 #[derive(Debug, Drop)]
 pub enum Met {
-    Further { found: Ways, count: Count },
-    Final { found: Ways, last: Box<Stand> },
+    Further { found: Box<Ways>, count: Count },
+    Final { found: Box<Ways>, last: Box<Stand> },
 }
 
 /// No way is found yet.
-pub fn no_ways(alloc: Global) -> Ways
-    ensures { ways_view result ≡ no_ways }
+#[inline(never)]
+pub fn no_ways(alloc: Global) -> Result<Box<Ways>, AllocError>
+    ensures { IfOk result (λ w. ways_view w.value ≡ no_ways) }
 {
-    Ways {
+    let ways = Ways {
         scripts: Vec::new(alloc),
         joined: None,
-    }
+    };
+    Ok(Box::new(alloc, ways)?)
 }
 
 /// What is known behind a way more.
@@ -62,10 +64,8 @@ fn joined_with(
     }
 }
 
-/// One way more.
-#[inline(never)]
 #[tactic(auto, using(crate::proofs::Lists::view_last))]
-pub fn with_way(
+fn with_way(
     alloc: Global,
     course: &Course,
     condition: Word,
@@ -92,6 +92,23 @@ pub fn with_way(
         let scripts = Vec::new(alloc);
         Ok(Ways { scripts, joined })
     }
+}
+
+/// One way more.
+#[inline(never)]
+pub fn one_way_more(
+    alloc: Global,
+    course: &Course,
+    condition: Box<Word>,
+    stand: Box<Stand>,
+    found: Box<Ways>,
+) -> Result<Box<Ways>, AllocError>
+    ensures { IfOk result (λ w. ways_view w.value ≡
+        with_way (course_view course.now) (word_of condition.value) (stand_view stand.value) (ways_view found.value)) }
+{
+    let condition = Box::into_inner(condition);
+    let ways = with_way(alloc, course, condition, stand, Box::into_inner(found))?;
+    Ok(Box::new(alloc, ways)?)
 }
 
 /// The ways in their order in front of what the last one does.
@@ -139,11 +156,11 @@ pub fn closed(
     alloc: Global,
     course: &Course,
     stand: Box<Stand>,
-    found: Ways,
+    found: Box<Ways>,
     last: Box<Stand>,
 ) -> Result<Box<Stand>, AllocError>
     ensures { IfOk result (λ w. stand_view w.value ≡
-        closed (course_view course.now) (stand_view stand.value) (ways_view found) (stand_view last.value)) }
+        closed (course_view course.now) (stand_view stand.value) (ways_view found.value) (stand_view last.value)) }
 {
     let Stand {
         numbers: _,
@@ -155,7 +172,7 @@ pub fn closed(
         count,
         script: body,
     } = Box::into_inner(last);
-    let Ways { scripts, joined } = found;
+    let Ways { scripts, joined } = Box::into_inner(found);
     let branch = branch_of(alloc, scripts, body)?;
     let numbers = joined_with(alloc, joined, numbers)?;
     let stand = Box::new(

@@ -7,11 +7,11 @@ use Rattle.std.specs.Int.{w128}
 use Rattle.std.specs.Prelude.{FitsSigned}
 use Rattle.vg_base.specs.Gives.{FailsBy}
 use Rattle.vg_interval.specs.Judge.{judge, judge_all}
-use Rattle.vg_interval.specs.Views.{Gives, told, count_view, found_view, kept_view, operand_view, passed_view}
+use Rattle.vg_interval.specs.Views.{Gives, told, count_view, found_view, kept_view, passed_view}
 use Rattle.vg_names.specs.Views.{code_view, expr_of, list_of}
 use Rattle.vg_pseudo.specs.Resolved.{choice, more}
 use Rattle.vg_script.specs.Views.{number_of}
-use Rattle.vg_range.specs.Met.{arm_of, arms_view, final, first_way, further, how_many, met_view, picked, turns_left, ways_view}
+use Rattle.vg_range.specs.Met.{arm_of, arms_view, final, first_way, further, how_many, met_view, picked, selector_view, turns_left, ways_view}
 use Rattle.vg_range.specs.Seen.{argument_of, behind_passed, course_view, sight_view, stand_view}
 use Rattle.vg_range.specs.Weight.{weight, list_weight}
 use Rattle.vg_range.proofs.Arguments.{passed_none, passed_next, passed_done, passed_fails}
@@ -90,7 +90,7 @@ judging::judge_all-arguments-preserved t c =
     let behind = count_view c.in_ok-passed-in-More.behind in
     let given = c.arguments.given.items in
     let done = map passed_view given in
-    let p = c.in_ok-passed-in-More.passed in
+    let p = c.in_ok-passed-in-More.passed.value in
     let all = judge_all s ks (list_of c.args.arguments.now) (count_view c.args.count) in
     let x = expr_of c.in-More.first.value in
     let rest = c.in-More.rest.value in
@@ -101,7 +101,7 @@ judging::judge_all-arguments-preserved t c =
     let left : c.deref-left.result.now ≡ rest = c.deref-left.ensures in
     record {
       same =
-          ap (λ g. behind_passed (map passed_view g) (judge_all s ks (list_of c.deref-left.result.now) behind)) c.in_ok-push-in-More.ensures.items
+          ap (λ g. behind_passed (map passed_view g) (judge_all s ks (list_of c.deref-left.result.now) behind)) c.in_ok-give-in-More.ensures
           ∙ ap (λ g. behind_passed g (judge_all s ks (list_of c.deref-left.result.now) behind)) (map-append passed_view given (p ∷ []))
           ∙ ap (λ a. behind_passed (done ++ passed_view p ∷ []) (judge_all s ks (list_of a) behind)) left
           ∙ passed_next s ks x (list_of rest) d behind done (passed_view p) judged
@@ -130,7 +130,7 @@ code_walk::arms_found-returns-in_err-more-in-Some t c =
     let x = course_view c.args.course.now in
     let l = code_view c.arms.left.now in
     let w = stand_view c.args.stand.now in
-    let found = arms_view c.arms.found in
+    let found = arms_view c.arms.found.value in
     let n = count_view c.arms.count in
     let fault = told c.in_err-more-in-Some.field-0.0 in
     let error = err_from_is_err_and c.from_residual-in_err-more-in-Some.result c.from_residual-in_err-more-in-Some.ensures.1 in
@@ -142,9 +142,9 @@ code_walk::arms_found-arms-preserved t c =
     let x = course_view c.args.course.now in
     let l = code_view c.arms.left.now in
     let w = stand_view c.args.stand.now in
-    let found = arms_view c.arms.found in
+    let found = arms_view c.arms.found.value in
     let n = count_view c.arms.count in
-    let more = arms_view c.in_ok-more-in-Some.more in
+    let more = arms_view c.in_ok-more-in-Some.more.value in
     let m = count_view c.in_ok-more-in-Some.behind in
     record {
       same =
@@ -158,7 +158,7 @@ code_walk::choose_at-returns-in_err-all-in-Some t c =
     let x = course_view c.args.course.now in
     let l = code_view c.ways.left.now in
     let w = stand_view c.args.stand.value in
-    let found = ways_view c.ways.found in
+    let found = ways_view c.ways.found.value in
     let n = count_view c.ways.count in
     let fault = told c.in_err-all-in-Some.field-0.0 in
     let failed : FailsBy fault (first_way x l w found n) =
@@ -172,9 +172,9 @@ code_walk::choose_at-returns-in-Final t c =
     let x = course_view c.args.course.now in
     let l = code_view c.ways.left.now in
     let w = stand_view c.args.stand.value in
-    let found = ways_view c.ways.found in
+    let found = ways_view c.ways.found.value in
     let n = count_view c.ways.count in
-    let all = ways_view c.in-Final.all in
+    let all = ways_view c.in-Final.all.value in
     let v = stand_view c.in-Final.last.value in
     let met : first_way x l w found n ≡ Ok (final all v) =
     subst (λ u. first_way x l (stand_view u) found n ≡ Ok (final all v)) c.deref-in-Some.ensures
@@ -188,9 +188,9 @@ code_walk::choose_at-ways-preserved t c =
     let x = course_view c.args.course.now in
     let l = code_view c.ways.left.now in
     let w = stand_view c.args.stand.value in
-    let found = ways_view c.ways.found in
+    let found = ways_view c.ways.found.value in
     let n = count_view c.ways.count in
-    let more = ways_view c.in-Further.more in
+    let more = ways_view c.in-Further.more.value in
     let m = count_view c.in-Further.behind in
     let met : first_way x l w found n ≡ Ok (further more m) =
     subst (λ u. first_way x l (stand_view u) found n ≡ Ok (further more m)) c.deref-in-Some.ensures
@@ -211,7 +211,7 @@ code_walk::picked-returns-in-Some t c =
     ap (λ n. arm_of n arms) (sym (to_z-of_z w128 z fits)) ∙ sym c.in-Some.ensures.is in
     subst (λ r. Gives (λ u. stand_view u.value) c.walk.result r)
     (one_taken x arms (code_view c.in-Some.body.now) w z found
-    ∙ ap (λ a. picked x arms w (operand_view a)) (sym c.in-Fixed.is))
+    ∙ ap (λ a. picked x arms w (selector_view a)) (sym c.in-Fixed.is))
     c.walk.ensures
 
 pub code_walk::picked-returns-in-None : goal.code_walk::picked-returns-in-None
@@ -222,7 +222,7 @@ code_walk::picked-returns-in-None t c =
     let z = c.in-Fixed.number in
     let fits : FitsSigned w128 z = search rules in
     let found : arm_of z arms ≡ None = ap (λ n. arm_of n arms) (sym (to_z-of_z w128 z fits)) ∙ sym c.in-None.ensures.is in
-    ap (λ a. picked x arms w (operand_view a)) c.in-Fixed.is
+    ap (λ a. picked x arms w (selector_view a)) c.in-Fixed.is
     ∙ none_taken x arms w z found
 
 pub code_walk::turns_through-turns-init : goal.code_walk::turns_through-turns-init

@@ -27,9 +27,6 @@ decreases-judging::unary l = 16 * all_weight (map function_view l.course.now.fun
 abbrev pub decreases-judging::binary : goal.decreases-judging::binary
 decreases-judging::binary l = 16 * all_weight (map function_view l.course.now.functions.now) + 16 * (weight (expr_of l.left.now) + weight (expr_of l.right.now)) + 1
 
-abbrev pub decreases-judging::branch : goal.decreases-judging::branch
-decreases-judging::branch l = 16 * all_weight (map function_view l.course.now.functions.now) + 16 * weight (expr_of l.expr.now) + 1
-
 abbrev pub decreases-judging::tested : goal.decreases-judging::tested
 decreases-judging::tested l = 16 * all_weight (map function_view l.course.now.functions.now) + 16 * weight (expr_of l.expr.now) + 1
 
@@ -142,7 +139,7 @@ decreases-code_walk::turns_through-turns l = how_many (number_of l.last) (option
 
 abbrev pub invariant-code_walk::choose_at-ways : goal.invariant-code_walk::choose_at-ways
 invariant-code_walk::choose_at-ways l = record {
-  same : walk_ways (course_view l.course) (code_view l.left) (stand_view l.stand.value) (ways_view l.found) (count_view l.count) ≡ choose_at (course_view l.course) (code_view l.fn.ways) (stand_view l.fn.stand.value);
+  same : walk_ways (course_view l.course) (code_view l.left) (stand_view l.stand.value) (ways_view l.found.value) (count_view l.count) ≡ choose_at (course_view l.course) (code_view l.fn.ways) (stand_view l.fn.stand.value);
   inside : code_weight (code_view l.left) ≤ code_weight (code_view l.fn.ways);
 }
 
@@ -151,7 +148,7 @@ decreases-code_walk::choose_at-ways l = code_weight (code_view l.left)
 
 abbrev pub invariant-code_walk::arms_found-arms : goal.invariant-code_walk::arms_found-arms
 invariant-code_walk::arms_found-arms l = record {
-  same : all_arms (course_view l.course) (code_view l.left) (stand_view l.stand) (arms_view l.found) (count_view l.count) ≡ arms_found (course_view l.course) (code_view l.fn.arms) (stand_view l.stand);
+  same : all_arms (course_view l.course) (code_view l.left) (stand_view l.stand) (arms_view l.found.value) (count_view l.count) ≡ arms_found (course_view l.course) (code_view l.fn.arms) (stand_view l.stand);
   inside : code_weight (code_view l.left) ≤ code_weight (code_view l.fn.arms);
 }
 
