@@ -1,7 +1,9 @@
 pub mod DepList
 pub mod Depends
+pub mod Fits
 pub mod Layout
 pub mod Nodes
+pub mod Operands
 pub mod Order
 pub mod Pack
 pub mod Registers

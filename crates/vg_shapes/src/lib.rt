@@ -24,7 +24,7 @@ pub use access::Access;
 pub use dep_list::DepList;
 pub use lane::Lane;
 pub use lanes::Lanes;
-pub use law::leaves_read_registers;
+pub use law::{leaves_read_registers, replaced_leaves_keep_numbers};
 pub use match_table::{Bound, Match};
 pub use operand::{Operand, Slot};
 pub use order::{Node, Order};
