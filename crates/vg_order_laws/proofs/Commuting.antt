@@ -13,7 +13,7 @@ use Rattle.vg_shapes.specs.declared.ssa.Ssa.{Ssa}
 use Rattle.vg_shapes.specs.declared.unit.Unit.{Unit as Work}
 use Rattle.vg_shapes.specs.declared.unit.Unit.TheVariants.{Load, Store, Operation}
 use Rattle.vg_shapes.specs.Depends.{conflict_at, conflict_of}
-use Rattle.vg_shapes.specs.Layout.{access_at, access_of, AreApart, Respects}
+use Rattle.vg_shapes.specs.Layout.{access_at, access_of, AreApart, noalias_flags, Respects}
 use Rattle.vg_shapes.specs.RunUnits.{number_of}
 use Rattle.vg_shapes.specs.Units.{unit_at}
 use Rattle.vg_shapes.proofs.Apart.{access-listed, no-conflict-apart}
@@ -59,4 +59,4 @@ units-commute ssa places numbers x y respects h m = by (unit_at ssa x) (unit_at 
         let first : access_at ssa x ≡ Some p = ap (λ o. o >>= access_of) a ∙ e in
         let second : access_at ssa y ≡ Some q = ap (λ o. o >>= access_of) b ∙ g in
         no-conflict-apart ssa places p q respects (access-listed ssa x p first) (access-listed ssa y q second)
-        (ap (λ o. conflict_of ssa o (Some q)) (sym first) ∙ ap (conflict_of ssa (access_at ssa x)) (sym second) ∙ h) writes) m)
+        (ap (λ o. conflict_of (noalias_flags ssa) o (Some q)) (sym first) ∙ ap (conflict_of (noalias_flags ssa) (access_at ssa x)) (sym second) ∙ h) writes) m)

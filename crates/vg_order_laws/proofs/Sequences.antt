@@ -133,15 +133,15 @@ pub in_order-numbers : (xs : List ℕ) (first n : ℕ) → ((x : ℕ) → count_
 in_order-numbers xs first n e = one_rising (in_order xs) (numbers_from first n) (Rises-in_order xs) (Rises-numbers_from first n) (λ x. count_of-in_order x xs ∙ e x)
 
 -- each of them stands once
-count_of-before : (x first n : ℕ) → x < first → count_of x (numbers_from first n) ≡ 0
-count_of-before x first zero h = refl
-count_of-before x first (suc n) h =
+pub count_of-earlier : (x first n : ℕ) → x < first → count_of x (numbers_from first n) ≡ 0
+count_of-earlier x first zero h = refl
+count_of-earlier x first (suc n) h =
     let none : one_if (x == first) ≡ 0 = elim (cases_Bool (x == first)) [ inl t ↦ absurd (let e = eqb-true x first t in omega arith) | inr f ↦ ap one_if f ] in
-    omega (arith, count_of-before x (first + 1) n (omega arith))
+    omega (arith, count_of-earlier x (first + 1) n (omega arith))
 
 pub count_of-numbers : (x first n : ℕ) → count_of x (numbers_from first n) < 2
 count_of-numbers x first zero = omega arith
 count_of-numbers x first (suc n) = elim (cases_Bool (x == first)) [
-  | inl t ↦ let e = eqb-true x first t in let one : one_if (x == first) ≡ 1 = ap one_if t in omega (arith, count_of-before x (first + 1) n (omega arith))
+  | inl t ↦ let e = eqb-true x first t in let one : one_if (x == first) ≡ 1 = ap one_if t in omega (arith, count_of-earlier x (first + 1) n (omega arith))
   | inr f ↦ let none : one_if (x == first) ≡ 0 = ap one_if f in omega (arith, count_of-numbers x (first + 1) n)
 ]

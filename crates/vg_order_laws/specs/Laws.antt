@@ -2,12 +2,14 @@
 use Rattle.std.specs.Prelude.{◌≡◌, ℕ, ◌&&◌, Bool, true, false, List, [], length, nat_lt, slice_index, Option, Some}
 use Rattle.std.specs.List.{list_all, list_any}
 use Rattle.std.specs.Option.{is_some}
+use Rattle.vg_shapes.specs.declared.match_table.Match.{Match}
 use Rattle.vg_shapes.specs.declared.order.Node.{Node}
+use Rattle.vg_shapes.specs.declared.pack.Pack.{Pack as Packed}
 use Rattle.vg_shapes.specs.declared.ssa.Ssa.{Ssa}
 use Rattle.vg_shapes.specs.declared.unit.Unit.{Unit as Work}
-use Rattle.vg_shapes.specs.declared.access.Access.{Access}
-use Rattle.vg_shapes.specs.Depends.{conflict, conflict_at}
-use Rattle.vg_shapes.specs.Layout.{accesses, AreApart, Respects}
+use Rattle.vg_shapes.specs.Depends.{conflict_at}
+use Rattle.vg_shapes.specs.Layout.{Respects}
+use Rattle.vg_shapes.specs.Nodes.{ArePacks, IsOrder, units_at}
 use Rattle.vg_shapes.specs.Order.{all_units, count_of, Follows}
 use Rattle.vg_shapes.specs.RunUnits.{Reached, run_units}
 use Rattle.vg_shapes.specs.Sound.{TakeEarlier}
@@ -42,6 +44,16 @@ LegalOrdersRun =
     Follows depends units [] order → AreUnits ssa (all_units units order) →
     (memory : List ℕ) →
     run_steps (unit_step ssa places numbers) (all_units units order) memory
+    ≡ run_steps (unit_step ssa places numbers) (unit_numbers ssa) memory
+
+-- the same of a legal order of packs and the units outside them
+abbrev pub PlanOrdersRun : Type 0
+PlanOrdersRun =
+    (ssa : Ssa) (places : List ℕ) (numbers : ℕ → ℕ) (matches : List Match) (packs : List Packed)
+    (order : List Node) →
+    Respects ssa places → ArePacks ssa packs → IsOrder ssa matches packs order →
+    (memory : List ℕ) →
+    run_steps (unit_step ssa places numbers) (all_units (units_at packs) order) memory
     ≡ run_steps (unit_step ssa places numbers) (unit_numbers ssa) memory
 
 -- a run that is done leaves what the steps of its units leave where all values have the numbers that

@@ -1,6 +1,6 @@
 //! Laws on the orders of units.
 
-ghost use Rattle.vg_order_laws.specs.Laws.{LegalOrdersRun, RunsAreSteps, RunsTrapOutside, UnitsCommute};
+ghost use Rattle.vg_order_laws.specs.Laws.{LegalOrdersRun, PlanOrdersRun, RunsAreSteps, RunsTrapOutside, UnitsCommute};
 
 /// Two units whose accesses do not conflict do the same to memory whichever comes first, in each
 /// layout that respects noalias, where the numbers of all values are known.
@@ -12,6 +12,11 @@ pub fn units_commute()
 /// as all units do in the order of their numbers.
 pub fn legal_orders_run()
     ensures { LegalOrdersRun }
+{}
+
+/// The same of a legal order of packs and the units outside them.
+pub fn plan_orders_run()
+    ensures { PlanOrdersRun }
 {}
 
 /// A run that ends without a trap leaves the memory that the steps of its units leave where all

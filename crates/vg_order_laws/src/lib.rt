@@ -4,4 +4,6 @@
 
 pub mod law;
 
-pub use law::{legal_orders_run, runs_are_steps, runs_trap_outside, units_commute};
+pub use law::{
+    legal_orders_run, plan_orders_run, runs_are_steps, runs_trap_outside, units_commute,
+};

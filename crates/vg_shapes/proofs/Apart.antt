@@ -9,8 +9,8 @@ use Rattle.vg_base.specs.Address.{place_of}
 use Rattle.vg_shapes.specs.declared.access.Access.{Access}
 use Rattle.vg_shapes.specs.declared.ssa.Ssa.{Ssa}
 use Rattle.vg_shapes.specs.declared.unit.Unit.{Unit as Work}
-use Rattle.vg_shapes.specs.Depends.{conflict, may_share, overlap}
-use Rattle.vg_shapes.specs.Layout.{access_at, access_of, accesses, AreApart, is_noalias, Respects}
+use Rattle.vg_shapes.specs.Depends.{conflict, overlap}
+use Rattle.vg_shapes.specs.Layout.{access_at, access_of, accesses, AreApart, noalias_flags, Respects}
 use Rattle.vg_shapes.specs.Units.{arguments, unit_at}
 
 offsets_apart : (p : ℕ) (a : ℤ) (n : ℕ) (b : ℤ) (k : ℕ) → int_lt a (b +ℤ pos k) ≡ false → ((pos p +ℤ b) +ℤ pos k) ≤ℤ (pos p +ℤ a)
@@ -23,7 +23,7 @@ one-pointer places x y same h = elim (and_cases _ _ h) [
   | inr f ↦ inl (subst (λ (p : ℕ). ((place_of places x.address) +ℤ pos x.size) ≤ℤ (pos p +ℤ y.address.offset)) (ap (slice_index places) same) (offsets_apart (slice_index places x.address.pointer) y.address.offset y.size x.address.offset x.size f))
 ]
 
-pub no-conflict-apart : (ssa : Ssa) (places : List ℕ) (x y : Access) → Respects ssa places → Contains (accesses ssa) x → Contains (accesses ssa) y → conflict ssa x y ≡ false → (x.writes || y.writes) ≡ true → AreApart places x y
+pub no-conflict-apart : (ssa : Ssa) (places : List ℕ) (x y : Access) → Respects ssa places → Contains (accesses ssa) x → Contains (accesses ssa) y → conflict (noalias_flags ssa) x y ≡ false → (x.writes || y.writes) ≡ true → AreApart places x y
 no-conflict-apart ssa places x y respects cx cy h writes = elim (and_cases _ _ h) [
   | inl f ↦ absurd (true≢false (sym writes ∙ f))
   | inr f ↦ elim (cases_Bool (nat_eq x.address.pointer y.address.pointer)) [

@@ -4,7 +4,7 @@ use Rattle.std.specs.List.{flat_map}
 use Rattle.std.specs.Option.{option_map_or}
 use Rattle.vg_shapes.specs.declared.access.Access.{Access}
 use Rattle.vg_shapes.specs.declared.ssa.Ssa.{Ssa}
-use Rattle.vg_shapes.specs.Layout.{access_at, is_noalias}
+use Rattle.vg_shapes.specs.Layout.{access_at, is_noalias, noalias_flags}
 use Rattle.vg_shapes.specs.Order.{numbers_from}
 use Rattle.vg_shapes.specs.Units.{arguments, is_unit, unit_at, uses_value}
 
@@ -14,24 +14,24 @@ overlap x y =
     int_lt x.address.offset (y.address.offset +ℤ pos y.size)
     && int_lt y.address.offset (x.address.offset +ℤ pos x.size)
 
--- two accesses may share a byte in a layout that respects noalias
-abbrev pub may_share : Ssa → Access → Access → Bool
-may_share ssa x y =
+-- two accesses may share a byte in a layout that respects noalias, by the flags of all pointers
+abbrev pub may_share : List Bool → Access → Access → Bool
+may_share flags x y =
     if nat_eq x.address.pointer y.address.pointer then overlap x y
-    else not (is_noalias ssa x || is_noalias ssa y)
+    else not (is_noalias flags x || is_noalias flags y)
 
 -- one of two accesses writes, and they may share a byte
-abbrev pub conflict : Ssa → Access → Access → Bool
-conflict ssa x y = (x.writes || y.writes) && may_share ssa x y
+abbrev pub conflict : List Bool → Access → Access → Bool
+conflict flags x y = (x.writes || y.writes) && may_share flags x y
 
 -- the same of what two units access, if they do
-abbrev pub conflict_of : Ssa → Option Access → Option Access → Bool
-conflict_of ssa None y = false
-conflict_of ssa (Some x) None = false
-conflict_of ssa (Some x) (Some y) = conflict ssa x y
+abbrev pub conflict_of : List Bool → Option Access → Option Access → Bool
+conflict_of flags None y = false
+conflict_of flags (Some x) None = false
+conflict_of flags (Some x) (Some y) = conflict flags x y
 
 abbrev pub conflict_at : Ssa → ℕ → ℕ → Bool
-conflict_at ssa x y = conflict_of ssa (access_at ssa x) (access_at ssa y)
+conflict_at ssa x y = conflict_of (noalias_flags ssa) (access_at ssa x) (access_at ssa y)
 
 -- the unit of one number uses the value of another
 abbrev pub uses_at : Ssa → ℕ → ℕ → Bool

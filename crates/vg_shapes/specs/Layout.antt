@@ -5,7 +5,7 @@ use Rattle.vg_base.specs.Address.{place_of}
 use Rattle.vg_base.specs.Trap.{◌>>=◌}
 use Rattle.vg_base.specs.Width.{size_of}
 use Rattle.vg_shapes.specs.declared.access.Access.{Access}
-use Rattle.vg_shapes.specs.declared.ssa.SsaParam.{SsaParam}
+use Rattle.vg_shapes.specs.declared.ssa.SsaParamKind.{SsaParamKind}
 use Rattle.vg_shapes.specs.declared.ssa.SsaParamKind.TheVariants.{Pointer, Integer}
 use Rattle.vg_shapes.specs.declared.ssa.Ssa.{Ssa}
 use Rattle.vg_shapes.specs.declared.unit.Unit.{Unit as Work}
@@ -27,23 +27,24 @@ abbrev pub accesses : Ssa → List Access
 accesses ssa = filter_map access_of ssa.units
 
 -- of a pointer, whether it is `noalias`
-abbrev pub noalias_of : SsaParam → Option Bool
-noalias_of p = elim p.kind [ Pointer noalias ↦ Some noalias | Integer w ↦ None ]
+abbrev pub noalias_of : SsaParamKind → Option Bool
+noalias_of (Pointer noalias) = Some noalias
+noalias_of (Integer w) = None
 
 -- of each pointer, in order
 abbrev pub noalias_flags : Ssa → List Bool
-noalias_flags ssa = filter_map noalias_of ssa.params
+noalias_flags ssa = filter_map (λ p. noalias_of p.kind) ssa.params
 
--- the pointer of an access is `noalias`
-abbrev pub is_noalias : Ssa → Access → Bool
-is_noalias ssa x = unwrap_or (slice_get (noalias_flags ssa) x.address.pointer) false
+-- the pointer of an access is `noalias`, by the flags of all pointers
+abbrev pub is_noalias : List Bool → Access → Bool
+is_noalias flags x = unwrap_or (slice_get flags x.address.pointer) false
 
 -- two accesses that have to stay apart: through different pointers, one of them noalias, and one
 -- access writes
 abbrev pub AreBound : Ssa → Access → Access → Type 0
 AreBound ssa x y =
     (x.address.pointer ≢ y.address.pointer)
-    × (is_noalias ssa x || is_noalias ssa y ≡ true)
+    × (is_noalias (noalias_flags ssa) x || is_noalias (noalias_flags ssa) y ≡ true)
     × (x.writes || y.writes ≡ true)
 
 -- the bytes of two accesses are apart

@@ -1,10 +1,12 @@
 pub mod DepList
 pub mod Depends
 pub mod Description
+pub mod Fits
 pub mod Lane
 pub mod Layout
 pub mod Leaves
 pub mod Nodes
+pub mod Operands
 pub mod Order
 pub mod Pack
 pub mod Registers

@@ -1,6 +1,6 @@
 -- The nodes of a list of packs: the packs, and the units outside them. Their dependences, cycles and
 -- legal orders.
-use Rattle.std.specs.Prelude.{◌≡◌, ℕ, ◌+◌, ◌&&◌, not, Bool, true, false, List, [], ◌∷◌, ◌++◌, length, map, filter, Option, slice_get, nat_eq, Contains}
+use Rattle.std.specs.Prelude.{◌≡◌, ◌≤◌, ℕ, ◌+◌, ◌&&◌, not, Bool, true, false, List, [], ◌∷◌, ◌++◌, length, map, filter, Option, None, slice_get, nat_eq, Contains}
 use Rattle.std.specs.List.{AllByRecursion, flat_map, list_any}
 use Rattle.std.specs.List.Sorted.{IsPermutation}
 use Rattle.std.specs.Option.{option_map_or}
@@ -11,7 +11,8 @@ use Rattle.vg_shapes.specs.declared.pack.Pack.{Pack as Packed}
 use Rattle.vg_shapes.specs.declared.pack.Pack.TheVariants.{Stores, Loads, Call}
 use Rattle.vg_shapes.specs.declared.ssa.Ssa.{Ssa}
 use Rattle.vg_shapes.specs.Depends.{depends_on}
-use Rattle.vg_shapes.specs.Order.{Follows, numbers_from, Stands}
+use Rattle.vg_shapes.specs.Layout.{access_at}
+use Rattle.vg_shapes.specs.Order.{count_of, Follows, numbers_from, one_if, Stands}
 use Rattle.vg_shapes.specs.Pack.{bounds_from, units_of}
 use Rattle.vg_shapes.specs.Units.{arguments, is_unit, is_value}
 
@@ -21,6 +22,18 @@ packed packs = flat_map units_of packs
 
 abbrev pub is_packed : List Packed → ℕ → Bool
 is_packed packs v = list_any (nat_eq v) (packed packs)
+
+-- the lanes of a call are operations
+abbrev pub CallsOperations : Ssa → Packed → Type 0
+CallsOperations ssa (Stores us) = Unit {0}
+CallsOperations ssa (Loads us) = Unit {0}
+CallsOperations ssa (Call d lanes) =
+    AllByRecursion (λ v. access_at ssa v ≡ None) (units_of (Call d lanes))
+
+-- packs of units, none of which stands in them twice
+pub record ArePacks (ssa : Ssa) (packs : List Packed) : Type 0 where
+  pub once : (v : ℕ) → count_of v (packed packs) ≤ one_if (is_unit ssa v)
+  pub calls : AllByRecursion (CallsOperations ssa) packs
 
 -- the units that are done with a node
 abbrev pub units_at : List Packed → Node → List ℕ

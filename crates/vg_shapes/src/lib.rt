@@ -29,7 +29,7 @@ pub use dep_list::DepList;
 pub use description::Description;
 pub use lane::Lane;
 pub use lanes::Lanes;
-pub use law::leaves_read_registers;
+pub use law::{leaves_read_registers, replaced_leaves_keep_numbers};
 pub use leaf::Leaf;
 pub use match_table::{Bound, Match};
 pub use operand::{Operand, Slot};

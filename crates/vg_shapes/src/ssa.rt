@@ -1,6 +1,7 @@
 //! A kernel as numbered values.
 
 ghost use Rattle.std.specs.Prelude.{◌≡◌, length};
+ghost use Rattle.vg_shapes.specs.Layout.{noalias_of};
 ghost use Rattle.vg_shapes.specs.Units.{arguments, integers_of, is_integer};
 
 use crate::unit::Unit;
@@ -38,6 +39,16 @@ pub struct Ssa {
 }
 
 impl SsaParamKind {
+    /// Of a pointer, whether it is noalias.
+    pub fn noalias(self) -> Option<bool>
+        ensures { result ≡ noalias_of self }
+    {
+        match self {
+            SsaParamKind::Pointer { noalias } => Some(noalias),
+            SsaParamKind::Integer(_) => None,
+        }
+    }
+
     pub fn is_integer(self) -> bool
         ensures { result ≡ is_integer self }
     {

@@ -1,0 +1,14 @@
+//! Which units of a kernel depend on which, and which layouts respect noalias.
+//!
+//! `specs/Depends.antt` of `vg_shapes` says what a dependence is, and its `specs/Layout.antt` what
+//! respects noalias.
+#![tactic(auto)]
+
+mod conflict;
+pub mod dependences;
+pub mod independence;
+pub mod layouts;
+
+pub use dependences::depends;
+pub use independence::independent;
+pub use layouts::respects;

@@ -1,0 +1,8 @@
+//! Kernels as numbered values: which units they have, and what terms their values have.
+//!
+//! `specs/Numbering.antt` says which units a kernel has, and `specs/ValueTerm.antt` which terms.
+#![tactic(auto)]
+
+pub mod law;
+
+pub use law::units_run_as_kernels;
