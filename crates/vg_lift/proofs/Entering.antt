@@ -38,7 +38,7 @@ clears : (env : Env) (ps : List (List ℕ)) (n : ℕ) → map (bit_value env ps)
 clears env ps zero = refl
 clears env ps (suc n) = ap (λ l. 0 ∷ l) (clears env ps n)
 
-length-clears : {A : Type 0} (n : ℕ) (x : A) → length (replicate n x) ≡ n
+pub length-clears : {A : Type 0} (n : ℕ) (x : A) → length (replicate n x) ≡ n
 length-clears zero x = refl
 length-clears (suc n) x = ap suc (length-clears n x)
 
@@ -107,7 +107,7 @@ passed-value env ps w (of_number m) n h p = pieces-value env ps w m 0 w (omega a
 passed-value env ps w (of_parameter q) n h p =
     inputs-value env ps q 0 w h (whole_width w (length (get_or ps q [])) p.0) ∙ ap (bits w) (div-one (num (get_or ps q [])) ∙ p.1)
 
-passed-long : (w : ℕ) (g : Passed) → length (bits_passed w g) ≡ w
+pub passed-long : (w : ℕ) (g : Passed) → length (bits_passed w g) ≡ w
 passed-long w (of_bits bs) = length-append (take w bs) (replicate (w - length bs) clear) ∙ ap (λ n. length (take w bs) + n) (length-clears (w - length bs) clear) ∙ simp (length-take) (omega arith)
 passed-long w (of_number m) = length-pieces w m 0 w
 passed-long w (of_parameter q) = length-inputs q 0 w

@@ -9,3 +9,6 @@ pub mod Inside
 pub mod Nodes
 pub mod JoinSteps
 pub mod StateSteps
+pub mod Constants
+pub mod Puts
+pub mod Begins

@@ -1,5 +1,5 @@
 -- Joining registers and variables, one after the other.
-use Rattle.std.proofs.Common.{◌≡◌, ℕ, zero, suc, add-one, append_assoc, append-nil, ◌++◌, ◌+◌, ◌<◌, ◌≤◌, refl, sym, ap, ◌∙◌, subst, arith, inl, inr, Bool, true, false, List, [], ◌∷◌, length, get_or, take, drop, ◌-◌, length-append}
+use Rattle.std.proofs.Common.{◌≡◌, ℕ, zero, suc, add-one, append_assoc, append-nil, ◌++◌, ◌+◌, ◌<◌, ◌≤◌, refl, sym, ap, ◌∙◌, subst, arith, inl, inr, Bool, true, false, List, [], ◌∷◌, length, get_or, take, drop, ◌-◌, length-append, length-take, length-drop}
 use Rattle.std.specs.Prelude.{if◌then◌else◌, map, slice_index_or}
 use Rattle.std.proofs.lemmas.Bool.{cases_Bool, eq-eqb, ne_eqb, cond-true, cond-false}
 use Rattle.std.proofs.lemmas.List.{map-append, length-map}
@@ -7,6 +7,7 @@ use Rattle.vg_terms.specs.Term.{Tree, sel, width_of}
 use Rattle.vg_terms.specs.Order.{is_same_term}
 use Rattle.vg_pool.specs.declared.content.Content.{Content}
 use Rattle.vg_pool.specs.Pool.{IsPool, Keeps, StandsFor, tree_at}
+use Rattle.vg_bits.specs.Range.{range}
 use Rattle.vg_lift.specs.Gather as pure
 use Rattle.vg_lift.specs.LaneTerm as lane
 use Rattle.vg_lift.specs.Gather.{size, start, longer, bits_from}
@@ -205,3 +206,38 @@ made rs vs = record { registers = rs; variables = vs }
 
 pub state_at : (rs qs : List (List pure.Bit)) (vs us : List Tree) → rs ≡ qs → vs ≡ us → made rs vs ≡ made qs us
 state_at rs qs vs us e f = ap (λ r. made r vs) e ∙ ap (made qs) f
+
+-- ---- a slice
+
+pub take_of : (pool : List Content) (n : ℕ) (bs : List Bit) → bits_of pool (take n bs) ≡ take n (bits_of pool bs)
+take_of pool zero [] = refl
+take_of pool zero (b ∷ bs) = refl
+take_of pool (suc n) [] = refl
+take_of pool (suc n) (b ∷ bs) = ap (λ l. bit_of pool b ∷ l) (take_of pool n bs)
+
+pub drop_of : (pool : List Content) (n : ℕ) (bs : List Bit) → bits_of pool (drop n bs) ≡ drop n (bits_of pool bs)
+drop_of pool zero [] = refl
+drop_of pool zero (b ∷ bs) = refl
+drop_of pool (suc n) [] = refl
+drop_of pool (suc n) (b ∷ bs) = drop_of pool n bs
+
+pub take_fits : (pool : List Content) (n : ℕ) (bs : List Bit) → BitsFit pool bs → BitsFit pool (take n bs)
+take_fits pool zero [] h = tt
+take_fits pool zero (b ∷ bs) h = tt
+take_fits pool (suc n) [] h = tt
+take_fits pool (suc n) (b ∷ bs) h = (h.0, take_fits pool n bs h.1)
+
+pub drop_fits : (pool : List Content) (n : ℕ) (bs : List Bit) → BitsFit pool bs → BitsFit pool (drop n bs)
+drop_fits pool zero [] h = tt
+drop_fits pool zero (b ∷ bs) h = h
+drop_fits pool (suc n) [] h = tt
+drop_fits pool (suc n) (b ∷ bs) h = drop_fits pool n bs h.1
+
+pub range_of : (pool : List Content) (l w : ℕ) (bs : List Bit) → bits_of pool (range l w bs) ≡ range l w (bits_of pool bs)
+range_of pool l w bs = take_of pool w (drop l bs) ∙ ap (take w) (drop_of pool l bs)
+
+pub range_fits : (pool : List Content) (l w : ℕ) (bs : List Bit) → BitsFit pool bs → BitsFit pool (range l w bs)
+range_fits pool l w bs h = take_fits pool w (drop l bs) (drop_fits pool l bs h)
+
+pub range_length : (l w : ℕ) (bs : List Bit) → l + w ≤ length bs → length (range l w bs) ≡ w
+range_length l w bs h = simp (length-take, length-drop) (omega arith)

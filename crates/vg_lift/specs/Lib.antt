@@ -6,3 +6,5 @@ pub mod Means
 pub mod Views
 pub mod Steps
 pub mod States
+pub mod Lanes
+pub mod Passed

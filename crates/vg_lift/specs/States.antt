@@ -1,5 +1,5 @@
 -- States over the nodes of a pool, without the numbers of the nodes.
-use Rattle.std.specs.Prelude.{◌≡◌, ℕ, List, [], ◌∷◌, length, map, if◌then◌else◌}
+use Rattle.std.specs.Prelude.{◌≡◌, ℕ, List, [], ◌∷◌, length, map, set, if◌then◌else◌}
 use Rattle.vg_pool.specs.declared.content.Content.{Content}
 use Rattle.vg_terms.specs.Term.{Tree, sel}
 use Rattle.vg_terms.specs.Order.{is_same_term}
@@ -35,3 +35,21 @@ pub record StateFits (pool : List Content) (s : State) : Type 0 where
 -- the term of a variable where a condition takes one of two ways
 abbrev pub joined_node : Tree → Tree → Tree → Tree
 joined_node c x y = if is_same_term x y then x else sel 128 c x y
+
+-- What is left in a state is this one, its registers and variables fit, and it has as many of them,
+-- of the same widths, as the state had.
+pub record Leaves (pool : List Content) (old new : State) (s : pure.State) : Type 0 where
+  pub is : state_of pool new ≡ s
+  pub fits : StateFits pool new
+  pub widths : widths_in new ≡ widths_in old
+  pub count : length new.variables.items ≡ length old.variables.items
+
+-- a variable becomes this term
+abbrev pub with_variable : ℕ → Tree → pure.State → pure.State
+with_variable k t s = record { registers = s.registers; variables = set s.variables k t }
+
+-- What a body begins or ends with: this state, whose registers have these widths.
+pub record Begins (pool : List Content) (widths : List ℕ) (new : State) (s : pure.State) : Type 0 where
+  pub is : state_of pool new ≡ s
+  pub fits : StateFits pool new
+  pub widths_are : widths_in new ≡ widths

@@ -4,11 +4,16 @@
 //! `specs/Join.antt`, and `specs/Means.antt` that its value is the lane.
 #![tactic(auto)]
 
+pub mod begin;
 pub mod bit;
+pub mod constant;
 pub mod gather;
 pub mod join;
 pub mod join_states;
+pub mod lane;
 pub mod law;
+pub mod passed;
+pub mod putting;
 pub mod run;
 pub mod state;
 

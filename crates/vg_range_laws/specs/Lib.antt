@@ -1,0 +1,2 @@
+pub mod Static
+pub mod StaticInstances
