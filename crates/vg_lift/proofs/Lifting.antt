@@ -24,7 +24,7 @@ use Rattle.vg_script.specs.Cells.{Cells, word_value, behind, numbers_given, bits
 use Rattle.vg_script.specs.Formed.{Formed, FrameFormed, GivenFormed, ScriptFormed, frame_widths}
 use Rattle.vg_lift.specs.Gather.{bits_from}
 use Rattle.vg_lift.specs.LaneTerm.{State, absolute_term, term, left_by, passed, lifted, lifted_arm}
-use Rattle.vg_lift.specs.Static.{IsStaticWord, IsStaticFrame, IsStaticGiven, IsStatic}
+use Rattle.vg_range_laws.specs.Static.{IsStaticWord, IsStaticFrame, IsStaticGiven, IsStatic}
 use Rattle.vg_lift.proofs.Stands.{bit_value, BitsFormed}
 use Rattle.vg_lift.proofs.Joining.{bits_from-value, length-bits_from, bits_from-formed}
 use Rattle.vg_lift.proofs.Holding.{Lifting, Gathered, slice-lifts, slice-bits, slice-formed, slice-long, joined-lifts, puts-lifts, low-bits, set-terms, pieces-value, length-pieces, pieces-formed, variable_value, variable_formed}

@@ -9,7 +9,7 @@ use Rattle.vg_script.specs.Cells.{Cells, entered, after}
 use Rattle.vg_script.specs.Formed.{ScriptFormed}
 use Rattle.vg_script.specs.Views.{Whole}
 use Rattle.vg_lift.specs.LaneTerm.{lane_term}
-use Rattle.vg_lift.specs.Static.{IsStatic}
+use Rattle.vg_range_laws.specs.Static.{IsStatic}
 
 -- the cells as an instance begins, given the numbers of its parameters and behind them the immediate
 abbrev pub first_cells : Whole → List ℕ → Cells
