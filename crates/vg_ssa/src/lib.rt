@@ -5,4 +5,4 @@
 
 pub mod law;
 
-pub use law::units_run_as_kernels;
+pub use law::{layouts_are_the_same, units_are_counted, units_run_as_kernels};
