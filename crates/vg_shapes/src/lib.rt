@@ -3,7 +3,7 @@
 //!
 //! `specs/Registers.antt` says what a leaf reads of the registers that an instruction is given,
 //! `specs/RunUnits.antt` what the units of a kernel do, `specs/Depends.antt` which of them depend on
-//! which, and `specs/Order.antt` which orders are legal.
+//! which, and `specs/Nodes.antt` which orders of packs and units are legal.
 #![tactic(auto)]
 
 pub mod access;
