@@ -5,7 +5,7 @@
 //! `specs/Registers.antt` says what a leaf reads of the registers that an instruction is given,
 //! `specs/Leaves.antt` which leaves a value can stand at, `specs/Description.antt` what a description
 //! promises, `specs/RunUnits.antt` what the units of a kernel do, `specs/Depends.antt` which of them
-//! depend on which, and `specs/Order.antt` which orders are legal.
+//! depend on which, and `specs/Nodes.antt` which orders of packs and units are legal.
 #![tactic(auto)]
 
 pub mod access;

@@ -1,7 +1,7 @@
 -- How many units a kernel has, and how many integer parameters stand before them.
 use Rattle.std.proofs.Common.{◌≡◌, ℕ, suc, ◌+◌, List, [], ◌∷◌, ◌++◌, length, map, Option, Some, None, refl, sym, ap, ◌∙◌}
-use Rattle.std.specs.Prelude.{filter, sum_by, if◌then◌else◌}
-use Rattle.std.specs.List.{cons_option, filter_map}
+use Rattle.std.specs.Prelude.{sum_by, if◌then◌else◌}
+use Rattle.std.specs.List.{cons_option}
 use Rattle.std.proofs.lemmas.List.{length-append}
 use Rattle.std.proofs.lemmas.List.Sums.{sum_by-cons}
 use Rattle.vg_base.specs.declared.width.Width.{Width}
@@ -9,11 +9,10 @@ use Rattle.vg_kernel.specs.declared.parameter.KParam.{KParam}
 use Rattle.vg_kernel.specs.declared.parameter.KParamKind.{KParamKind}
 use Rattle.vg_kernel.specs.declared.parameter.KParamKind.TheVariants as kinds
 use Rattle.vg_kernel.specs.Cost.{expression_cost, statement_cost}
-use Rattle.vg_kernel.specs.Tree.{Expression, argument, assigned, literal, load, two, shift, resize, compare, select, Statement, assign, store, Tree}
-use Rattle.vg_kernel.specs.WellFormed.{integer_width, integer_widths}
-use Rattle.vg_shapes.specs.declared.ssa.Ssa.{Ssa}
+use Rattle.vg_kernel.specs.Tree.{Expression, argument, assigned, literal, load, two, shift, resize, compare, select, Statement, assign, store}
+use Rattle.vg_kernel.specs.WellFormed.{integer_widths}
 use Rattle.vg_shapes.specs.declared.unit.Unit.{Unit as Work}
-use Rattle.vg_shapes.specs.declared.unit.Unit.TheVariants.{Load, Store, Operation}
+use Rattle.vg_shapes.specs.declared.unit.Unit.TheVariants.{Store}
 use Rattle.vg_shapes.specs.declared.wanted.Wanted.{Wanted}
 use Rattle.vg_shapes.specs.Units.{integers_of, is_integer}
 use Rattle.vg_ssa.specs.Laws.{ArgumentsFirst, UnitsAreTheCost}

@@ -1,3 +1,4 @@
 pub mod Counts
+pub mod Earlier
 pub mod Running
 pub mod SameAccesses

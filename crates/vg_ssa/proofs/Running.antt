@@ -1,8 +1,7 @@
 -- The units of a kernel run as the kernel does. The invariant is `Meets`: the run of the units so far has the
 -- memory of the run of the statements, what stands for each name has its number, and the arguments stand first.
-use Rattle.std.proofs.Common.{◌≡◌, ℕ, zero, suc, ◌+◌, ◌<◌, ◌≤◌, List, [], ◌∷◌, ◌++◌, length, Option, Some, None, refl, sym, ap, subst, ◌∙◌, arith, inl, inr, append_assoc, append-nil, get_or}
+use Rattle.std.proofs.Common.{◌≡◌, ℕ, zero, suc, ◌+◌, ◌<◌, ◌≤◌, List, [], ◌∷◌, ◌++◌, length, Option, Some, None, refl, sym, ap, subst, ◌∙◌, arith, append_assoc, append-nil}
 use Rattle.std.specs.Prelude.{slice_get, slice_index, slice_index_or}
-use Rattle.std.proofs.lemmas.Bool.{cases_lt}
 use Rattle.std.proofs.lemmas.List.{get_or_append_left, get_or_push, length-append, length_push}
 use Rattle.vg_base.specs.Trap.{◌>>=◌}
 use Rattle.vg_base.specs.declared.address.Address.{Address}
@@ -13,9 +12,9 @@ use Rattle.vg_base.specs.Width.{bits_of, size_of}
 use Rattle.vg_base.specs.declared.width.Width.{Width}
 use Rattle.vg_kernel.specs.declared.parameter.KParam.{KParam}
 use Rattle.vg_kernel.specs.declared.value_type.ValueType.{ValueType}
-use Rattle.vg_kernel.specs.Meaning.{Inputs, State, after, meaning, run, value}
-use Rattle.vg_kernel.specs.Tree.{Expression, argument, assigned, literal, load, two, shift, resize, compare, select, Statement, assign, store, Tree, gives}
-use Rattle.vg_kernel.specs.WellFormed.{AreStatements, integer_widths, IsExpression, IsWellFormed}
+use Rattle.vg_kernel.specs.Meaning.{Inputs, State, meaning, run, value}
+use Rattle.vg_kernel.specs.Tree.{Expression, argument, assigned, literal, load, two, shift, resize, compare, select, Statement, assign, store, gives}
+use Rattle.vg_kernel.specs.WellFormed.{AreStatements, integer_widths, IsExpression}
 use Rattle.vg_scalar.specs.Scalar.{two_result, shift_result, resize_result, comparison_result, select_result}
 use Rattle.vg_shapes.specs.declared.unit.Operands.{Operands}
 use Rattle.vg_shapes.specs.declared.unit.Operator.{Operator}
@@ -24,10 +23,10 @@ use Rattle.vg_shapes.specs.declared.unit.Unit.{Unit as Work}
 use Rattle.vg_shapes.specs.declared.unit.Unit.TheVariants.{Load, Store, Operation}
 use Rattle.vg_shapes.specs.declared.wanted.Wanted.{Wanted}
 use Rattle.vg_shapes.specs.declared.wanted.Wanted.TheVariants.{Value, Constant, Nothing}
-use Rattle.vg_shapes.specs.RunUnits.{number_of, operation_result, Reached, reached, result_of, run_units, start_of, unit_run}
+use Rattle.vg_shapes.specs.RunUnits.{number_of, Reached, reached, result_of, run_units, start_of, unit_run}
 use Rattle.vg_shapes.specs.Sound.{IsEarlier}
 use Rattle.vg_ssa.specs.Laws.{UnitsRunAsKernels}
-use Rattle.vg_ssa.specs.Numbering.{first_unit, numbered, operands, units_from, units_of}
+use Rattle.vg_ssa.specs.Numbering.{first_unit, numbered, operands, units_from}
 
 -- ---- runs
 
@@ -73,7 +72,7 @@ number-stays numbers more (Value v) h = get_or_append_left numbers more 0 v h
 number-stays numbers more (Constant w n) h = refl
 number-stays numbers more Nothing h = refl
 
-earlier-stays : (m n : ℕ) (x : Wanted) → m ≤ n → IsEarlier m x → IsEarlier n x
+pub earlier-stays : (m n : ℕ) (x : Wanted) → m ≤ n → IsEarlier m x → IsEarlier n x
 earlier-stays m n (Value v) l h = omega arith
 earlier-stays m n (Constant w k) l h = tt
 earlier-stays m n Nothing l h = tt
@@ -146,7 +145,7 @@ meets-more a i s names r us t m g =
       early = λ k. earlier-stays (length r.numbers) (length t.numbers) (slice_index_or names k Nothing) (omega arith) (m.early k);
     }
 
-get-below : {A : Type 0} (xs : List A) (k : ℕ) (x : A) → slice_get xs k ≡ Some x → k < length xs
+pub get-below : {A : Type 0} (xs : List A) (k : ℕ) (x : A) → slice_get xs k ≡ Some x → k < length xs
 get-below [] k x e = absurd (cc)
 get-below (y ∷ ys) zero x e = omega arith
 get-below (y ∷ ys) (suc k) x e = let rest = get-below ys k x e in omega arith
@@ -239,7 +238,7 @@ named-more numbers (y ∷ names) [] x v long named e k = absurd (omega arith)
 named-more numbers (y ∷ names) (z ∷ values) x v long named e zero = named 0
 named-more numbers (y ∷ names) (z ∷ values) x v long named e (suc k) = named-more numbers names values x v (omega arith) (λ j. named (suc j)) e k
 
-early-more : (n : ℕ) (names : List Wanted) (x : Wanted) → ((k : ℕ) → IsEarlier n (slice_index_or names k Nothing)) → IsEarlier n x → (k : ℕ) → IsEarlier n (slice_index_or (names ++ x ∷ []) k Nothing)
+pub early-more : (n : ℕ) (names : List Wanted) (x : Wanted) → ((k : ℕ) → IsEarlier n (slice_index_or names k Nothing)) → IsEarlier n x → (k : ℕ) → IsEarlier n (slice_index_or (names ++ x ∷ []) k Nothing)
 early-more n [] x early e zero = e
 early-more n [] x early e (suc k) = tt
 early-more n (y ∷ names) x early e zero = early 0

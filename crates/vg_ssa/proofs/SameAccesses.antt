@@ -1,5 +1,5 @@
 -- The units of a kernel make its accesses, and the layouts that respect noalias are the same.
-use Rattle.std.proofs.Common.{◌≡◌, ◌≢◌, ℕ, zero, suc, ◌+◌, ◌<◌, Bool, true, false, List, [], ◌∷◌, ◌++◌, length, map, Option, Some, None, refl, sym, ap, subst, ◌∙◌, ◌↔◌, arith, append-nil, append_assoc, get_or}
+use Rattle.std.proofs.Common.{◌≡◌, ℕ, zero, suc, ◌+◌, Bool, false, List, [], ◌∷◌, ◌++◌, length, map, Option, Some, None, refl, sym, ap, subst, ◌∙◌, arith, append-nil, append_assoc, get_or}
 use Rattle.std.specs.Prelude.{Contains, slice_get, unwrap_or, ◌||◌}
 use Rattle.std.specs.List.{cons_option, filter_map, flat_map}
 use Rattle.std.proofs.lemmas.List.{map-append}
@@ -7,18 +7,15 @@ use Rattle.std.proofs.lemmas.List.Elements.{filter_map-append}
 use Rattle.vg_kernel.specs.declared.parameter.KParam.{KParam}
 use Rattle.vg_kernel.specs.declared.parameter.KParamKind.{KParamKind}
 use Rattle.vg_kernel.specs.declared.parameter.KParamKind.TheVariants as kinds
-use Rattle.vg_kernel.specs.Layout.{Access as KernelAccess, accesses as kernel_accesses, noalias_flags as kernel_flags, noalias_of as kernel_noalias, reads_of, Respects as RespectsKernel, statement_accesses}
-use Rattle.vg_kernel.specs.Tree.{Expression, argument, assigned, literal, load, two, shift, resize, compare, select, Statement, assign, store, Tree}
+use Rattle.vg_kernel.specs.Layout.{Access as KernelAccess, accesses as kernel_accesses, noalias_flags as kernel_flags, noalias_of as kernel_noalias, reads_of, statement_accesses}
+use Rattle.vg_kernel.specs.Tree.{Expression, argument, assigned, literal, load, two, shift, resize, compare, select, Statement, assign, store}
 use Rattle.vg_shapes.specs.declared.access.Access.{Access}
-use Rattle.vg_shapes.specs.declared.ssa.Ssa.{Ssa}
-use Rattle.vg_shapes.specs.declared.unit.Operands.{Operands}
-use Rattle.vg_shapes.specs.declared.unit.Operator.{Operator}
 use Rattle.vg_shapes.specs.declared.unit.Unit.{Unit as Work}
-use Rattle.vg_shapes.specs.declared.unit.Unit.TheVariants.{Load, Store, Operation}
+use Rattle.vg_shapes.specs.declared.unit.Unit.TheVariants.{Store}
 use Rattle.vg_shapes.specs.declared.wanted.Wanted.{Wanted}
-use Rattle.vg_shapes.specs.Layout.{access_of as unit_access, accesses, AreApart, noalias_flags, noalias_of, Respects}
+use Rattle.vg_shapes.specs.Layout.{access_of as unit_access, noalias_flags, noalias_of}
 use Rattle.vg_ssa.specs.Laws.{access_of, SameAccesses, SameLayouts}
-use Rattle.vg_ssa.specs.Numbering.{first_unit, IsNumbering, kind_of, numbered, param_of, units_from}
+use Rattle.vg_ssa.specs.Numbering.{first_unit, kind_of, numbered, param_of, units_from}
 
 -- ---- accesses
 

@@ -44,3 +44,7 @@ UnitsAreTheCost = (k : Tree) → length (units_of k) ≡ scalar_cost k
 -- the units are numbered behind the integer parameters
 abbrev pub ArgumentsFirst : Type 0
 ArgumentsFirst = (k : Tree) (ssa : Ssa) → IsNumbering k ssa → arguments ssa ≡ first_unit k
+
+-- each unit takes values before it alone
+abbrev pub UnitsTakeEarlier : Type 0
+UnitsTakeEarlier = (k : Tree) → IsWellFormed k → TakeEarlier (first_unit k) (units_of k)

@@ -1,6 +1,6 @@
 //! What numbered values promise.
 
-ghost use Rattle.vg_ssa.specs.Laws.{ArgumentsFirst, SameAccesses, SameLayouts, UnitsAreTheCost, UnitsRunAsKernels};
+ghost use Rattle.vg_ssa.specs.Laws.{ArgumentsFirst, SameAccesses, SameLayouts, UnitsAreTheCost, UnitsRunAsKernels, UnitsTakeEarlier};
 
 /// A law that costs nothing to call: the units of a well-formed kernel leave the memory that the
 /// kernel leaves, and trap where it traps.
@@ -20,4 +20,9 @@ pub fn layouts_are_the_same()
 pub fn units_are_counted()
     ensures cost { UnitsAreTheCost }
     ensures first { ArgumentsFirst }
+{}
+
+/// A law: each unit of a well-formed kernel takes values before it alone.
+pub fn units_take_earlier_values()
+    ensures { UnitsTakeEarlier }
 {}

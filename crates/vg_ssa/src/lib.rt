@@ -5,4 +5,6 @@
 
 pub mod law;
 
-pub use law::{layouts_are_the_same, units_are_counted, units_run_as_kernels};
+pub use law::{
+    layouts_are_the_same, units_are_counted, units_run_as_kernels, units_take_earlier_values,
+};
