@@ -2,6 +2,10 @@
 #![tactic(auto)]
 
 #[cfg(test)]
+mod call_sides;
+#[cfg(test)]
+mod deep_texts;
+#[cfg(test)]
 mod extension_sets;
 #[cfg(test)]
 mod file_texts;
