@@ -15,7 +15,7 @@ fn left_by(
     let program = parse_program(rt.alloc(), text, &[])
         .ok()
         .ok_or("the program is valid")?;
-    let mut machine = Machine::new(rt.alloc(), &program)?;
+    let mut machine = Machine::new(rt.alloc(), &[], &program)?;
     let mut zeros = vec![in rt.alloc(); 0; memory.len()]?;
     let _ = machine.run(zeros.as_mut_slice(), places, args);
     let mut after = Vec::from_slice(rt.alloc(), memory)?;

@@ -235,7 +235,7 @@ fn left_by(rt: &HostRuntime, text: &[u8], memory: &[u8]) -> Result<Option<Vec<u8
     let program = parse_program(rt.alloc(), text, &[])
         .ok()
         .ok_or("the program is valid")?;
-    let mut machine = Machine::new(rt.alloc(), &program)?;
+    let mut machine = Machine::new(rt.alloc(), &[], &program)?;
     let mut after = Vec::from_slice(rt.alloc(), memory)?;
     match machine.run(after.as_mut_slice(), &[0], &[]) {
         Outcome::Done => Ok(Some(after)),

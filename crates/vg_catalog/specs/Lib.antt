@@ -1,3 +1,4 @@
+pub mod Called
 pub mod Catalogs
 pub mod Entries
 pub mod Extensions

@@ -1,1 +1,4 @@
+pub mod FirstPlaces
+pub mod Kept
+pub mod Planner
 pub mod State

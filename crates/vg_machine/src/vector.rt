@@ -1,7 +1,7 @@
 //! Registers.
 
 ghost use Rattle.std.specs.Prelude.{◌≡◌, ◌≤◌, ◌<◌, ◌+◌, ◌*◌, ◌^◌, ◌++◌, length, take, drop};
-ghost use Rattle.vg_base.specs.Bits.{bytes, num};
+ghost use Rattle.vg_base.specs.Bits.{bits_of_bytes, bytes, num};
 ghost use Rattle.vg_base.specs.Width.{bits_of};
 ghost use Rattle.vg_bits.specs.BitList.{IsBytes};
 ghost use Rattle.vg_program.specs.Valid.{IsLane};
@@ -73,6 +73,25 @@ impl Vector {
             register: Reg { bytes },
             size,
         }
+    }
+
+    /// The low bytes of a register.
+    #[tactic(auto, using(crate::proofs::Calls::low_bytes))]
+    pub(crate) fn of(register: Reg<64>, size: usize) -> Vector
+        requires { size ≤ 64 }
+        ensures { result ≡ take (8 * size) (bits_of_bytes register.bytes) }
+    {
+        Vector { register, size }
+    }
+
+    /// The register with zeros above it.
+    #[tactic(auto, using(crate::proofs::Calls::widened_number))]
+    pub(crate) fn whole(&self) -> Reg<64>
+        ensures { num (bits_of_bytes result.bytes) ≡ num self.now }
+    {
+        let mut all = [0u8; 64];
+        put_front(&mut all, front(&self.register.bytes, self.size));
+        Reg { bytes: all }
     }
 
     /// The low bytes.

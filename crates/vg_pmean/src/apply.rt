@@ -6,7 +6,7 @@ ghost use Rattle.vg_base.specs.Bits.{bits, bits_of_bytes, num};
 ghost use Rattle.vg_pmean.specs.Applied.{AreReady, answer, given, place_of};
 ghost use Rattle.vg_pmean.specs.Readied.{ready, ready_of};
 
-use crate::frames::Frames;
+use crate::frames::{Frames, frame_bytes};
 use crate::instance::Instance;
 use crate::prepared::Prepared;
 use crate::room::Room;
@@ -74,6 +74,16 @@ impl Prepared {
             instances,
             frames,
         })
+    }
+
+    /// How many nodes the scripts of its instances have, as their makers counted them.
+    pub fn nodes(&self) -> u64 {
+        nodes_of(&self.instances)
+    }
+
+    /// How many bytes its frames have, at most.
+    pub fn frame_bytes(&self) -> usize {
+        frame_bytes(room_of(&self.instances))
     }
 
     /// What the entry answers to these parameters and this immediate, with zeros above it. Where the

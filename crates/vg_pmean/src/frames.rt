@@ -45,6 +45,11 @@ fn bytes_of(room: Room) -> usize {
         .saturating_add(room.bits / 4)
 }
 
+/// How many bytes the frames of a room have, at most.
+pub(crate) fn frame_bytes(room: Room) -> usize {
+    bytes_of(room).saturating_mul(room.frames)
+}
+
 /// The frames but the first.
 #[tactic(auto, using(crate::proofs::Entering::alike_more))]
 fn free_frames(alloc: Global, room: Room) -> Result<Vec<Cells>, AllocError>
@@ -63,7 +68,7 @@ impl Frames {
     pub(crate) fn new(alloc: Global, room: Room) -> Result<Frames, AllocError>
         ensures { IfOk result (λ frames. frames ≡ room) }
     {
-        if bytes_of(room).saturating_mul(room.frames) > MAX_BYTES {
+        if frame_bytes(room) > MAX_BYTES {
             return Err(AllocError);
         }
         let cells = Cells::new(alloc, room)?;

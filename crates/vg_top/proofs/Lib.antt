@@ -1,4 +1,5 @@
 pub mod Answers
+pub mod CallsNothing
 pub mod Bindings
 pub mod Emitted
 pub mod Endings

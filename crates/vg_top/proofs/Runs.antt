@@ -27,7 +27,7 @@ use Rattle.vg_program.specs.declared.param.Param.{Param}
 use Rattle.vg_program.specs.declared.param_kind.ParamKind.TheVariants as wide
 use Rattle.vg_program.specs.Params.{integers, kind_bits}
 use Rattle.vg_program.specs.Meaning.{State, Inputs, operand_number, with_scalar, step, run, meaning}
-use Rattle.vg_machine.specs.State.{no_instructions}
+use Rattle.vg_catalog.specs.Called.{called_by}
 use Rattle.vg_top.specs.Emission.{param_of, named, value_of, value_lines, lines_of, program_of}
 
 -- the bits of what an expression gives
@@ -142,26 +142,26 @@ three-bind None o' o'' f goal = refl
 -- what runs behind the lines of an expression comes to the goal, whatever the number and the registers that they gave
 After : {M : Type 0} → Inputs → List ℕ → List Line → (State → Option M) → (ℕ → Option M) → List ℕ → ℕ → Operand → ValueType → Type 0
 After i memory rest last goal registers cost v t =
-    (n : ℕ) (more : List ℕ) → length more ≡ cost → Denotes i (registers ++ more) v t n → (run no_instructions i rest (at memory (registers ++ more)) >>= last) ≡ goal n
+    (n : ℕ) (more : List ℕ) → length more ≡ cost → Denotes i (registers ++ more) v t n → (run (called_by []) i rest (at memory (registers ++ more)) >>= last) ≡ goal n
 
 -- an expression without lines
 no-lines : {M : Type 0} (i : Inputs) (memory : List ℕ) (rest : List Line) (last : State → Option M) (goal : ℕ → Option M) (registers : List ℕ) (v : Operand) (t : ValueType) (n : ℕ) → Denotes i registers v t n
-    → After i memory rest last goal registers 0 v t → (run no_instructions i rest (at memory registers) >>= last) ≡ goal n
+    → After i memory rest last goal registers 0 v t → (run (called_by []) i rest (at memory registers) >>= last) ≡ goal n
 unfolding After
 no-lines i memory rest last goal registers v t n d h =
-    subst (λ (rs : List ℕ). (run no_instructions i rest (at memory rs) >>= last) ≡ goal n) (append-nil registers) (h n [] refl (Denotes-more i registers [] v t n d))
+    subst (λ (rs : List ℕ). (run (called_by []) i rest (at memory rs) >>= last) ≡ goal n) (append-nil registers) (h n [] refl (Denotes-more i registers [] v t n d))
 
 -- the line of an operation, behind those of its operands
 own-line : {M : Type 0} (i : Inputs) (memory : List ℕ) (line : Line) (rest : List Line) (last : State → Option M) (goal : ℕ → Option M) (registers front : List ℕ) (k cost : ℕ) (t : ValueType) (n : ℕ)
-    → length registers + length front ≡ k → length front + 1 ≡ cost → step no_instructions i line (at memory (registers ++ front)) ≡ Some (with_scalar (at memory (registers ++ front)) n)
-    → After i memory rest last goal registers cost (Register k) t → (run no_instructions i (line ∷ rest) (at memory (registers ++ front)) >>= last) ≡ goal n
+    → length registers + length front ≡ k → length front + 1 ≡ cost → step (called_by []) i line (at memory (registers ++ front)) ≡ Some (with_scalar (at memory (registers ++ front)) n)
+    → After i memory rest last goal registers cost (Register k) t → (run (called_by []) i (line ∷ rest) (at memory (registers ++ front)) >>= last) ≡ goal n
 unfolding After run
 own-line i memory line rest last goal registers front k cost t n len counts made h =
     let x = n in
     let group = append_assoc registers front (x ∷ []) in
     let all : length (front ++ x ∷ []) ≡ cost = omega (arith, length-append front (x ∷ [])) in
     let d = subst (λ (rs : List ℕ). Denotes i rs (Register k) t n) group (Denotes-last i (registers ++ front) k t n (omega (arith, length-append registers front))) in
-    rw made (subst (λ (rs : List ℕ). (run no_instructions i rest (at memory rs) >>= last) ≡ goal n) (sym group) (h n (front ++ x ∷ []) all d))
+    rw made (subst (λ (rs : List ℕ). (run (called_by []) i rest (at memory rs) >>= last) ≡ goal n) (sym group) (h n (front ++ x ∷ []) all d))
 
 -- registers in two steps are registers in one
 joined-registers : (i : Inputs) (registers more others : List ℕ) (v : Operand) (t : ValueType) (n : ℕ) → Denotes i (registers ++ more) v t n → Denotes i (registers ++ (more ++ others)) v t n
@@ -186,7 +186,7 @@ choice-line : {M : Type 0} (i : Inputs) (memory : List ℕ) (w : Width) (vc vx v
     → length registers ≡ k → length first ≡ c → length second ≡ x → length third ≡ y
     → Denotes i (registers ++ first) vc tc t → Denotes i ((registers ++ first) ++ second) vx tx a → Denotes i (((registers ++ first) ++ second) ++ third) vy ty b
     → After i memory rest last goal registers (c + x + y + 1) (Register (k + c + x + y)) (types.Integer w)
-    → (run no_instructions i (Select w vc vx vy ∷ rest) (at memory (((registers ++ first) ++ second) ++ third)) >>= last) ≡ goal (select_result t a b)
+    → (run (called_by []) i (Select w vc vx vy ∷ rest) (at memory (((registers ++ first) ++ second) ++ third)) >>= last) ≡ goal (select_result t a b)
 choice-line i memory w vc vx vy rest last goal registers first second third k c x y tc tx ty t a b len counts counts' counts'' dc dx dy h =
     let front = first ++ (second ++ third) in
     let line = Select w vc vx vy in
@@ -195,7 +195,7 @@ choice-line i memory w vc vx vy rest last goal registers first second third k c 
     let nc = number-now i now vc tc t (joined-registers i registers first (second ++ third) vc tc t dc) in
     let nx = number-now i now vx tx a (subst (λ (rs : List ℕ). Denotes i rs vx tx a) all (Denotes-more i ((registers ++ first) ++ second) third vx tx a dx)) in
     let ny = number-now i now vy ty b (subst (λ (rs : List ℕ). Denotes i rs vy ty b) all dy) in
-    subst (λ (rs : List ℕ). (run no_instructions i (line ∷ rest) (at memory rs) >>= last) ≡ goal (select_result t a b)) (sym all)
+    subst (λ (rs : List ℕ). (run (called_by []) i (line ∷ rest) (at memory rs) >>= last) ≡ goal (select_result t a b)) (sym all)
     (own-line i memory line rest last goal registers front (k + c + x + y) (c + x + y + 1) (types.Integer w) (select_result t a b) (omega (arith, length-append first (second ++ third), length-append second third))
     (omega (arith, length-append first (second ++ third), length-append second third)) (rw (nc, nx, ny) refl) h)
 
@@ -204,7 +204,7 @@ choice-line i memory w vc vx vy rest last goal registers first second third k c 
 value-runs : {M : Type 0} (i : Inputs) (params : List KParam) (given : List ValueType) (vs : List Operand) (ns : List ℕ) (memory : List ℕ) (e : Expression) (registers : List ℕ) (k : ℕ) (rest : List Line)
     (last : State → Option M) (goal : ℕ → Option M) → IsExpression params given e → length registers ≡ k → AreNamed i registers vs given ns
     → After i memory rest last goal registers (expression_cost e) (value_of vs k e) (type_of e)
-    → (run no_instructions i (value_lines vs k e ++ rest) (at memory registers) >>= last) ≡ (kernel.value (inputs_of i) (state_at memory ns) e >>= goal)
+    → (run (called_by []) i (value_lines vs k e ++ rest) (at memory registers) >>= last) ≡ (kernel.value (inputs_of i) (state_at memory ns) e >>= goal)
 unfolding run After Denotes
 value-runs i params given vs ns memory (argument j w) registers k rest last goal well len named h =
     no-lines i memory rest last goal registers (Argument j) (types.Integer w) (slice_index i.args j) (λ more. refl) h
@@ -214,7 +214,7 @@ value-runs i params given vs ns memory (literal w n) registers k rest last goal 
     no-lines i memory rest last goal registers (Literal w n) (types.Integer w) n (λ more. refl) h
 value-runs i params given vs ns memory (load w a) registers k rest last goal well len named h = by (loaded memory (place_of i.places a) (size_of w))
   where
-    by : (o : Option (List ℕ)) → (((o >>= λ read. Some (with_scalar (at memory registers) (number read))) >>= run no_instructions i rest) >>= last) ≡ ((o >>= λ read. Some (number read)) >>= goal)
+    by : (o : Option (List ℕ)) → (((o >>= λ read. Some (with_scalar (at memory registers) (number read))) >>= run (called_by []) i rest) >>= last) ≡ ((o >>= λ read. Some (number read)) >>= goal)
     by (Some read) = h (number read) (number read ∷ []) refl (Denotes-last i registers k (types.Integer w) (number read) len)
     by None = refl
 value-runs i params given vs ns memory (two op w x y) registers k rest last goal well len named h =
@@ -223,14 +223,14 @@ value-runs i params given vs ns memory (two op w x y) registers k rest last goal
     let vy = value_of vs j y in
     let f = two_result op (bits_of w) in
     let line = Two op w vx vy in
-    subst (λ (ls : List Line). (run no_instructions i ls (at memory registers) >>= last) ≡ (kernel.value (inputs_of i) (state_at memory ns) (two op w x y) >>= goal)) (sym (regroup (value_lines vs k x) (value_lines vs j y) rest line))
+    subst (λ (ls : List Line). (run (called_by []) i ls (at memory registers) >>= last) ≡ (kernel.value (inputs_of i) (state_at memory ns) (two op w x y) >>= goal)) (sym (regroup (value_lines vs k x) (value_lines vs j y) rest line))
     (value-runs i params given vs ns memory x registers k (value_lines vs j y ++ line ∷ rest) last (λ a. kernel.value (inputs_of i) (state_at memory ns) y >>= λ b. goal (f a b)) well.2 len named (λ a more counts d.
     value-runs i params given vs ns memory y (registers ++ more) j (line ∷ rest) last (λ b. goal (f a b)) well.3 (omega (arith, length-append registers more)) (AreNamed-more i registers more vs given ns named) (λ b others counts' d'.
     let front = more ++ others in
     let first = number-now i (registers ++ front) vx (type_of x) a (joined-registers i registers more others vx (type_of x) a d) in
     let all = append_assoc registers more others in
     let second = number-now i (registers ++ front) vy (type_of y) b (subst (λ (rs : List ℕ). Denotes i rs vy (type_of y) b) all d') in
-    subst (λ (rs : List ℕ). (run no_instructions i (line ∷ rest) (at memory rs) >>= last) ≡ goal (f a b)) (sym all)
+    subst (λ (rs : List ℕ). (run (called_by []) i (line ∷ rest) (at memory rs) >>= last) ≡ goal (f a b)) (sym all)
     (own-line i memory line rest last goal registers front (j + expression_cost y) (expression_cost x + expression_cost y + 1) (types.Integer w) (f a b) (omega (arith, length-append more others)) (omega (arith, length-append more others))
     (rw (first, second) refl) h)))
     ∙ sym (two-bind (kernel.value (inputs_of i) (state_at memory ns) x) (kernel.value (inputs_of i) (state_at memory ns) y) f goal))
@@ -238,7 +238,7 @@ value-runs i params given vs ns memory (shift op w n x) registers k rest last go
     let vx = value_of vs k x in
     let f = shift_result op (bits_of w) n in
     let line = Shift op w vx n in
-    subst (λ (ls : List Line). (run no_instructions i ls (at memory registers) >>= last) ≡ (kernel.value (inputs_of i) (state_at memory ns) (shift op w n x) >>= goal)) (sym (append_assoc (value_lines vs k x) (line ∷ []) rest))
+    subst (λ (ls : List Line). (run (called_by []) i ls (at memory registers) >>= last) ≡ (kernel.value (inputs_of i) (state_at memory ns) (shift op w n x) >>= goal)) (sym (append_assoc (value_lines vs k x) (line ∷ []) rest))
     (value-runs i params given vs ns memory x registers k (line ∷ rest) last (λ a. goal (f a)) well.2 len named (λ a more counts d.
     own-line i memory line rest last goal registers more (k + expression_cost x) (expression_cost x + 1) (types.Integer w) (f a) (omega arith) (omega arith)
     (rw (number-now i (registers ++ more) vx (type_of x) a d) refl) h)
@@ -247,7 +247,7 @@ value-runs i params given vs ns memory (resize op w v x) registers k rest last g
     let vx = value_of vs k x in
     let f = resize_result op (bits_of w) (bits_of v) in
     let line = Resize op w v vx in
-    subst (λ (ls : List Line). (run no_instructions i ls (at memory registers) >>= last) ≡ (kernel.value (inputs_of i) (state_at memory ns) (resize op w v x) >>= goal)) (sym (append_assoc (value_lines vs k x) (line ∷ []) rest))
+    subst (λ (ls : List Line). (run (called_by []) i ls (at memory registers) >>= last) ≡ (kernel.value (inputs_of i) (state_at memory ns) (resize op w v x) >>= goal)) (sym (append_assoc (value_lines vs k x) (line ∷ []) rest))
     (value-runs i params given vs ns memory x registers k (line ∷ rest) last (λ a. goal (f a)) well.2 len named (λ a more counts d.
     own-line i memory line rest last goal registers more (k + expression_cost x) (expression_cost x + 1) (types.Integer w) (f a) (omega arith) (omega arith)
     (rw (number-now i (registers ++ more) vx (type_of x) a d) refl) h)
@@ -258,14 +258,14 @@ value-runs i params given vs ns memory (compare op w x y) registers k rest last 
     let vy = value_of vs j y in
     let f = comparison_result op (bits_of w) in
     let line = Compare op w vx vy in
-    subst (λ (ls : List Line). (run no_instructions i ls (at memory registers) >>= last) ≡ (kernel.value (inputs_of i) (state_at memory ns) (compare op w x y) >>= goal)) (sym (regroup (value_lines vs k x) (value_lines vs j y) rest line))
+    subst (λ (ls : List Line). (run (called_by []) i ls (at memory registers) >>= last) ≡ (kernel.value (inputs_of i) (state_at memory ns) (compare op w x y) >>= goal)) (sym (regroup (value_lines vs k x) (value_lines vs j y) rest line))
     (value-runs i params given vs ns memory x registers k (value_lines vs j y ++ line ∷ rest) last (λ a. kernel.value (inputs_of i) (state_at memory ns) y >>= λ b. goal (f a b)) well.2 len named (λ a more counts d.
     value-runs i params given vs ns memory y (registers ++ more) j (line ∷ rest) last (λ b. goal (f a b)) well.3 (omega (arith, length-append registers more)) (AreNamed-more i registers more vs given ns named) (λ b others counts' d'.
     let front = more ++ others in
     let first = number-now i (registers ++ front) vx (type_of x) a (joined-registers i registers more others vx (type_of x) a d) in
     let all = append_assoc registers more others in
     let second = number-now i (registers ++ front) vy (type_of y) b (subst (λ (rs : List ℕ). Denotes i rs vy (type_of y) b) all d') in
-    subst (λ (rs : List ℕ). (run no_instructions i (line ∷ rest) (at memory rs) >>= last) ≡ goal (f a b)) (sym all)
+    subst (λ (rs : List ℕ). (run (called_by []) i (line ∷ rest) (at memory rs) >>= last) ≡ goal (f a b)) (sym all)
     (own-line i memory line rest last goal registers front (j + expression_cost y) (expression_cost x + expression_cost y + 1) types.Bit (f a b) (omega (arith, length-append more others)) (omega (arith, length-append more others))
     (rw (first, second) refl) h)))
     ∙ sym (two-bind (kernel.value (inputs_of i) (state_at memory ns) x) (kernel.value (inputs_of i) (state_at memory ns) y) f goal))
@@ -277,7 +277,7 @@ value-runs i params given vs ns memory (select w c x y) registers k rest last go
     let vy = value_of vs ky y in
     let line = Select w vc vx vy in
     let all = value_lines vs ky y ++ line ∷ rest in
-    subst (λ (ls : List Line). (run no_instructions i ls (at memory registers) >>= last) ≡ (kernel.value (inputs_of i) (state_at memory ns) (select w c x y) >>= goal))
+    subst (λ (ls : List Line). (run (called_by []) i ls (at memory registers) >>= last) ≡ (kernel.value (inputs_of i) (state_at memory ns) (select w c x y) >>= goal))
     (sym (append_assoc (value_lines vs k c) (value_lines vs kx x ++ (value_lines vs ky y ++ line ∷ [])) rest ∙ ap (λ (t : List Line). value_lines vs k c ++ t) (regroup (value_lines vs kx x) (value_lines vs ky y) rest line)))
     (value-runs i params given vs ns memory c registers k (value_lines vs kx x ++ all) last
     (λ t. kernel.value (inputs_of i) (state_at memory ns) x >>= λ a. kernel.value (inputs_of i) (state_at memory ns) y >>= λ b. goal (select_result t a b)) well.3 len named (λ t first counts dc.
@@ -307,7 +307,7 @@ stored-number i registers v t n w e d = ap (λ (m : ℕ). bytes (size_of w) m) (
 -- the lines of statements run as the statements do
 statements-run : (i : Inputs) (params : List KParam) (given : List ValueType) (vs : List Operand) (ns : List ℕ) (memory : List ℕ) (ss : List Statement) (registers : List ℕ) (k : ℕ)
     → AreStatements params given ss → length registers ≡ k → AreNamed i registers vs given ns
-    → (run no_instructions i (lines_of vs k ss) (at memory registers) >>= program_left) ≡ (kernel.run (inputs_of i) ss (state_at memory ns) >>= kernel_left)
+    → (run (called_by []) i (lines_of vs k ss) (at memory registers) >>= program_left) ≡ (kernel.run (inputs_of i) ss (state_at memory ns) >>= kernel_left)
 unfolding run kernel.run lines_of After
 statements-run i params given vs ns memory [] registers k well len named = refl
 statements-run i params given vs ns memory (assign e ∷ ss) registers k well len named =
@@ -325,13 +325,13 @@ statements-run i params given vs ns memory (store w a e ∷ ss) registers k well
     ∙ sym (behind-value (kernel.value (inputs_of i) (state_at memory ns) e) (λ n. stored memory (place_of i.places a) (bytes (size_of w) n) >>= λ m. Some (state_at m ns)) (kernel.run (inputs_of i) ss) kernel_left)
   where
     by : (all : List ℕ) → length all ≡ k + expression_cost e → AreNamed i all vs given ns → (o : Option (List ℕ))
-        → ((m : List ℕ) → length all ≡ k + expression_cost e → AreNamed i all vs given ns → (run no_instructions i (lines_of vs (k + expression_cost e) ss) (at m all) >>= program_left) ≡ (kernel.run (inputs_of i) ss (state_at m ns) >>= kernel_left))
-        → (((o >>= λ m. Some (at m all)) >>= run no_instructions i (lines_of vs (k + expression_cost e) ss)) >>= program_left) ≡ (((o >>= λ m. Some (state_at m ns)) >>= kernel.run (inputs_of i) ss) >>= kernel_left)
+        → ((m : List ℕ) → length all ≡ k + expression_cost e → AreNamed i all vs given ns → (run (called_by []) i (lines_of vs (k + expression_cost e) ss) (at m all) >>= program_left) ≡ (kernel.run (inputs_of i) ss (state_at m ns) >>= kernel_left))
+        → (((o >>= λ m. Some (at m all)) >>= run (called_by []) i (lines_of vs (k + expression_cost e) ss)) >>= program_left) ≡ (((o >>= λ m. Some (state_at m ns)) >>= kernel.run (inputs_of i) ss) >>= kernel_left)
     by all counts names (Some m) go = go m counts names
     by all counts names None go = refl
 
 -- the program of a kernel means the kernel
-pub program_of-meaning : (k : Tree) → IsWellFormed k → (memory places args : List ℕ) → meaning no_instructions (program_of k) memory places args ≡ kernel.meaning k memory places args
+pub program_of-meaning : (k : Tree) → IsWellFormed k → (memory places args : List ℕ) → meaning (called_by []) (program_of k) memory places args ≡ kernel.meaning k memory places args
 unfolding meaning kernel.meaning AreNamed
 program_of-meaning k well memory places args =
     statements-run (record { places = places; args = args }) k.params [] [] [] memory k.statements [] 0 well.each refl tt

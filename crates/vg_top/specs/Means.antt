@@ -10,7 +10,8 @@ use Rattle.vg_kernel.specs.Layout.{Respects}
 use Rattle.vg_kernel.specs.Meaning as kernel
 use Rattle.vg_program.specs.declared.program.Program.{Program}
 use Rattle.vg_program.specs.Meaning as program
-use Rattle.vg_machine.specs.State.{no_instructions}
+use Rattle.vg_catalog.specs.Entries.{Entry}
+use Rattle.vg_catalog.specs.Called.{called_by}
 use Rattle.vg_top.specs.Emission.{param_of}
 
 -- the width of an integer parameter in bits
@@ -31,10 +32,10 @@ pub record IsInput (k : Tree) (memory places args : List ℕ) : Type 0 where
   pub integers : AllZip (λ w n. n < 2 ^ w) (widths k) args
   pub layout : Respects k places
 
--- The program, which calls nothing, has the kernel's name and parameters, and on everything that the kernel may be run on
--- it leaves the same memory, or traps where the kernel traps.
-pub record Means (p : Program) (k : Tree) : Type 0 where
+-- The program, where it may call these entries, has the kernel's name and parameters, and on everything that the kernel
+-- may be run on it leaves the same memory, or traps where the kernel traps.
+pub record Means (entries : List Entry) (p : Program) (k : Tree) : Type 0 where
   pub name : p.name ≡ k.name
   pub params : p.params ≡ map param_of k.params
   pub same : (memory places args : List ℕ) → IsInput k memory places args
-      → program.meaning no_instructions p memory places args ≡ kernel.meaning k memory places args
+      → program.meaning (called_by entries) p memory places args ≡ kernel.meaning k memory places args

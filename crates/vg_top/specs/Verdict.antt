@@ -3,7 +3,6 @@ use Rattle.std.specs.Prelude.{◌≡◌, ℕ, List, [], Option, Some, None, Resu
 use Rattle.std.specs.declared.alloc.Global.{Global}
 use Rattle.vg_base.specs.Bind.{◌>>=◌}
 use Rattle.vg_outside.specs.Shelf.{Held}
-use Rattle.vg_kernel.specs.Tree.{Tree}
 use Rattle.vg_top.specs.declared.ending.Ending.{Ending}
 use Rattle.vg_top.specs.declared.ending.Ending.TheVariants.{Usage}
 use Rattle.vg_top.specs.declared.status.Status.{Status}
@@ -13,23 +12,23 @@ use Rattle.vg_top.specs.Request.{Asked, compile, run, eval, request_of}
 use Rattle.vg_top.specs.Compile.{compiled}
 use Rattle.vg_top.specs.Eval.{evaluated}
 use Rattle.vg_top.specs.Run.{ran}
-use Rattle.vg_top.specs.Answer.{Answer}
+use Rattle.vg_top.specs.Answer.{Source, Answer}
 use Rattle.vg_top.specs.Files.{Tells}
 use Rattle.vg_top.specs.Line.{line_of}
 
 -- what is to be written
 pub data Outcome : Type 0 where
-  program_for : Tree → Outcome
+  program_for : Source → Outcome
   memory_left : List ℕ → Outcome
 
 -- the text of a program that means the kernel, or the memory
 abbrev pub IsAnswer : Outcome → List ℕ → Type 0
-IsAnswer (program_for k) bytes = Answer k bytes
+IsAnswer (program_for s) bytes = Answer s bytes
 IsAnswer (memory_left memory) bytes = bytes ≡ memory
 
 abbrev pub outcome_of : Held → Asked → Result Outcome Ending
 outcome_of held (compile instructions kernel) =
-    compiled held instructions kernel >>= λ k. Ok (program_for k)
+    compiled held instructions kernel >>= λ s. Ok (program_for s)
 outcome_of held (run instructions program memory bindings) =
     ran held instructions program memory bindings >>= λ left. Ok (memory_left left)
 outcome_of held (eval kernel memory bindings) =

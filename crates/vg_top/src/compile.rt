@@ -1,12 +1,13 @@
 //! The command `compile`.
 
-ghost use Rattle.std.specs.Prelude.{Some, IfSome, IfErr};
+ghost use Rattle.std.specs.Prelude.{List, Some, IfSome, IfErr};
+ghost use Rattle.vg_catalog.specs.Entries.{Entry};
 ghost use Rattle.vg_kernel.specs.Statements.{kernel_of};
 ghost use Rattle.vg_top.specs.KernelFile.{kernel_or_refusal};
 ghost use Rattle.vg_top.specs.Files.{second_file, Tells};
 ghost use Rattle.vg_top.specs.Request.{compile as compile_asked};
 ghost use Rattle.vg_top.specs.Works.{Works, IsOfKernel, ending_of};
-ghost use Rattle.vg_top.specs.Compile.{compiled, Answers};
+ghost use Rattle.vg_top.specs.Compile.{compiled, source_of, Answers};
 
 use crate::emission::program_of;
 use crate::ending::{Ending, FileNumber};
@@ -17,9 +18,10 @@ use std::alloc::Global;
 use vg_outside::Shelf;
 use vg_program::print_program;
 
-/// The program text of a kernel's text.
+/// The program text of a kernel's text. It calls nothing, so it answers the kernel with any entries.
 fn program_text(alloc: Global, text: &[u8]) -> Result<Vec<u8>, Ending>
-    ensures told { Tells Answers result (kernel_or_refusal second_file (kernel_of text.now)) }
+    ensures told { (entries : List Entry) → Tells Answers result
+        (source_of entries (kernel_or_refusal second_file (kernel_of text.now))) }
     ensures refusal { IfErr result (IsOfKernel second_file) }
 {
     let kernel = match kernel_of_text(alloc, FileNumber(2), text) {

@@ -4,6 +4,7 @@ ghost use Rattle.std.specs.Prelude.{◌≡◌, ◌+◌, ◌<◌, ◌-◌, ◌≤
 ghost use Rattle.vg_kernel.specs.Cost.{expression_cost, uses_of};
 ghost use Rattle.vg_kernel.specs.Tree.{Statement, tree_of, statement_of, expression_of};
 ghost use Rattle.vg_kernel.specs.WellFormed.{IsWellFormed};
+ghost use Rattle.vg_pseudo.specs.declared.header.Header.{Header};
 ghost use Rattle.vg_program.specs.Valid.{IsValid};
 ghost use Rattle.vg_top.specs.Emission.{kind_of, param_of, named, value_lines, value_of, lines_of, program_of};
 
@@ -298,11 +299,11 @@ fn scalar_program(alloc: Global, kernel: &Kernel) -> Result<Program, AllocError>
 }
 
 /// The scalar program of a kernel: one line for each load, each operation and each store, in their
-/// order.
+/// order. It calls nothing, so it is valid whichever instructions may be called.
 pub fn program_of(alloc: Global, kernel: &Kernel) -> Result<Program, AllocError>
     requires { IsWellFormed (tree_of kernel.now) }
     ensures program { IfOk result (λ program. program ≡ program_of (tree_of kernel.now)) }
-    ensures valid { IfOk result (λ p. IsValid [] p) }
+    ensures valid { (headers : List Header) → IfOk result (λ p. IsValid headers p) }
 {
     scalar_program(alloc, kernel)
 }

@@ -1,6 +1,9 @@
 //! The command `run`.
 
-ghost use Rattle.std.specs.Prelude.{Some, [], IfSome, IfOk, IfErr};
+ghost use Rattle.std.specs.Prelude.{Some, IfSome, IfOk, IfErr, map};
+ghost use Rattle.vg_catalog.specs.Entries.{entry_of};
+ghost use Rattle.vg_catalog.specs.Written.{AllWritten};
+ghost use Rattle.vg_catalog.specs.Called.{headers_of};
 ghost use Rattle.vg_program.specs.Faults.{read};
 ghost use Rattle.vg_program.specs.Valid.{KeepsRules};
 ghost use Rattle.vg_top.specs.Files.{Tells};
@@ -17,30 +20,41 @@ use std::alloc::Global;
 use vg_machine::{Machine, Outcome};
 use vg_outside::{Bytes, Shelf};
 use vg_program::{Program, ProgramFault, parse_program};
+use vg_pseudo::Header;
+use vg_range::Checked;
 
-/// The program of the text of the request's file of this number.
-fn program_of_text(alloc: Global, number: FileNumber, text: &[u8]) -> Result<Program, Ending>
-    ensures told { Tells IsProgram result (program_or_refusal number (read [] text.now)) }
+/// The program of the text of the request's file of this number, which may call instructions of
+/// these headers.
+fn program_of_text(
+    alloc: Global,
+    number: FileNumber,
+    text: &[u8],
+    headers: &[Header],
+) -> Result<Program, Ending>
+    ensures told { Tells IsProgram result (program_or_refusal number (read headers.now text.now)) }
     ensures refusal { IfErr result (IsOfProgram number) }
-    ensures rules { IfOk result (λ p. KeepsRules [] p) }
+    ensures rules { IfOk result (λ p. KeepsRules headers.now p) }
 {
-    match parse_program(alloc, text, &[]) {
+    match parse_program(alloc, text, headers) {
         Ok(program) => Ok(program),
         Err(ProgramFault::Memory(_)) => Err(Ending::Memory),
         Err(fault) => Err(Ending::Program(number, fault)),
     }
 }
 
-/// What a program leaves of a memory, its parameters bound by the words.
+/// What a program leaves of a memory, its parameters bound by the words, where it may call these
+/// entries.
 fn run_on(
     alloc: Global,
+    entries: &[Checked],
     program: &Program,
     memory: Vec<u8>,
     words: &[Bytes],
 ) -> Result<Vec<u8>, Ending>
-    requires { KeepsRules [] program.now }
+    requires rules { KeepsRules (headers_of (map entry_of entries.now)) program.now }
+    requires written { AllWritten (map entry_of entries.now) }
     ensures told { Tells AreLeft result
-        (ran_on (bindings_in words.now) program.now memory.items) }
+        (ran_on (map entry_of entries.now) (bindings_in words.now) program.now memory.items) }
     ensures refusal { IfErr result IsOfRun }
 {
     let Ok(bindings) = bindings_of(alloc, words) else {
@@ -52,7 +66,7 @@ fn run_on(
     let Some(inputs) = bound else {
         return Err(Ending::Bindings);
     };
-    let Ok(machine) = Machine::new(alloc, program) else {
+    let Ok(machine) = Machine::new(alloc, entries, program) else {
         return Err(Ending::Memory);
     };
     let mut machine = machine;
@@ -85,10 +99,10 @@ pub fn run<S: Shelf>(
 {
     let first = FileNumber(1);
     let file = fetch(alloc, shelf, first, instructions, INSTRUCTIONS_LIMIT)?;
-    let _catalog = catalog_of_text(alloc, first, file.as_slice())?;
+    let catalog = catalog_of_text(alloc, first, file.as_slice())?;
     let second = FileNumber(2);
     let text = fetch(alloc, shelf, second, program, PROGRAM_LIMIT)?;
-    let program = program_of_text(alloc, second, text.as_slice())?;
+    let program = program_of_text(alloc, second, text.as_slice(), catalog.headers())?;
     let memory = fetch(alloc, shelf, FileNumber(3), memory, MEMORY_LIMIT)?;
-    run_on(alloc, &program, memory, words)
+    run_on(alloc, catalog.entries(), &program, memory, words)
 }

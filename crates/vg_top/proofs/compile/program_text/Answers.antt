@@ -8,8 +8,9 @@ use Rattle.vg_top.proofs.compile.program_text.Goals as goal
 pub returns-in-Ok-print_program : goal.returns-in-Ok-print_program
 returns-in-Ok-print_program c =
     let bytes = c.in-Ok-print_program.bytes in
-    let answer = answer_of (tree_of c.in-Ok.kernel) c.in-Ok-program_of.program bytes.items c.in-Ok.ensures.well_formed c.in-Ok-program_of.ensures.program c.in-Ok-print_program.ensures in
     record {
-      told = answered (kernel_or_refusal second_file (kernel_of c.args.text.now)) c.in-Ok.kernel bytes c.in-Ok.ensures.told answer;
+      told = λ entries.
+          let answer = answer_of entries (tree_of c.in-Ok.kernel) c.in-Ok-program_of.program bytes.items c.in-Ok.ensures.well_formed c.in-Ok-program_of.ensures.program c.in-Ok-print_program.ensures in
+          answered entries (kernel_or_refusal second_file (kernel_of c.args.text.now)) c.in-Ok.kernel bytes c.in-Ok.ensures.told answer;
       refusal = tt;
     }
