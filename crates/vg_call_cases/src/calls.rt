@@ -1,0 +1,152 @@
+//! Programs that call instructions, run by the top call.
+
+use crate::desk::Desk;
+use std::alloc::Global;
+use std::test::Fail;
+use vg_top::Status;
+
+const PAIRS: &str =
+    "INSTRUCTION _mm_madd_epi16 PARAM a 128 SI16 PARAM b 128 SI16\nRESULT dst 128 SI32 EXTENSION SSE2 COST 1 OPERATION\nFOR j := 0 to 3\ni := j*32\ndst[i+31:i] := SignExtend32(a[i+31:i+16]*b[i+31:i+16]) + SignExtend32(a[i+15:i]*b[i+15:i])\nENDFOR\ndst[MAX:128] := 0\nEND\n";
+
+const PAIRS_PROGRAM: &str =
+    "program pairs(d: ptr, p: ptr, q: ptr)\n%v0 = vload 16 p+0\n%v1 = vload 16 q+0\n%v2 = call _mm_madd_epi16 %v0 %v1\nvstore 16 d+0 %v2\nend cost 4 scalar 16\n";
+
+const CHEAP_PAIRS: &str =
+    "program pairs(d: ptr, p: ptr, q: ptr)\n%v0 = vload 16 p+0\n%v1 = vload 16 q+0\n%v2 = call _mm_madd_epi16 %v0 %v1\nvstore 16 d+0 %v2\nend cost 3 scalar 16\n";
+
+const UNKNOWN: &str =
+    "program unknown(p: ptr)\n%v0 = vload 16 p+0\n%v1 = call _mm_unknown %v0\nend cost 2 scalar 0\n";
+
+const SHUFFLE: &str =
+    "INSTRUCTION _mm_shuffle_epi32 PARAM a 128 UI32 IMM imm8 0 to 255\nRESULT dst 128 UI32 EXTENSION SSE2 COST 1 OPERATION\nDEFINE SELECT4(src, control) {\nCASE(control[1:0]) OF\n0: tmp[31:0] := src[31:0]\n1: tmp[31:0] := src[63:32]\n2: tmp[31:0] := src[95:64]\n3: tmp[31:0] := src[127:96]\nESAC\nRETURN tmp[31:0]\n}\ndst[31:0] := SELECT4(a[127:0], imm8[1:0])\ndst[63:32] := SELECT4(a[127:0], imm8[3:2])\ndst[95:64] := SELECT4(a[127:0], imm8[5:4])\ndst[127:96] := SELECT4(a[127:0], imm8[7:6])\nEND\n";
+
+const SHUFFLE_PROGRAM: &str =
+    "program turn(p: ptr)\n%v0 = vload 16 p+0\n%v1 = call _mm_shuffle_epi32 %v0 imm 27\nvstore 16 p+0 %v1\nend cost 3 scalar 0\n";
+
+/// Turned, turned back, and in place of the first double word the second.
+const SHUFFLES_PROGRAM: &str =
+    "program turns(p: ptr)\n%v0 = vload 16 p+0\n%v1 = call _mm_shuffle_epi32 %v0 imm 27\n%v2 = call _mm_shuffle_epi32 %v1 imm 27\n%v3 = call _mm_shuffle_epi32 %v2 imm 229\nvstore 16 p+0 %v3\nend cost 5 scalar 0\n";
+
+const WIDE_SUM: &str =
+    "INSTRUCTION _mm512_add_epi32 PARAM a 512 SI32 PARAM b 512 SI32\nRESULT dst 512 SI32 EXTENSION AVX512F COST 1 OPERATION\nFOR j := 0 to 15\ni := j*32\ndst[i+31:i] := a[i+31:i] + b[i+31:i]\nENDFOR\nEND\n";
+
+const WIDE_SUM_PROGRAM: &str =
+    "program sums(d: ptr, p: ptr, q: ptr)\n%v0 = vload 64 p+0\n%v1 = vload 64 q+0\n%v2 = call _mm512_add_epi32 %v0 %v1\nvstore 64 d+0 %v2\nend cost 4 scalar 64\n";
+
+const QUADS: &str =
+    "INSTRUCTION _mm_dpbusd_epi32 PARAM src 128 SI32 PARAM a 128 UI8 PARAM b 128 SI8\nRESULT dst 128 SI32 EXTENSION AVX_VNNI COST 1 OPERATION\nFOR j := 0 to 3\ntmp1.word := Signed(ZeroExtend16(a.byte[4*j]) * SignExtend16(b.byte[4*j]))\ntmp2.word := Signed(ZeroExtend16(a.byte[4*j+1]) * SignExtend16(b.byte[4*j+1]))\ntmp3.word := Signed(ZeroExtend16(a.byte[4*j+2]) * SignExtend16(b.byte[4*j+2]))\ntmp4.word := Signed(ZeroExtend16(a.byte[4*j+3]) * SignExtend16(b.byte[4*j+3]))\ndst.dword[j] := src.dword[j] + tmp1 + tmp2 + tmp3 + tmp4\nENDFOR\ndst[MAX:128] := 0\nEND\n";
+
+const QUADS_PROGRAM: &str =
+    "program quads(d: ptr, s: ptr, p: ptr, q: ptr)\n%v0 = vload 16 s+0\n%v1 = vload 16 p+0\n%v2 = vload 16 q+0\n%v3 = call _mm_dpbusd_epi32 %v0 %v1 %v2\nvstore 16 d+0 %v3\nend cost 5 scalar 0\n";
+
+/// A desk with these instructions, this program and this memory.
+fn desk_with(
+    alloc: Global,
+    instructions: &str,
+    program: &str,
+    memory: &[u8],
+) -> Result<Desk, Fail> {
+    let mut desk = Desk::new(alloc, 1000)?;
+    desk.shelf.put("i", instructions.as_bytes())?;
+    desk.shelf.put("p", program.as_bytes())?;
+    desk.shelf.put("m", memory)?;
+    Ok(desk)
+}
+
+#[test]
+fn sixteen_products_are_added_in_pairs(rt: HostRuntime) -> Result<(), Fail> {
+    let mut memory = vec![in rt.alloc(); 7; 16]?;
+    let mut left = Vec::new(rt.alloc());
+    for _ in 0..4 {
+        left.extend_from_slice(&[0, 0, 0, 128])?;
+    }
+    for _ in 0..16 {
+        memory.extend_from_slice(&[0, 128])?;
+        left.extend_from_slice(&[0, 128])?;
+    }
+    let words: [&str; 7] = ["run", "i", "p", "m", "d=0", "p=16", "q=32"];
+    let mut desk = desk_with(rt.alloc(), PAIRS, PAIRS_PROGRAM, memory.as_slice())?;
+    desk.expect(&rt, &words, Status::Ok, left.as_slice(), b"")
+}
+
+#[test]
+fn calls_that_no_program_may_have(rt: HostRuntime) -> Result<(), Fail> {
+    let cases: [(&str, &str, &[u8]); 3] = [
+        (
+            "",
+            UNKNOWN,
+            b"vegen: program: 3 UnknownInstruction at 3:12\n",
+        ),
+        (
+            "",
+            PAIRS_PROGRAM,
+            b"vegen: program: 3 UnknownInstruction at 4:12\n",
+        ),
+        (
+            PAIRS,
+            CHEAP_PAIRS,
+            b"vegen: program: 6 CostWrong 3 4 at 6:10\n",
+        ),
+    ];
+    for (instructions, program, said) in &cases {
+        let mut desk = desk_with(rt.alloc(), instructions, program, b"")?;
+        desk.expect(
+            &rt,
+            &["run", "i", "p", "m"],
+            Status::ProgramRefused,
+            b"",
+            said,
+        )?;
+    }
+    Ok(())
+}
+
+#[test]
+fn an_immediate_says_which_double_words_are_taken(rt: HostRuntime) -> Result<(), Fail> {
+    let memory: [u8; 16] = [1, 0, 0, 0, 2, 0, 0, 0, 3, 0, 0, 0, 4, 0, 0, 0];
+    let turned: [u8; 16] = [4, 0, 0, 0, 3, 0, 0, 0, 2, 0, 0, 0, 1, 0, 0, 0];
+    let doubled: [u8; 16] = [2, 0, 0, 0, 2, 0, 0, 0, 3, 0, 0, 0, 4, 0, 0, 0];
+    let words: [&str; 5] = ["run", "i", "p", "m", "p=0"];
+    let mut desk = desk_with(rt.alloc(), SHUFFLE, SHUFFLE_PROGRAM, &memory)?;
+    desk.expect(&rt, &words, Status::Ok, &turned, b"")?;
+    let mut desk = desk_with(rt.alloc(), SHUFFLE, SHUFFLES_PROGRAM, &memory)?;
+    desk.expect(&rt, &words, Status::Ok, &doubled, b"")
+}
+
+#[test]
+fn registers_of_512_bits_are_added(rt: HostRuntime) -> Result<(), Fail> {
+    // Double words of 0xffffffff and of 2 wrap to 1.
+    let mut memory = vec![in rt.alloc(); 9; 64]?;
+    let mut left = Vec::new(rt.alloc());
+    for _ in 0..16 {
+        left.extend_from_slice(&[1, 0, 0, 0])?;
+    }
+    for _ in 0..64 {
+        memory.push(255)?;
+        left.push(255)?;
+    }
+    for _ in 0..16 {
+        memory.extend_from_slice(&[2, 0, 0, 0])?;
+        left.extend_from_slice(&[2, 0, 0, 0])?;
+    }
+    let words: [&str; 7] = ["run", "i", "p", "m", "d=0", "p=64", "q=128"];
+    let mut desk = desk_with(rt.alloc(), WIDE_SUM, WIDE_SUM_PROGRAM, memory.as_slice())?;
+    desk.expect(&rt, &words, Status::Ok, left.as_slice(), b"")?;
+    let _ = memory.pop();
+    let mut desk = desk_with(rt.alloc(), WIDE_SUM, WIDE_SUM_PROGRAM, memory.as_slice())?;
+    desk.expect(&rt, &words, Status::Trap, b"", b"vegen: trap\n")
+}
+
+#[test]
+fn products_are_added_to_a_third_register(rt: HostRuntime) -> Result<(), Fail> {
+    let mut memory = vec![in rt.alloc(); 0; 64]?;
+    memory.as_mut_slice()[16..20].copy_from_slice(&[255, 255, 255, 127]);
+    memory.as_mut_slice()[32] = 1;
+    memory.as_mut_slice()[48] = 1;
+    let mut left = vec![in rt.alloc(); 0; 64]?;
+    left.as_mut_slice().copy_from_slice(memory.as_slice());
+    left.as_mut_slice()[3] = 128;
+    let words: [&str; 8] = ["run", "i", "p", "m", "d=0", "s=16", "p=32", "q=48"];
+    let mut desk = desk_with(rt.alloc(), QUADS, QUADS_PROGRAM, memory.as_slice())?;
+    desk.expect(&rt, &words, Status::Ok, left.as_slice(), b"")
+}
