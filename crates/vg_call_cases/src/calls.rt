@@ -150,3 +150,41 @@ fn products_are_added_to_a_third_register(rt: HostRuntime) -> Result<(), Fail> {
     let mut desk = desk_with(rt.alloc(), QUADS, QUADS_PROGRAM, memory.as_slice())?;
     desk.expect(&rt, &words, Status::Ok, left.as_slice(), b"")
 }
+
+/// A program with each line on registers.
+const EACH_LINE: &[u8] = b"program all(d: ptr, k: i8, s: ptr)
+%v0 = vload 4 s-4
+%v1 = vload 8 s+0
+%v2 = vload 16 s+0
+%v3 = vload 32 s+0
+%v4 = vload 64 s+0
+%v5 = const 000102030405060708090a0b0c0d0eff
+%v6 = insert %v4 63 k
+%s0:i64 = extract %v3 3
+%v7 = call _mm_shuffle_epi32 %v5 imm 27
+vstore 4 d+0 %v0
+vstore 8 d+0 %v1
+vstore 16 d+0 %v7
+vstore 32 d+0 %v3
+vstore 64 d+0 %v6
+store d+0 %s0
+end cost 15 scalar 0
+";
+
+/// How `run` ends with this program on an empty memory.
+fn ended_with(alloc: Global, program: &[u8]) -> Result<Status, Fail> {
+    let mut desk = Desk::new(alloc, 1000)?;
+    desk.shelf.put("i", SHUFFLE.as_bytes())?;
+    desk.shelf.put("p", program)?;
+    desk.shelf.put("m", b"")?;
+    desk.run(&["run", "i", "p", "m", "d=0", "k=0", "s=0"])
+}
+
+#[test]
+fn every_strict_prefix_of_a_program_with_each_line_is_refused(rt: HostRuntime) -> Result<(), Fail> {
+    for len in 0..EACH_LINE.len() {
+        assert!(rt; ended_with(rt.alloc(), &EACH_LINE[..len])? == Status::ProgramRefused);
+    }
+    assert!(rt; ended_with(rt.alloc(), EACH_LINE)? == Status::Trap);
+    Ok(())
+}
