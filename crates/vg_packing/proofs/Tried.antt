@@ -1,0 +1,152 @@
+-- Each pack that is tried has a unit, and where matches are those of units, it has units alone.
+use Rattle.std.proofs.Common.{◌≡◌, ℕ, zero, suc, ◌+◌, ◌*◌, ◌/◌, ◌≤◌, ◌⊎◌, Bool, true, false, List, [], ◌∷◌, ◌++◌, map, length, refl, sym, ap, subst, inl, inr, arith}
+use Rattle.std.specs.Prelude.{◌&&◌, if◌then◌else◌, filter, nat_eq, nat_le, Option, Some, None, is_some, cond}
+use Rattle.std.specs.List.{filter_map, flat_map, list_any, list_all}
+use Rattle.std.proofs.lemmas.Bool.{cases_Bool}
+use Rattle.std.proofs.lemmas.Bool.Decides.{nat_tests}
+use Rattle.vg_base.specs.declared.address.Address.{Address}
+use Rattle.vg_base.specs.declared.width.Width.{Width}
+use Rattle.vg_base.specs.Width.{size_of}
+use Rattle.vg_plans.specs.Members.{Has}
+use Rattle.vg_plans.specs.World.{IsWorld, is_in}
+use Rattle.vg_plans.proofs.Members.{has-append, from-flat_map}
+use Rattle.vg_shapes.specs.declared.match_table.Match.{Match}
+use Rattle.vg_shapes.specs.declared.operand.Operand.{Operand}
+use Rattle.vg_shapes.specs.declared.operand.Slot.{Slot}
+use Rattle.vg_shapes.specs.declared.pack.Pack.{Pack as Packed}
+use Rattle.vg_shapes.specs.declared.pack.Pack.TheVariants.{Stores, Loads, Call}
+use Rattle.vg_shapes.specs.declared.ssa.Ssa.{Ssa}
+use Rattle.vg_shapes.specs.declared.unit.Unit.{Unit as Work}
+use Rattle.vg_shapes.specs.declared.unit.Unit.TheVariants.{Load, Store, Operation}
+use Rattle.vg_shapes.specs.declared.wanted.Wanted.{Wanted}
+use Rattle.vg_shapes.specs.declared.wanted.Wanted.TheVariants.{Value, Constant, Nothing}
+use Rattle.vg_shapes.specs.Description.{Description}
+use Rattle.vg_shapes.specs.Pack.{behind, stores_before, units_of}
+use Rattle.vg_shapes.specs.Units.{unit_at}
+use Rattle.vg_packing.specs.Groups.{group_of, groups_of, store_groups, stores_at, stores_from, unit_numbers}
+use Rattle.vg_packing.specs.Held.{lanes_from}
+use Rattle.vg_packing.specs.Packing.{packing}
+use Rattle.vg_packing.specs.Producers.{all_differ, call_producer, call_producers, can_be_produced, lanes_for, load_producer, producers}
+use Rattle.vg_packing.specs.Same.{same_list, same_slot}
+use Rattle.vg_packing.specs.Taken.{first_width, operands_of}
+use Rattle.vg_packing.specs.Wants.{is_wanted, value_of, wanted_slots, wanted_values, wants_value}
+use Rattle.vg_packing.proofs.Same.{both-true, eq-itself, list-is, operand-is, operand-itself, pack-is, pack-itself, slot-is}
+
+-- a list has a member
+abbrev Somewhere : List ℕ → Type 0
+Somewhere vs = (v : ℕ) × (is_in v vs ≡ true)
+
+abbrev HasUnit : Packed → Type 0
+HasUnit p = Somewhere (units_of p)
+
+pub if-has : (b : Bool) (q p : Packed) → Has p (if b then q ∷ [] else []) → (b ≡ true) × (q ≡ p)
+if-has true q p h = elim h [ inl e ↦ (refl, e) | inr n ↦ absurd n ]
+if-has false q p h = absurd h
+
+here : (v : ℕ) (vs : List ℕ) → is_in v (v ∷ vs) ≡ true
+here v vs = rw (eq-itself v) refl
+
+some-first : (found : List (Option ℕ)) → 1 ≤ length found → list_all is_some found ≡ true
+    → Somewhere (filter_map (λ u. u) found)
+some-first [] le t = absurd (omega arith)
+some-first (Some u ∷ found) le t = (u, here u (filter_map (λ u. u) found))
+some-first (None ∷ found) le t = absurd (cc)
+
+by_wanted : (s : Slot) (slots : List Slot)
+    → (1 ≤ length (filter (λ s. is_wanted s.wanted) slots)
+    → list_all (λ s. wants_value s.wanted) (filter (λ s. is_wanted s.wanted) slots) ≡ true
+    → Somewhere (flat_map (λ s. value_of s.wanted) slots))
+    → (x : Wanted) → s.wanted ≡ x
+    → 1 ≤ length (cond (is_wanted x) (s ∷ filter (λ s. is_wanted s.wanted) slots) (filter (λ s. is_wanted s.wanted) slots))
+    → list_all (λ s. wants_value s.wanted) (cond (is_wanted x) (s ∷ filter (λ s. is_wanted s.wanted) slots) (filter (λ s. is_wanted s.wanted) slots)) ≡ true
+    → Somewhere (value_of x ++ flat_map (λ s. value_of s.wanted) slots)
+by_wanted s slots rest (Value v) e l u = (v, here v (flat_map (λ s. value_of s.wanted) slots))
+by_wanted s slots rest (Constant w n) e l u =
+    absurd (
+    let k = (both-true (wants_value s.wanted) (list_all (λ s. wants_value s.wanted) (filter (λ s. is_wanted s.wanted) slots)) u).0 in
+    let f : wants_value s.wanted ≡ false = rw e refl in
+    cc)
+by_wanted s slots rest Nothing e l u = rest l u
+
+values-some : (slots : List Slot) → 1 ≤ length (filter (λ s. is_wanted s.wanted) slots)
+    → list_all (λ s. wants_value s.wanted) (filter (λ s. is_wanted s.wanted) slots) ≡ true
+    → Somewhere (flat_map (λ s. value_of s.wanted) slots)
+values-some [] le t = absurd (omega arith)
+values-some (s ∷ slots) le t = by_wanted s slots (λ l u. values-some slots l u) s.wanted refl le t
+
+lanes-some : (low w : ℕ) (lanes : List (Option ℕ)) → 1 ≤ length (lanes_from low w lanes)
+    → Somewhere (filter_map (λ u. u) lanes)
+lanes-some low w [] le = absurd (omega arith)
+lanes-some low w (None ∷ lanes) le = lanes-some (low + w) w lanes le
+lanes-some low w (Some v ∷ lanes) le = (v, here v (filter_map (λ u. u) lanes))
+
+group-has : (ssa : Ssa) (size v : ℕ) (p : Packed) (u : Option Work)
+    → Has p (group_of ssa size v u) → HasUnit p
+group-has ssa size v p None k = absurd k
+group-has ssa size v p (Some (Load a w)) k = absurd k
+group-has ssa size v p (Some (Operation op w n xs)) k = absurd k
+group-has ssa size v p (Some (Store a w x)) k =
+    let found = stores_from ssa a w (stores_before ssa a w v) (size / size_of w) in
+    let h = if-has (nat_le 2 (length found) && list_all is_some found) (Stores (filter_map (λ u. u) found)) p k in
+    let b = both-true (nat_le 2 (length found)) (list_all is_some found) h.0 in
+    let long : 1 ≤ length found = grind (arith, nat_tests, b.0) in
+    subst HasUnit h.1 (some-first found long b.1)
+
+produced-value : (o : Operand) → can_be_produced o ≡ true → Somewhere (wanted_values o)
+produced-value o t =
+    let b = both-true (nat_le 2 (length (wanted_slots o))) _ t in
+    let d = both-true (list_all (λ s. wants_value s.wanted) (wanted_slots o)) (all_differ (wanted_values o)) b.1 in
+    values-some o.slots (grind (arith, nat_tests, b.0)) d.0
+
+load-has : (ssa : Ssa) (o : Operand) (p : Packed) → Has p (load_producer ssa o) → HasUnit p
+load-has ssa o p l =
+    let a = if-has _ (Loads (wanted_values o)) p l in
+    let b = both-true (can_be_produced o) _ a.0 in
+    subst HasUnit a.1 (produced-value o b.0)
+
+call-has : (ds : List Description) (matches : List Match) (ssa : Ssa) (o : Operand) (p : Packed)
+    (d : ℕ) (es : List Description) → Has p (call_producers ds matches ssa o d es) → HasUnit p
+call-has ds matches ssa o p d [] k = absurd k
+call-has ds matches ssa o p d (e ∷ es) k =
+    elim (has-append p (call_producer ds matches ssa o d e) (call_producers ds matches ssa o (suc d) es) k) [
+      | inl l ↦
+          let lanes = lanes_for (e.register / e.lane_width) 0 e.lane_width o.slots in
+          let a = if-has _ (Call d lanes) p l in
+          let b = both-true (can_be_produced o) _ a.0 in
+          let b2 = both-true (nat_eq e.register o.register) _ b.1 in
+          let b3 = both-true (same_list same_slot (wanted_slots o) (lanes_from 0 e.lane_width lanes)) _ b2.1 in
+          let same = list-is same_slot slot-is (wanted_slots o) (lanes_from 0 e.lane_width lanes) b3.0 in
+          let n = both-true (nat_le 2 (length (wanted_slots o))) _ b.0 in
+          let long : 1 ≤ length (lanes_from 0 e.lane_width lanes) =
+          let l2 = ap length same in grind (arith, nat_tests, l2, n.0)
+          in
+          subst HasUnit a.1 (lanes-some 0 e.lane_width lanes long)
+      | inr r ↦ call-has ds matches ssa o p (suc d) es r
+    ]
+
+produced-has : (ds : List Description) (matches : List Match) (ssa : Ssa) (o : Operand) (p : Packed)
+    → Has p (producers ds matches ssa o) → HasUnit p
+produced-has ds matches ssa o p h =
+    elim (has-append p (load_producer ssa o) (call_producers ds matches ssa o 0 ds) h) [
+      | inl l ↦ load-has ssa o p l
+      | inr r ↦ call-has ds matches ssa o p 0 ds r
+    ]
+
+pub is-packing : (ds : List Description) (matches : List Match) (ssa : Ssa) (deps : List (ℕ × ℕ))
+    → IsWorld (packing ds matches ssa deps)
+is-packing ds matches ssa deps = record {
+  pack_itself = pack-itself;
+  pack_is = pack-is;
+  operand_itself = operand-itself;
+  operand_is = operand-is;
+  has_unit = λ plan p h. elim (has-append p (store_groups ssa) (flat_map (λ q. flat_map (producers ds matches ssa) (operands_of ds matches ssa q)) plan) h) [
+    | inl l ↦
+        let size = from-flat_map (groups_of ssa) p (64 ∷ 32 ∷ 16 ∷ 8 ∷ 4 ∷ []) l in
+        let first = from-flat_map (λ v. group_of ssa size.0 v (unit_at ssa v)) p (unit_numbers ssa) size.2 in
+        group-has ssa size.0 first.0 p (unit_at ssa first.0) first.2
+    | inr r ↦
+        let q = from-flat_map (λ q. flat_map (producers ds matches ssa) (operands_of ds matches ssa q)) p plan r in
+        let o = from-flat_map (producers ds matches ssa) p (operands_of ds matches ssa q.0) q.2 in
+        produced-has ds matches ssa o.0 p o.2
+  ];
+}

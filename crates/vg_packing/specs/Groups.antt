@@ -1,0 +1,48 @@
+-- The store groups of a kernel, in the order in which they are tried.
+use Rattle.std.specs.Prelude.{ℕ, zero, suc, ◌/◌, ◌&&◌, Bool, true, false, List, [], ◌∷◌, length, filter, Option, Some, None, is_some, slice_get, nat_le, if◌then◌else◌}
+use Rattle.std.specs.List.{filter_map, flat_map, list_all}
+use Rattle.vg_base.specs.declared.address.Address.{Address}
+use Rattle.vg_base.specs.declared.width.Width.{Width}
+use Rattle.vg_base.specs.Width.{size_of}
+use Rattle.vg_shapes.specs.declared.pack.Pack.{Pack as Packed}
+use Rattle.vg_shapes.specs.declared.pack.Pack.TheVariants.{Stores}
+use Rattle.vg_shapes.specs.declared.ssa.Ssa.{Ssa}
+use Rattle.vg_shapes.specs.declared.unit.Unit.{Unit as Work}
+use Rattle.vg_shapes.specs.declared.unit.Unit.TheVariants.{Load, Store, Operation}
+use Rattle.vg_shapes.specs.Order.{numbers_from}
+use Rattle.vg_shapes.specs.Pack.{behind, stores_before, stores_to}
+use Rattle.vg_shapes.specs.Units.{arguments, unit_at}
+
+-- the numbers of all units, rising
+abbrev pub unit_numbers : Ssa → List ℕ
+unit_numbers ssa = numbers_from (arguments ssa) (length ssa.units)
+
+-- the stores of a width to an address, in order
+abbrev pub stores_at : Ssa → Address → Width → List ℕ
+stores_at ssa a w = filter (λ v. stores_to a w (unit_at ssa v)) (unit_numbers ssa)
+
+-- for so many places beside each other the store of this rank to each, where there is one
+abbrev pub stores_from : Ssa → Address → Width → ℕ → ℕ → List (Option ℕ)
+stores_from ssa a w rank zero = []
+stores_from ssa a w rank (suc n) =
+    slice_get (stores_at ssa a w) rank ∷ stores_from ssa (behind a (size_of w)) w rank n
+
+-- The group of so many bytes that a store begins: it and the stores behind it in memory, each with
+-- as many before it to its own place.
+abbrev pub group_of : Ssa → ℕ → ℕ → Option Work → List Packed
+group_of ssa size v None = []
+group_of ssa size v (Some (Load a w)) = []
+group_of ssa size v (Some (Operation op w k xs)) = []
+group_of ssa size v (Some (Store a w x)) =
+    let found = stores_from ssa a w (stores_before ssa a w v) (size / size_of w) in
+    if nat_le 2 (length found) && list_all is_some found
+    then Stores (filter_map (λ u. u) found) ∷ []
+    else []
+
+-- the groups of so many bytes, by rising first unit
+abbrev pub groups_of : Ssa → ℕ → List Packed
+groups_of ssa size = flat_map (λ v. group_of ssa size v (unit_at ssa v)) (unit_numbers ssa)
+
+-- by falling size in bytes
+abbrev pub store_groups : Ssa → List Packed
+store_groups ssa = flat_map (groups_of ssa) (64 ∷ 32 ∷ 16 ∷ 8 ∷ 4 ∷ [])

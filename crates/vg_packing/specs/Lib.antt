@@ -1,0 +1,9 @@
+pub mod Groups
+pub mod Held
+pub mod Laws
+pub mod Packing
+pub mod Producers
+pub mod Same
+pub mod Shuffles
+pub mod Taken
+pub mod Wants

@@ -1,0 +1,16 @@
+//! Plans of kernels: which packs a kernel has, what they take and hold, how plans of them grow, and
+//! what plans cost.
+//!
+//! `specs/Groups.antt` lists the store groups, `specs/Taken.antt` the operands that packs take,
+//! `specs/Held.antt` what their registers hold, `specs/Producers.antt` the packs that produce an
+//! operand, and `specs/Shuffles.antt` the instances that move parts of registers. `specs/Packing.antt`
+//! puts them together: over it stand the plans and costs of `vg_plans`, the plain and the chosen plan.
+//! Here are the laws on them; the code that finds plans stands above.
+#![tactic(auto)]
+
+mod law;
+
+pub use law::{
+    chosen_plans_are_optimal, chosen_plans_fit, kernel_packs_are_apart, kernel_plans_are_short,
+    kernel_plans_go_by_packs,
+};
