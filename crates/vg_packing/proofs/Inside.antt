@@ -5,6 +5,7 @@ use Rattle.std.specs.Prelude.{◌&&◌, if◌then◌else◌, filter, find, nat_e
 use Rattle.std.specs.List.{AllByRecursion, filter_map, flat_map, list_any, list_all}
 use Rattle.std.proofs.lemmas.Bool.{cases_Bool}
 use Rattle.std.proofs.lemmas.Bool.Decides.{nat_tests}
+use Rattle.std.specs.Cmp.Lexicographic.{pointwise}
 use Rattle.vg_base.specs.declared.address.Address.{Address}
 use Rattle.vg_base.specs.declared.width.Width.{Width}
 use Rattle.vg_base.specs.Width.{size_of}
@@ -29,10 +30,10 @@ use Rattle.vg_packing.specs.Groups.{group_of, groups_of, store_groups, stores_at
 use Rattle.vg_packing.specs.Laws.{MatchUnits}
 use Rattle.vg_packing.specs.Packing.{falling_units, packing}
 use Rattle.vg_packing.specs.Producers.{are_beside, are_loads, are_matched, begin_loads, call_producer, call_producers, can_be_produced, lanes_for, load_producer, loads_from, producers}
-use Rattle.vg_packing.specs.Same.{same_list, same_slot}
+use Rattle.vg_packing.specs.SameAs.{same_slot}
 use Rattle.vg_packing.specs.Taken.{first_width, operands_of, register_for, slots_from}
 use Rattle.vg_packing.specs.Wants.{wanted_slots, wanted_values}
-use Rattle.vg_packing.proofs.Same.{both-true}
+use Rattle.vg_packing.proofs.SameTests.{both-true}
 use Rattle.vg_packing.proofs.Tried.{if-has}
 
 -- the members of a list are units
@@ -115,7 +116,7 @@ load-inside ssa o p l =
     let b = both-true (can_be_produced o) _ a.0 in
     let b2 = both-true (is_pack_size (length us * width / 8)) _ b.1 in
     let b3 = both-true (nat_eq (register_for us width) o.register) _ b2.1 in
-    let b4 = both-true (same_list same_slot (wanted_slots o) (slots_from 0 width (map Value us))) (are_beside ssa us) b3.1 in
+    let b4 = both-true (pointwise same_slot (wanted_slots o) (slots_from 0 width (map Value us))) (are_beside ssa us) b3.1 in
     subst (λ p. Inside ssa (units_of p)) a.1 (beside-inside ssa us b4.1)
 
 -- a match that is found is that of a value

@@ -1,4 +1,4 @@
 pub mod Inside
 pub mod Least
-pub mod Same
+pub mod SameTests
 pub mod Tried

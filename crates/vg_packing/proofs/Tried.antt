@@ -1,9 +1,10 @@
 -- Each pack that is tried has a unit, and where matches are those of units, it has units alone.
 use Rattle.std.proofs.Common.{◌≡◌, ℕ, zero, suc, ◌+◌, ◌*◌, ◌/◌, ◌≤◌, ◌⊎◌, Bool, true, false, List, [], ◌∷◌, ◌++◌, map, length, refl, sym, ap, subst, inl, inr, arith}
-use Rattle.std.specs.Prelude.{◌&&◌, if◌then◌else◌, filter, nat_eq, nat_le, Option, Some, None, is_some, cond}
+use Rattle.std.specs.Prelude.{◌&&◌, if◌then◌else◌, filter, nat_eq, nat_le, Option, Some, None, is_some, cond, option_to_list}
 use Rattle.std.specs.List.{filter_map, flat_map, list_any, list_all}
 use Rattle.std.proofs.lemmas.Bool.{cases_Bool}
 use Rattle.std.proofs.lemmas.Bool.Decides.{nat_tests}
+use Rattle.std.specs.Cmp.Lexicographic.{pointwise}
 use Rattle.vg_base.specs.declared.address.Address.{Address}
 use Rattle.vg_base.specs.declared.width.Width.{Width}
 use Rattle.vg_base.specs.Width.{size_of}
@@ -27,10 +28,10 @@ use Rattle.vg_packing.specs.Groups.{group_of, groups_of, store_groups, stores_at
 use Rattle.vg_packing.specs.Held.{lanes_from}
 use Rattle.vg_packing.specs.Packing.{packing}
 use Rattle.vg_packing.specs.Producers.{all_differ, call_producer, call_producers, can_be_produced, lanes_for, load_producer, producers}
-use Rattle.vg_packing.specs.Same.{same_list, same_slot}
+use Rattle.vg_packing.specs.SameAs.{same_slot}
 use Rattle.vg_packing.specs.Taken.{first_width, operands_of}
 use Rattle.vg_packing.specs.Wants.{is_wanted, value_of, wanted_slots, wanted_values, wants_value}
-use Rattle.vg_packing.proofs.Same.{both-true, eq-itself, list-is, operand-is, operand-itself, pack-is, pack-itself, slot-is}
+use Rattle.vg_packing.proofs.SameTests.{both-true, eq-itself, list-is, operand-is, operand-itself, pack-is, pack-itself, slot-is}
 
 -- a list has a member
 abbrev Somewhere : List ℕ → Type 0
@@ -52,27 +53,38 @@ some-first [] le t = absurd (omega arith)
 some-first (Some u ∷ found) le t = (u, here u (filter_map (λ u. u) found))
 some-first (None ∷ found) le t = absurd (cc)
 
+-- a first slot that wants a value
 by_wanted : (s : Slot) (slots : List Slot)
     → (1 ≤ length (filter (λ s. is_wanted s.wanted) slots)
     → list_all (λ s. wants_value s.wanted) (filter (λ s. is_wanted s.wanted) slots) ≡ true
-    → Somewhere (flat_map (λ s. value_of s.wanted) slots))
+    → Somewhere (filter_map (λ s. value_of s.wanted) slots))
     → (x : Wanted) → s.wanted ≡ x
     → 1 ≤ length (cond (is_wanted x) (s ∷ filter (λ s. is_wanted s.wanted) slots) (filter (λ s. is_wanted s.wanted) slots))
     → list_all (λ s. wants_value s.wanted) (cond (is_wanted x) (s ∷ filter (λ s. is_wanted s.wanted) slots) (filter (λ s. is_wanted s.wanted) slots)) ≡ true
-    → Somewhere (value_of x ++ flat_map (λ s. value_of s.wanted) slots)
-by_wanted s slots rest (Value v) e l u = (v, here v (flat_map (λ s. value_of s.wanted) slots))
+    → Somewhere (option_to_list (value_of x) ++ filter_map (λ s. value_of s.wanted) slots)
+by_wanted s slots rest (Value v) e l u = (v, here v (filter_map (λ s. value_of s.wanted) slots))
 by_wanted s slots rest (Constant w n) e l u =
     absurd (
-    let k = (both-true (wants_value s.wanted) (list_all (λ s. wants_value s.wanted) (filter (λ s. is_wanted s.wanted) slots)) u).0 in
-    let f : wants_value s.wanted ≡ false = rw e refl in
-    cc)
+      let k = (both-true (wants_value s.wanted) (list_all (λ s. wants_value s.wanted) (filter (λ s. is_wanted s.wanted) slots)) u).0 in
+      let f : wants_value s.wanted ≡ false = rw e refl in
+      cc)
 by_wanted s slots rest Nothing e l u = rest l u
+
+map-first : {X Y : Type 0} (f : X → Option Y) (x : X) (xs : List X)
+    → filter_map f (x ∷ xs) ≡ option_to_list (f x) ++ filter_map f xs
+map-first {Y = Y} f x xs = of (f x) refl
+  where
+    of : (o : Option Y) → f x ≡ o → filter_map f (x ∷ xs) ≡ option_to_list (f x) ++ filter_map f xs
+    of None e = rw e refl
+    of (Some y) e = rw e refl
 
 values-some : (slots : List Slot) → 1 ≤ length (filter (λ s. is_wanted s.wanted) slots)
     → list_all (λ s. wants_value s.wanted) (filter (λ s. is_wanted s.wanted) slots) ≡ true
-    → Somewhere (flat_map (λ s. value_of s.wanted) slots)
+    → Somewhere (filter_map (λ s. value_of s.wanted) slots)
 values-some [] le t = absurd (omega arith)
-values-some (s ∷ slots) le t = by_wanted s slots (λ l u. values-some slots l u) s.wanted refl le t
+values-some (s ∷ slots) le t =
+    subst Somewhere (sym (map-first (λ s. value_of s.wanted) s slots))
+    (by_wanted s slots (λ l u. values-some slots l u) s.wanted refl le t)
 
 lanes-some : (low w : ℕ) (lanes : List (Option ℕ)) → 1 ≤ length (lanes_from low w lanes)
     → Somewhere (filter_map (λ u. u) lanes)
@@ -114,7 +126,7 @@ call-has ds matches ssa o p d (e ∷ es) k =
           let a = if-has _ (Call d lanes) p l in
           let b = both-true (can_be_produced o) _ a.0 in
           let b2 = both-true (nat_eq e.register o.register) _ b.1 in
-          let b3 = both-true (same_list same_slot (wanted_slots o) (lanes_from 0 e.lane_width lanes)) _ b2.1 in
+          let b3 = both-true (pointwise same_slot (wanted_slots o) (lanes_from 0 e.lane_width lanes)) _ b2.1 in
           let same = list-is same_slot slot-is (wanted_slots o) (lanes_from 0 e.lane_width lanes) b3.0 in
           let n = both-true (nat_le 2 (length (wanted_slots o))) _ b.0 in
           let long : 1 ≤ length (lanes_from 0 e.lane_width lanes) =

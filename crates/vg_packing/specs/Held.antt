@@ -9,7 +9,7 @@ use Rattle.vg_shapes.specs.declared.pack.Pack.TheVariants.{Stores, Loads, Call}
 use Rattle.vg_shapes.specs.declared.ssa.Ssa.{Ssa}
 use Rattle.vg_shapes.specs.declared.wanted.Wanted.TheVariants.{Value}
 use Rattle.vg_shapes.specs.Description.{Description}
-use Rattle.vg_packing.specs.Same.{same_slot}
+use Rattle.vg_packing.specs.SameAs.{same_slot}
 use Rattle.vg_packing.specs.Taken.{first_width, register_for, slots_from}
 use Rattle.vg_packing.specs.Wants.{slot, wanted_slots, wants_value}
 

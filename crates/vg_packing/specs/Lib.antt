@@ -3,7 +3,7 @@ pub mod Held
 pub mod Laws
 pub mod Packing
 pub mod Producers
-pub mod Same
+pub mod SameAs
 pub mod Shuffles
 pub mod Taken
 pub mod Wants

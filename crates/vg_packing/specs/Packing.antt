@@ -1,6 +1,6 @@
 -- The packs of a kernel: over them stand plans, their costs, the plain and the chosen plan.
 use Rattle.std.specs.Prelude.{ℕ, ◌+◌, ◌*◌, Bool, true, false, List, [], ◌∷◌, length, filter, Option, Some, None, slice_get, nat_le, if◌then◌else◌}
-use Rattle.std.specs.List.{flat_map}
+use Rattle.std.specs.List.{filter_map, flat_map}
 use Rattle.std.specs.Option.{is_some, option_map_or}
 use Rattle.vg_plans.specs.Levels.{chosen}
 use Rattle.vg_plans.specs.PlainPlan.{plain_plan}
@@ -21,7 +21,7 @@ use Rattle.vg_shapes.specs.Units.{arguments, is_unit, unit_at}
 use Rattle.vg_packing.specs.Groups.{store_groups}
 use Rattle.vg_packing.specs.Held.{holds}
 use Rattle.vg_packing.specs.Producers.{producers}
-use Rattle.vg_packing.specs.Same.{same_operand, same_pack}
+use Rattle.vg_packing.specs.SameAs.{same_operand, same_pack}
 use Rattle.vg_packing.specs.Shuffles.{shuffles}
 use Rattle.vg_packing.specs.Taken.{operands_of}
 use Rattle.vg_packing.specs.Wants.{is_constant, value_of, wanted_values}
@@ -30,9 +30,9 @@ use Rattle.vg_packing.specs.Wants.{is_constant, value_of, wanted_values}
 abbrev pub used_by : Option Work → List ℕ
 used_by None = []
 used_by (Some (Load a w)) = []
-used_by (Some (Store a w x)) = value_of x
+used_by (Some (Store a w x)) = filter_map value_of (x ∷ [])
 used_by (Some (Operation op w k xs)) =
-    flat_map value_of (xs.first ∷ xs.second ∷ xs.third ∷ [])
+    filter_map value_of (xs.first ∷ xs.second ∷ xs.third ∷ [])
 
 -- the units on which a pack depends, by a list of dependences: a call on those among its bound values,
 -- another pack on what its units depend on
@@ -40,7 +40,7 @@ abbrev pub needs_of : List Match → Ssa → List (ℕ × ℕ) → Packed → Li
 needs_of matches ssa deps (Stores us) = flat_map (row_of deps) us
 needs_of matches ssa deps (Loads us) = flat_map (row_of deps) us
 needs_of matches ssa deps (Call d lanes) =
-    filter (is_unit ssa) (flat_map (λ b. value_of b.wanted) (bounds_from matches d 0 lanes))
+    filter (is_unit ssa) (filter_map (λ b. value_of b.wanted) (bounds_from matches d 0 lanes))
 
 -- what the line of a pack costs
 abbrev pub price_of : List Description → Packed → ℕ

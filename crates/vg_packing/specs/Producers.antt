@@ -1,5 +1,6 @@
 -- The packs that produce an operand.
 use Rattle.std.specs.Prelude.{ℕ, zero, suc, ◌+◌, ◌*◌, ◌/◌, ◌&&◌, not, Bool, true, false, List, [], ◌∷◌, ◌++◌, length, map, Option, Some, None, is_some, nat_eq, nat_le, find, if◌then◌else◌}
+use Rattle.std.specs.Cmp.Lexicographic.{pointwise}
 use Rattle.std.specs.List.{list_all, list_any}
 use Rattle.std.specs.Ordering.{int_eq}
 use Rattle.vg_base.specs.declared.address.Address.{Address}
@@ -13,15 +14,14 @@ use Rattle.vg_shapes.specs.declared.pack.Pack.TheVariants.{Loads, Call}
 use Rattle.vg_shapes.specs.declared.ssa.Ssa.{Ssa}
 use Rattle.vg_shapes.specs.declared.unit.Unit.{Unit as Work}
 use Rattle.vg_shapes.specs.declared.unit.Unit.TheVariants.{Load, Store, Operation}
-use Rattle.vg_shapes.specs.declared.wanted.Wanted.{Wanted}
-use Rattle.vg_shapes.specs.declared.wanted.Wanted.TheVariants.{Value, Constant, Nothing}
+use Rattle.vg_shapes.specs.declared.wanted.Wanted.TheVariants.{Value}
 use Rattle.vg_shapes.specs.Description.{Description}
 use Rattle.vg_shapes.specs.Pack.{behind, is_pack_size, match_at}
 use Rattle.vg_shapes.specs.Units.{unit_at}
 use Rattle.vg_packing.specs.Held.{lanes_from}
-use Rattle.vg_packing.specs.Same.{same_list, same_slot}
+use Rattle.vg_packing.specs.SameAs.{same_slot}
 use Rattle.vg_packing.specs.Taken.{first_width, operands_of, register_for, slots_from}
-use Rattle.vg_packing.specs.Wants.{wanted_slots, wanted_values, wants_value}
+use Rattle.vg_packing.specs.Wants.{value_of, wanted_slots, wanted_values, wants_value}
 
 -- a unit is the load of a width from an address
 abbrev pub loads_from : Address → Width → Option Work → Bool
@@ -68,20 +68,15 @@ load_producer ssa o =
     if can_be_produced o
     && (is_pack_size (length us * width / 8)
     && (nat_eq (register_for us width) o.register
-    && (same_list same_slot (wanted_slots o) (slots_from 0 width (map Value us))
+    && (pointwise same_slot (wanted_slots o) (slots_from 0 width (map Value us))
     && are_beside ssa us)))
     then Loads us ∷ []
     else []
 
 -- the value that is wanted at a place, if any
-abbrev pub lane_value : Wanted → Option ℕ
-lane_value (Value v) = Some v
-lane_value (Constant w n) = None
-lane_value Nothing = None
-
 abbrev pub value_at : Option Slot → Option ℕ
 value_at None = None
-value_at (Some s) = lane_value s.wanted
+value_at (Some s) = value_of s.wanted
 
 -- so many lanes of this width from this bit on, each with what the slot of its place wants
 abbrev pub lanes_for : ℕ → ℕ → ℕ → List Slot → List (Option ℕ)
@@ -108,7 +103,7 @@ call_producer ds matches ssa o d e =
     let lanes = lanes_for (e.register / e.lane_width) 0 e.lane_width o.slots in
     if can_be_produced o
     && (nat_eq e.register o.register
-    && (same_list same_slot (wanted_slots o) (lanes_from 0 e.lane_width lanes)
+    && (pointwise same_slot (wanted_slots o) (lanes_from 0 e.lane_width lanes)
     && (are_matched matches d 0 lanes
     && list_all (λ q. agree q.slots) (operands_of ds matches ssa (Call d lanes)))))
     then Call d lanes ∷ []

@@ -18,7 +18,7 @@ use Rattle.vg_shapes.specs.Description.{Description}
 use Rattle.vg_shapes.specs.Leaves.{bit_number}
 use Rattle.vg_shapes.specs.Pack.{bounds_from}
 use Rattle.vg_shapes.specs.Units.{unit_at}
-use Rattle.vg_packing.specs.Same.{same_slot}
+use Rattle.vg_packing.specs.SameAs.{same_slot}
 use Rattle.vg_packing.specs.Wants.{slot}
 
 -- the width in bits of the register into which so many bytes are loaded

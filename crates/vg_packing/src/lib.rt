@@ -8,7 +8,11 @@
 //! Here are the laws on them; the code that finds plans stands above.
 #![tactic(auto)]
 
+pub mod held;
 mod law;
+pub mod same;
+pub mod units;
+pub mod wants;
 
 pub use law::{
     chosen_plans_are_optimal, chosen_plans_fit, kernel_packs_are_apart, kernel_plans_are_short,

@@ -2,13 +2,14 @@
 use Rattle.std.proofs.Common.{◌≡◌, ℕ, Bool, true, false, List, [], ◌∷◌, refl, ap, arith}
 use Rattle.std.specs.Prelude.{◌&&◌, nat_eq, Option, Some, None}
 use Rattle.std.proofs.lemmas.Bool.Decides.{nat_tests}
+use Rattle.std.specs.Cmp.Lexicographic.{pointwise}
 use Rattle.vg_shapes.specs.declared.operand.Operand.{Operand}
 use Rattle.vg_shapes.specs.declared.operand.Slot.{Slot}
 use Rattle.vg_shapes.specs.declared.pack.Pack.{Pack as Packed}
 use Rattle.vg_shapes.specs.declared.pack.Pack.TheVariants.{Stores, Loads, Call}
 use Rattle.vg_shapes.specs.declared.wanted.Wanted.{Wanted}
 use Rattle.vg_shapes.specs.declared.wanted.Wanted.TheVariants.{Value, Constant, Nothing}
-use Rattle.vg_packing.specs.Same.{same_lane, same_list, same_operand, same_pack, same_slot, same_wanted}
+use Rattle.vg_packing.specs.SameAs.{same_lane, same_operand, same_pack, same_slot, same_wanted}
 use Rattle.vg_packing.specs.Wants.{slot}
 
 eq-is : (a b : ℕ) → nat_eq a b ≡ true → a ≡ b
@@ -42,18 +43,18 @@ wanted-itself (Constant w n) = rw (eq-itself w) (eq-itself n)
 wanted-itself Nothing = refl
 
 pub list-is : {X : Type 0} (same : X → X → Bool) → ((x y : X) → same x y ≡ true → x ≡ y)
-    → (xs ys : List X) → same_list same xs ys ≡ true → xs ≡ ys
+    → (xs ys : List X) → pointwise same xs ys ≡ true → xs ≡ ys
 list-is same is [] [] t = refl
 list-is same is [] (y ∷ ys) t = absurd (cc)
 list-is same is (x ∷ xs) [] t = absurd (cc)
 list-is same is (x ∷ xs) (y ∷ ys) t =
-    let k = both-true (same x y) (same_list same xs ys) t in
+    let k = both-true (same x y) (pointwise same xs ys) t in
     let e = is x y k.0 in
     let f = list-is same is xs ys k.1 in
     cc
 
 list-itself : {X : Type 0} (same : X → X → Bool) → ((x : X) → same x x ≡ true)
-    → (xs : List X) → same_list same xs xs ≡ true
+    → (xs : List X) → pointwise same xs xs ≡ true
 list-itself same it [] = refl
 list-itself same it (x ∷ xs) = rw (it x) (list-itself same it xs)
 
@@ -75,7 +76,7 @@ pack-is (Loads us) (Loads vs) t = ap Loads (list-is nat_eq eq-is us vs t)
 pack-is (Loads us) (Stores vs) t = absurd (cc)
 pack-is (Loads us) (Call e m) t = absurd (cc)
 pack-is (Call d l) (Call e m) t =
-    let k = both-true (nat_eq d e) (same_list same_lane l m) t in
+    let k = both-true (nat_eq d e) (pointwise same_lane l m) t in
     let a = eq-is d e k.0 in
     let b = list-is same_lane lane-is l m k.1 in
     cc
@@ -105,7 +106,7 @@ operand r xs = record { register = r; slots = xs }
 
 pub operand-is : (a b : Operand) → same_operand a b ≡ true → a ≡ b
 operand-is a b t =
-    let k = both-true (nat_eq a.register b.register) (same_list same_slot a.slots b.slots) t in
+    let k = both-true (nat_eq a.register b.register) (pointwise same_slot a.slots b.slots) t in
     operand-from a.register b.register a.slots b.slots (eq-is a.register b.register k.0)
     (list-is same_slot slot-is a.slots b.slots k.1)
   where

@@ -1,5 +1,6 @@
 -- Tests that tell packs and operands apart.
 use Rattle.std.specs.Prelude.{ℕ, Bool, true, false, ◌&&◌, List, [], ◌∷◌, Option, Some, None, nat_eq}
+use Rattle.std.specs.Cmp.Lexicographic.{pointwise}
 use Rattle.vg_shapes.specs.declared.operand.Operand.{Operand}
 use Rattle.vg_shapes.specs.declared.operand.Slot.{Slot}
 use Rattle.vg_shapes.specs.declared.pack.Pack.{Pack as Packed}
@@ -16,14 +17,8 @@ same_wanted _ _ = false
 abbrev pub same_slot : Slot → Slot → Bool
 same_slot a b = nat_eq a.low b.low && (nat_eq a.width b.width && same_wanted a.wanted b.wanted)
 
--- lists of one length whose members are the same, one after the other
-abbrev pub same_list : {X : Type 0} → (X → X → Bool) → List X → List X → Bool
-same_list same [] [] = true
-same_list same (x ∷ xs) (y ∷ ys) = same x y && same_list same xs ys
-same_list same _ _ = false
-
 abbrev pub same_operand : Operand → Operand → Bool
-same_operand a b = nat_eq a.register b.register && same_list same_slot a.slots b.slots
+same_operand a b = nat_eq a.register b.register && pointwise same_slot a.slots b.slots
 
 abbrev pub same_lane : Option ℕ → Option ℕ → Bool
 same_lane (Some v) (Some u) = nat_eq v u
@@ -31,7 +26,7 @@ same_lane None None = true
 same_lane _ _ = false
 
 abbrev pub same_pack : Packed → Packed → Bool
-same_pack (Stores us) (Stores vs) = same_list nat_eq us vs
-same_pack (Loads us) (Loads vs) = same_list nat_eq us vs
-same_pack (Call d ls) (Call e ms) = nat_eq d e && same_list same_lane ls ms
+same_pack (Stores us) (Stores vs) = pointwise nat_eq us vs
+same_pack (Loads us) (Loads vs) = pointwise nat_eq us vs
+same_pack (Call d ls) (Call e ms) = nat_eq d e && pointwise same_lane ls ms
 same_pack _ _ = false
