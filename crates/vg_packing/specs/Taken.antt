@@ -1,5 +1,6 @@
 -- The operands that packs take.
-use Rattle.std.specs.Prelude.{ℤ, pos, negsuc, ℕ, suc, ◌+◌, ◌*◌, ◌/◌, Bool, List, [], ◌∷◌, length, map, filter, Option, Some, None, nat_eq, slice_get, if◌then◌else◌}
+use Rattle.std.specs.Prelude.{ℤ, pos, negsuc, ℕ, suc, ◌+◌, ◌*◌, ◌/◌, ◌^◌, ◌<◌, ◌≤◌, Bool, List, [], ◌∷◌, length, map, filter, Option, Some, None, nat_eq, slice_get, if◌then◌else◌}
+use Rattle.std.specs.List.{AllByRecursion}
 use Rattle.std.specs.Option.{option_map_or}
 use Rattle.vg_base.specs.Width.{bits_of}
 use Rattle.vg_plans.specs.Levels.{distinct, sort_by}
@@ -16,7 +17,7 @@ use Rattle.vg_shapes.specs.declared.wanted.Wanted.{Wanted}
 use Rattle.vg_shapes.specs.declared.wanted.Wanted.TheVariants.{Nothing}
 use Rattle.vg_shapes.specs.Description.{Description}
 use Rattle.vg_shapes.specs.Leaves.{bit_number}
-use Rattle.vg_shapes.specs.Pack.{bounds_from}
+use Rattle.vg_shapes.specs.Pack.{bounds_from, match_at}
 use Rattle.vg_shapes.specs.Units.{unit_at}
 use Rattle.vg_packing.specs.SameAs.{same_slot}
 use Rattle.vg_packing.specs.Wants.{slot}
@@ -72,13 +73,38 @@ operands_from bounds k (register ∷ params) =
 abbrev pub params_of : List Description → ℕ → List ℕ
 params_of ds d = option_map_or (λ e. e.params) (slice_get ds d) []
 
+-- the operand of a store group: what its stores store, one slot beside the other
+abbrev pub group_operand : Ssa → List ℕ → Operand
+group_operand ssa us = record {
+  register = register_for us (first_width ssa us);
+  slots = slots_from 0 (first_width ssa us) (map (λ v. stored (unit_at ssa v)) us);
+}
+
 -- the operands of a pack: a store group takes one, a call one for each parameter
 abbrev pub operands_of : List Description → List Match → Ssa → Packed → List Operand
 operands_of ds matches ssa (Loads us) = []
-operands_of ds matches ssa (Stores us) =
-    record {
-      register = register_for us (first_width ssa us);
-      slots = slots_from 0 (first_width ssa us) (map (λ v. stored (unit_at ssa v)) us);
-    } ∷ []
+operands_of ds matches ssa (Stores us) = group_operand ssa us ∷ []
 operands_of ds matches ssa (Call d lanes) =
     operands_from (bounds_from matches d 0 lanes) 0 (params_of ds d)
+
+-- what a lane of a call binds
+abbrev pub lane_bounds : List Match → ℕ → ℕ → Option ℕ → List Bound
+lane_bounds matches d lane None = []
+lane_bounds matches d lane (Some v) = option_map_or (λ m. m.bound) (match_at matches d lane v) []
+
+-- the slot of each leaf of a parameter that is bound, as lanes bind them
+abbrev pub bound_slots : List Bound → ℕ → List Slot
+bound_slots bounds k = map slot_of (filter (λ b. nat_eq b.key.first k) bounds)
+
+-- leaves begin within 2 ^ 32 bits
+abbrev pub AreNear : List Bound → Type 0
+AreNear bounds = AllByRecursion (λ b. bit_number b.key.second < 2 ^ 32) bounds
+
+abbrev pub MatchesNear : List Match → Type 0
+MatchesNear matches = AllByRecursion (λ m. AreNear m.bound) matches
+
+-- a pack of few lanes: at most 64 loads or stores, or fewer lanes of a call than 2 to the 32
+abbrev pub IsShort : Packed → Type 0
+IsShort (Stores us) = length us ≤ 64
+IsShort (Loads us) = length us ≤ 64
+IsShort (Call d lanes) = length lanes < 2 ^ 32

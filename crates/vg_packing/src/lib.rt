@@ -11,6 +11,7 @@
 pub mod held;
 mod law;
 pub mod same;
+pub mod taken;
 pub mod units;
 pub mod wants;
 

@@ -55,7 +55,7 @@ pub fn first_width(ssa: &Ssa, units: &[u32]) -> u32
 }
 
 /// The width in bits of the register into which so many bytes are loaded.
-pub fn register_of_bytes(bytes: u64) -> u32
+pub fn register_of_bytes(bytes: u128) -> u32
     ensures { result ≡ register_of_bytes bytes }
 {
     if bytes == 64 {
@@ -65,4 +65,11 @@ pub fn register_of_bytes(bytes: u64) -> u32
     } else {
         128
     }
+}
+
+/// The width in bits of the register that holds units of this width in bits.
+pub fn register_for(units: &[u32], width: u32) -> u32
+    ensures { result ≡ register_for units.now width }
+{
+    register_of_bytes(units.len() as u128 * u128::from(width) / 8)
 }
