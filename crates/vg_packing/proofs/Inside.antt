@@ -23,15 +23,15 @@ use Rattle.vg_shapes.specs.declared.unit.Unit.TheVariants.{Load, Store, Operatio
 use Rattle.vg_shapes.specs.Depends.{numbers_below}
 use Rattle.vg_shapes.specs.Description.{Description}
 use Rattle.vg_shapes.specs.Order.{numbers_from}
-use Rattle.vg_shapes.specs.declared.wanted.Wanted.TheVariants.{Value}
 use Rattle.vg_shapes.specs.Pack.{behind, is_pack_size, match_at, stores_before, stores_to, units_of}
 use Rattle.vg_shapes.specs.Units.{arguments, is_unit, unit_at}
 use Rattle.vg_packing.specs.Groups.{group_of, groups_of, store_groups, stores_at, stores_from, unit_numbers}
+use Rattle.vg_packing.specs.Held.{lanes_from}
 use Rattle.vg_packing.specs.Laws.{MatchUnits}
 use Rattle.vg_packing.specs.Packing.{falling_units, packing}
 use Rattle.vg_packing.specs.Producers.{are_beside, are_loads, are_matched, begin_loads, call_producer, call_producers, can_be_produced, lanes_for, load_producer, loads_from, producers}
 use Rattle.vg_packing.specs.SameAs.{same_slot}
-use Rattle.vg_packing.specs.Taken.{first_width, operands_of, register_for, slots_from}
+use Rattle.vg_packing.specs.Taken.{first_width, operands_of, register_for}
 use Rattle.vg_packing.specs.Wants.{wanted_slots, wanted_values}
 use Rattle.vg_packing.proofs.SameTests.{both-true}
 use Rattle.vg_packing.proofs.Tried.{if-has}
@@ -116,7 +116,7 @@ load-inside ssa o p l =
     let b = both-true (can_be_produced o) _ a.0 in
     let b2 = both-true (is_pack_size (length us * width / 8)) _ b.1 in
     let b3 = both-true (nat_eq (register_for us width) o.register) _ b2.1 in
-    let b4 = both-true (pointwise same_slot (wanted_slots o) (slots_from 0 width (map Value us))) (are_beside ssa us) b3.1 in
+    let b4 = both-true (pointwise same_slot (wanted_slots o) (lanes_from 0 width (map Some us))) (are_beside ssa us) b3.1 in
     subst (λ p. Inside ssa (units_of p)) a.1 (beside-inside ssa us b4.1)
 
 -- a match that is found is that of a value

@@ -1,4 +1,5 @@
 pub mod Inside
+pub mod Lanes
 pub mod Least
 pub mod Nearness
 pub mod SameTests

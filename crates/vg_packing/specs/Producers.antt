@@ -14,13 +14,12 @@ use Rattle.vg_shapes.specs.declared.pack.Pack.TheVariants.{Loads, Call}
 use Rattle.vg_shapes.specs.declared.ssa.Ssa.{Ssa}
 use Rattle.vg_shapes.specs.declared.unit.Unit.{Unit as Work}
 use Rattle.vg_shapes.specs.declared.unit.Unit.TheVariants.{Load, Store, Operation}
-use Rattle.vg_shapes.specs.declared.wanted.Wanted.TheVariants.{Value}
 use Rattle.vg_shapes.specs.Description.{Description}
 use Rattle.vg_shapes.specs.Pack.{behind, is_pack_size, match_at}
 use Rattle.vg_shapes.specs.Units.{unit_at}
 use Rattle.vg_packing.specs.Held.{lanes_from}
 use Rattle.vg_packing.specs.SameAs.{same_slot}
-use Rattle.vg_packing.specs.Taken.{first_width, operands_of, register_for, slots_from}
+use Rattle.vg_packing.specs.Taken.{first_width, operands_of, register_for}
 use Rattle.vg_packing.specs.Wants.{value_of, wanted_slots, wanted_values, wants_value}
 
 -- a unit is the load of a width from an address
@@ -68,7 +67,7 @@ load_producer ssa o =
     if can_be_produced o
     && (is_pack_size (length us * width / 8)
     && (nat_eq (register_for us width) o.register
-    && (pointwise same_slot (wanted_slots o) (slots_from 0 width (map Value us))
+    && (pointwise same_slot (wanted_slots o) (lanes_from 0 width (map Some us))
     && are_beside ssa us)))
     then Loads us ∷ []
     else []
