@@ -27,9 +27,9 @@ tested : (s : Slot) (low below w v : ℕ) → low + below ≡ s.low
     → same_slot s (slot low w (Value v)) ≡ is_here s below w v
 tested s low below w v e =
     let f : nat_eq s.low low ≡ nat_eq below 0 = elim (cases_Bool (nat_eq below 0)) [
-        | inl t ↦ let z : below ≡ 0 = grind (arith, nat_tests, t) in let g : s.low ≡ low = omega (arith, e, z) in grind (arith, nat_tests, g, t)
-        | inr n ↦ let z : 0 < below = grind (arith, nat_tests, n) in let g : low < s.low = omega (arith, e, z) in grind (arith, nat_tests, g, n)
-      ] in
+      | inl t ↦ let z : below ≡ 0 = grind (arith, nat_tests, t) in let g : s.low ≡ low = omega (arith, e, z) in grind (arith, nat_tests, g, t)
+      | inr n ↦ let z : 0 < below = grind (arith, nat_tests, n) in let g : low < s.low = omega (arith, e, z) in grind (arith, nat_tests, g, n)
+    ] in
     rw f refl
 
 pub found-here : (s : Slot) (low below w v : ℕ) (lanes : List (Option ℕ)) → low + below ≡ s.low

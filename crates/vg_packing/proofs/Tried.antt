@@ -65,9 +65,9 @@ by_wanted : (s : Slot) (slots : List Slot)
 by_wanted s slots rest (Value v) e l u = (v, here v (filter_map (λ s. value_of s.wanted) slots))
 by_wanted s slots rest (Constant w n) e l u =
     absurd (
-      let k = (both-true (wants_value s.wanted) (list_all (λ s. wants_value s.wanted) (filter (λ s. is_wanted s.wanted) slots)) u).0 in
-      let f : wants_value s.wanted ≡ false = rw e refl in
-      cc)
+    let k = (both-true (wants_value s.wanted) (list_all (λ s. wants_value s.wanted) (filter (λ s. is_wanted s.wanted) slots)) u).0 in
+    let f : wants_value s.wanted ≡ false = rw e refl in
+    cc)
 by_wanted s slots rest Nothing e l u = rest l u
 
 map-first : {X Y : Type 0} (f : X → Option Y) (x : X) (xs : List X)

@@ -120,9 +120,7 @@ fn is_filled(descriptions: &[Description], ssa: &Ssa, pack: &Pack, slot: &Slot) 
 fn are_filled(descriptions: &[Description], ssa: &Ssa, pack: &Pack, slots: &[Slot]) -> bool
     ensures { result ≡ list_all (is_filled (map description_of descriptions.now) ssa.now pack.now) slots.now }
 {
-    slots
-        .iter()
-        .all(|s| is_filled(descriptions, ssa, pack, s))
+    slots.iter().all(|s| is_filled(descriptions, ssa, pack, s))
 }
 
 fn some_wanted(slots: &[Slot]) -> bool

@@ -127,11 +127,7 @@ fn slots_of(alloc: Global, bounds: &[Bound], parameter: usize) -> Result<Vec<Slo
 }
 
 /// An operand for each parameter of these widths in bits, by what leaves of the parameters are bound to.
-fn operands_for(
-    alloc: Global,
-    bounds: &[Bound],
-    params: &[u32],
-) -> Result<Vec<Operand>, AllocError>
+fn operands_for(alloc: Global, bounds: &[Bound], params: &[u32]) -> Result<Vec<Operand>, AllocError>
     requires { AreNear bounds.now }
     ensures { IfOk result (λ operands. operands.items ≡ operands_from bounds.now 0 params.now) }
 {
@@ -149,7 +145,12 @@ fn operands_for(
 }
 
 /// What stores store, one slot beside the other.
-fn stored_slots(alloc: Global, ssa: &Ssa, units: &[u32], width: u32) -> Result<Vec<Slot>, AllocError>
+fn stored_slots(
+    alloc: Global,
+    ssa: &Ssa,
+    units: &[u32],
+    width: u32,
+) -> Result<Vec<Slot>, AllocError>
     requires few { length units.now ≤ 64 }
     requires narrow { width ≤ 64 }
     ensures { IfOk result (λ slots. slots.items ≡ slots_from 0 width (map (λ v. stored (unit_at ssa.now v)) units.now)) }

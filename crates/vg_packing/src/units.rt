@@ -6,7 +6,6 @@ ghost use Rattle.vg_packing.specs.Taken.{first_width, register_for, register_of_
 
 use vg_shapes::{Ssa, Unit, Wanted};
 
-
 /// The unit of a number, if it is that of one: the integer parameters stand before the units.
 pub fn unit_at(ssa: &Ssa, number: u32) -> Option<Unit>
     ensures { result ≡ unit_at ssa.now number }
