@@ -5,11 +5,12 @@
 //! `specs/Held.antt` what their registers hold, `specs/Producers.antt` the packs that produce an
 //! operand, and `specs/Shuffles.antt` the instances that move parts of registers. `specs/Packing.antt`
 //! puts them together: over it stand the plans and costs of `vg_plans`, the plain and the chosen plan.
-//! Here are the laws on them; the code that finds plans stands above.
+//! The functions here answer by those definitions; the code that finds plans stands above.
 #![tactic(auto)]
 
 pub mod held;
 mod law;
+pub mod recipe;
 pub mod same;
 pub mod taken;
 pub mod units;
@@ -19,3 +20,4 @@ pub use law::{
     chosen_plans_are_optimal, chosen_plans_fit, kernel_packs_are_apart, kernel_plans_are_short,
     kernel_plans_go_by_packs,
 };
+pub use recipe::Recipe;
