@@ -10,8 +10,10 @@
 
 pub mod held;
 mod law;
+pub mod plan_operands;
 pub mod recipe;
 pub mod same;
+pub mod shuffles;
 pub mod taken;
 pub mod units;
 pub mod wants;
