@@ -1,0 +1,3 @@
+pub mod Fit
+pub mod LaneList
+pub mod Least
