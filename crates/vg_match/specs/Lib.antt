@@ -1,3 +1,4 @@
 pub mod Fit
 pub mod LaneList
 pub mod Least
+pub mod Table

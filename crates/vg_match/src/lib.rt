@@ -5,6 +5,7 @@ mod fit;
 mod lane_list;
 mod least;
 mod root;
+mod table;
 
 /// The greatest number of descriptions, of values, of lanes of a description, and of matches and
 /// bound leaves together.
