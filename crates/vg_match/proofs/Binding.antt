@@ -43,7 +43,7 @@ key-same a b t =
       kind = eqb-true a.kind b.kind r.0 i;
       first = eqb-true a.first b.first r.1 i;
       second = (Decides-int_eq a.second b.second).0 q.1 i;
-      third = eqb-true a.third b.third p.1 i
+      third = eqb-true a.third b.third p.1 i;
     }
 
 key-itself : (a : LeafKey) → same_key a a ≡ true
@@ -167,33 +167,33 @@ bind-binds w k x bound after g e = elim (cases_Bool (same_wanted x Nothing)) [
   | inr f ↦
       let e1 = sym (cond-false (same_wanted x Nothing) None _ f) ∙ e in
       elim (cases_Bool (same_wanted (wanted_for bound w k) Nothing)) [
-      | inl t ↦
-          let same : bound ++ entry w k x ∷ [] ≡ after = some-same _ _ (sym (cond-true (same_wanted (wanted_for bound w k) Nothing) _ _ t) ∙ e1) in
-          let none = no_entry bound w k g.solid t in
-          subst (Binds w k x bound) same (record {
-            more = entry w k x ∷ [];
-            grows = refl;
-            of = ((refl, refl), tt);
-            good = record { solid = all-behind (λ b. same_wanted b.wanted Nothing ≡ false) bound (entry w k x) g.solid f; once = distinct-behind bound w k x none g.once };
-            keeps = λ u l h. kept bound (entry w k x) u l h;
-            is = last bound w k x none;
-            something = f
-          })
-      | inr h ↦
-          let e2 = sym (cond-false (same_wanted (wanted_for bound w k) Nothing) _ _ h) ∙ e1 in
-          elim (cases_Bool (same_wanted (wanted_for bound w k) x)) [
-          | inl t ↦
-              let same : bound ≡ after = some-same _ _ (sym (cond-true (same_wanted (wanted_for bound w k) x) _ _ t) ∙ e2) in
-              subst (Binds w k x bound) same (record {
-                more = [];
-                grows = sym (append-nil bound);
-                of = tt;
-                good = g;
-                keeps = λ u l b. refl;
-                is = wanted-same (wanted_for bound w k) x t;
-                something = f
-              })
-          | inr n ↦ absurd (none-some after (sym (cond-false (same_wanted (wanted_for bound w k) x) _ _ n) ∙ e2))
-          ]
+        | inl t ↦
+            let same : bound ++ entry w k x ∷ [] ≡ after = some-same _ _ (sym (cond-true (same_wanted (wanted_for bound w k) Nothing) _ _ t) ∙ e1) in
+            let none = no_entry bound w k g.solid t in
+            subst (Binds w k x bound) same (record {
+              more = entry w k x ∷ [];
+              grows = refl;
+              of = ((refl, refl), tt);
+              good = record { solid = all-behind (λ b. same_wanted b.wanted Nothing ≡ false) bound (entry w k x) g.solid f; once = distinct-behind bound w k x none g.once };
+              keeps = λ u l h. kept bound (entry w k x) u l h;
+              is = last bound w k x none;
+              something = f;
+            })
+        | inr h ↦
+            let e2 = sym (cond-false (same_wanted (wanted_for bound w k) Nothing) _ _ h) ∙ e1 in
+            elim (cases_Bool (same_wanted (wanted_for bound w k) x)) [
+              | inl t ↦
+                  let same : bound ≡ after = some-same _ _ (sym (cond-true (same_wanted (wanted_for bound w k) x) _ _ t) ∙ e2) in
+                  subst (Binds w k x bound) same (record {
+                    more = [];
+                    grows = sym (append-nil bound);
+                    of = tt;
+                    good = g;
+                    keeps = λ u l b. refl;
+                    is = wanted-same (wanted_for bound w k) x t;
+                    something = f;
+                  })
+              | inr n ↦ absurd (none-some after (sym (cond-false (same_wanted (wanted_for bound w k) x) _ _ n) ∙ e2))
+            ]
       ]
 ]

@@ -58,21 +58,21 @@ module _ (terms : List Tree) (v : ℕ) (by : ℕ → LeafKey → Tree) where
       let x = standing terms v (by w k) in
       let start = fit-leaf w k (by w k) bound m.0 in
       elim (cases_Bool (same_wanted (wanted_for bound w k) Nothing)) [
-      | inl t ↦ record {
+        | inl t ↦ record {
           after = bound ++ entry w k x ∷ [];
           is = start ∙ bind-new w k x bound m.1 t;
           agrees = λ u l. elim (behind bound (entry w k x) u l) [
-            | inl h ↦ elim (a u l) [ | inl n ↦ inl (h ∙ n) | inr s ↦ inr (h ∙ s) ]
+            | inl h ↦ elim (a u l) [ inl n ↦ inl (h ∙ n) | inr s ↦ inr (h ∙ s) ]
             | inr h ↦ inr (h.2 ∙ (λ i. standing terms v (by (sym h.0 i) (sym h.1 i))))
-          ]
+          ];
         }
-      | inr f ↦ record {
+        | inr f ↦ record {
           after = bound;
           is = start ∙ bind-again w k x bound m.1 f (elim (a w k) [
             | inl n ↦ absurd (let h : same_wanted Nothing Nothing ≡ false = sym (ap (λ y. same_wanted y Nothing) n) ∙ f in cc)
             | inr s ↦ ap (λ y. same_wanted y x) s ∙ wanted-itself x
           ]);
-          agrees = a
+          agrees = a;
         }
       ]
 
@@ -88,7 +88,7 @@ module _ (terms : List Tree) (v : ℕ) (by : ℕ → LeafKey → Tree) where
       record {
         after = g.after;
         is = fit-two op w x y (replaced by x) (replaced by y) bound ∙ ap (option_and_then (fit terms v y (replaced by y))) f.is ∙ g.is;
-        agrees = g.agrees
+        agrees = g.agrees;
       }
   fits (sel w c x y) bound a m =
       let e = fits c bound a m.0 in
@@ -97,7 +97,7 @@ module _ (terms : List Tree) (v : ℕ) (by : ℕ → LeafKey → Tree) where
       record {
         after = g.after;
         is = fit-sel w c x y (replaced by c) (replaced by x) (replaced by y) bound
-          ∙ ap (option_and_then (λ more. option_and_then (fit terms v y (replaced by y)) (fit terms v x (replaced by x) more))) e.is
-          ∙ ap (option_and_then (fit terms v y (replaced by y))) f.is ∙ g.is;
-        agrees = g.agrees
+            ∙ ap (option_and_then (λ more. option_and_then (fit terms v y (replaced by y)) (fit terms v x (replaced by x) more))) e.is
+            ∙ ap (option_and_then (fit terms v y (replaced by y))) f.is ∙ g.is;
+        agrees = g.agrees;
       }

@@ -99,18 +99,18 @@ module _ (ssa : Ssa) (v : ℕ) where
         more = b.more;
         grows = b.grows;
         of = all-weaker (λ b. (b.width ≡ w) × (b.key ≡ k)) (λ b. has_leaf b.width b.key (leaf w k) ≡ true)
-          (λ b h. subst (λ u. (nat_eq u w && same_key b.key k) ≡ true) (sym h.0) (subst (λ l. (nat_eq w w && same_key l k) ≡ true) (sym h.1) (leaf-itself w k)))
-          b.more b.of;
+            (λ b h. subst (λ u. (nat_eq u w && same_key b.key k) ≡ true) (sym h.0) (subst (λ l. (nat_eq w w && same_key l k) ≡ true) (sym h.1) (leaf-itself w k)))
+            b.more b.of;
         good = b.good;
         keeps = b.keeps;
         means = λ final f.
-          let is : wanted_for final w k ≡ x = f w k there ∙ b.is in
-          let same : term_for (terms_of ssa) final w k ≡ t = ap (term_of (terms_of ssa)) is ∙ stands-term t x stands in
-          record {
-            whole = same;
-            widths = ap width_of same ∙ wide;
-            leaves = subst (λ y. StandsFor ssa v y (wanted_for final w k)) (sym same) (subst (StandsFor ssa v t) (sym is) stands)
-          }
+            let is : wanted_for final w k ≡ x = f w k there ∙ b.is in
+            let same : term_for (terms_of ssa) final w k ≡ t = ap (term_of (terms_of ssa)) is ∙ stands-term t x stands in
+            record {
+              whole = same;
+              widths = ap width_of same ∙ wide;
+              leaves = subst (λ y. StandsFor ssa v y (wanted_for final w k)) (sym same) (subst (StandsFor ssa v t) (sym is) stands);
+            };
       }
 
   joined : (bound mid after m n : List Bound) → mid ≡ bound ++ m → after ≡ mid ++ n → after ≡ bound ++ (m ++ n)
@@ -130,7 +130,7 @@ module _ (ssa : Ssa) (v : ℕ) where
         of = tt;
         good = subst Good s g;
         keeps = subst (Keeps bound) s (λ u l h. refl);
-        means = λ final f. record { whole = same_term (constant w n) t c.0; widths = tt; leaves = tt }
+        means = λ final f. record { whole = same_term (constant w n) t c.0; widths = tt; leaves = tt };
       }
   right (one op w k x) (one o u j y) bound after g e =
       let c = if-some (nat_eq (one_tag op) (one_tag o) && (nat_eq w u && nat_eq k j)) (fit (terms_of ssa) v x y bound) after e in
@@ -147,8 +147,8 @@ module _ (ssa : Ssa) (v : ℕ) where
         good = s.good;
         keeps = s.keeps;
         means = λ final f.
-          let m = s.means final f in
-          record { whole = λ i. one (eo i) (ew i) (ek i) (m.whole i); widths = m.widths; leaves = m.leaves }
+            let m = s.means final f in
+            record { whole = λ i. one (eo i) (ew i) (ek i) (m.whole i); widths = m.widths; leaves = m.leaves };
       }
   right (two op w x y) (two o u p q) bound after g e =
       let c = if-some (nat_eq (two_tag op) (two_tag o) && nat_eq w u) (option_and_then (fit (terms_of ssa) v y q) (fit (terms_of ssa) v x p bound)) after e in
@@ -162,14 +162,14 @@ module _ (ssa : Ssa) (v : ℕ) where
         more = s.more ++ z.more;
         grows = joined bound m.0 after s.more z.more s.grows z.grows;
         of = all-append (λ b. has_leaf b.width b.key (two op w x y) ≡ true) s.more z.more
-          (all-weaker (λ b. has_leaf b.width b.key x ≡ true) (λ b. has_leaf b.width b.key (two op w x y) ≡ true) (λ b h. or_left (has_leaf b.width b.key x) (has_leaf b.width b.key y) h) s.more s.of)
-          (all-weaker (λ b. has_leaf b.width b.key y ≡ true) (λ b. has_leaf b.width b.key (two op w x y) ≡ true) (λ b h. or_right (has_leaf b.width b.key x) (has_leaf b.width b.key y) h) z.more z.of);
+            (all-weaker (λ b. has_leaf b.width b.key x ≡ true) (λ b. has_leaf b.width b.key (two op w x y) ≡ true) (λ b h. or_left (has_leaf b.width b.key x) (has_leaf b.width b.key y) h) s.more s.of)
+            (all-weaker (λ b. has_leaf b.width b.key y ≡ true) (λ b. has_leaf b.width b.key (two op w x y) ≡ true) (λ b h. or_right (has_leaf b.width b.key x) (has_leaf b.width b.key y) h) z.more z.of);
         good = z.good;
         keeps = keeps-both bound m.0 after s.keeps z.keeps;
         means = λ final f.
-          let l = s.means final (keeps-both m.0 after final z.keeps f) in
-          let r = z.means final f in
-          record { whole = λ i. two (eo i) (ew i) (l.whole i) (r.whole i); widths = (l.widths, r.widths); leaves = (l.leaves, r.leaves) }
+            let l = s.means final (keeps-both m.0 after final z.keeps f) in
+            let r = z.means final f in
+            record { whole = λ i. two (eo i) (ew i) (l.whole i) (r.whole i); widths = (l.widths, r.widths); leaves = (l.leaves, r.leaves) };
       }
   right (sel w c x y) (sel u d p q) bound after g e =
       let a = if-some (nat_eq w u) (option_and_then (λ more. option_and_then (fit (terms_of ssa) v y q) (fit (terms_of ssa) v x p more)) (fit (terms_of ssa) v c d bound)) after e in
@@ -184,17 +184,17 @@ module _ (ssa : Ssa) (v : ℕ) where
         more = r.more ++ (s.more ++ z.more);
         grows = joined bound m.0 after r.more (s.more ++ z.more) r.grows (joined m.0 n.0 after s.more z.more s.grows z.grows);
         of = all-append P r.more (s.more ++ z.more)
-          (all-weaker (λ b. has_leaf b.width b.key c ≡ true) P (λ b h. or_left (has_leaf b.width b.key c) (has_leaf b.width b.key x || has_leaf b.width b.key y) h) r.more r.of)
-          (all-append P s.more z.more
+            (all-weaker (λ b. has_leaf b.width b.key c ≡ true) P (λ b h. or_left (has_leaf b.width b.key c) (has_leaf b.width b.key x || has_leaf b.width b.key y) h) r.more r.of)
+            (all-append P s.more z.more
             (all-weaker (λ b. has_leaf b.width b.key x ≡ true) P (λ b h. or_right (has_leaf b.width b.key c) (has_leaf b.width b.key x || has_leaf b.width b.key y) (or_left (has_leaf b.width b.key x) (has_leaf b.width b.key y) h)) s.more s.of)
             (all-weaker (λ b. has_leaf b.width b.key y ≡ true) P (λ b h. or_right (has_leaf b.width b.key c) (has_leaf b.width b.key x || has_leaf b.width b.key y) (or_right (has_leaf b.width b.key x) (has_leaf b.width b.key y) h)) z.more z.of));
         good = z.good;
         keeps = keeps-both bound m.0 after r.keeps (keeps-both m.0 n.0 after s.keeps z.keeps);
         means = λ final f.
-          let j = r.means final (keeps-both m.0 after final (keeps-both m.0 n.0 after s.keeps z.keeps) f) in
-          let k = s.means final (keeps-both n.0 after final z.keeps f) in
-          let l = z.means final f in
-          record { whole = λ i. sel (ew i) (j.whole i) (k.whole i) (l.whole i); widths = (j.widths, k.widths, l.widths); leaves = (j.leaves, k.leaves, l.leaves) }
+            let j = r.means final (keeps-both m.0 after final (keeps-both m.0 n.0 after s.keeps z.keeps) f) in
+            let k = s.means final (keeps-both n.0 after final z.keeps f) in
+            let l = z.means final f in
+            record { whole = λ i. sel (ew i) (j.whole i) (k.whole i) (l.whole i); widths = (j.widths, k.widths, l.widths); leaves = (j.leaves, k.leaves, l.leaves) };
       }
   right (one op w k x) t bound after g e = absurd (none-some after e)
   right (two op w x y) t bound after g e = absurd (none-some after e)
@@ -216,7 +216,7 @@ module _ (ssa : Ssa) (v : ℕ) where
         whole = at ∙ ap Some (sym m.whole);
         leaves = m.leaves;
         alone = subst (AreLeaves p) (sym r.grows) r.of;
-        once = r.good.once
+        once = r.good.once;
       }
 
   each-both : (by : ℕ → LeafKey → Tree) (bound : List Bound) (p : Tree) → EachLeaf (λ w k. width_of (by w k) ≡ w) p → EachLeaf (λ w k. StandsFor ssa v (by w k) (wanted_for bound w k)) p → EachLeaf (MayStand (terms_of ssa) v by) p
