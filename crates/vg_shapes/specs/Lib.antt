@@ -6,6 +6,7 @@ pub mod Lane
 pub mod Layout
 pub mod Leaves
 pub mod MatchTable
+pub mod Matches
 pub mod Nodes
 pub mod Operands
 pub mod Order

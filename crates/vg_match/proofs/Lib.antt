@@ -1,0 +1,9 @@
+pub mod Binding
+pub mod Complete
+pub mod Lanes
+pub mod Laws
+pub mod Right
+pub mod Roots
+pub mod Sorted
+pub mod Standing
+pub mod Tables

@@ -1,0 +1,5 @@
+pub mod Fit
+pub mod LaneList
+pub mod Laws
+pub mod Least
+pub mod Table

@@ -1,0 +1,192 @@
+//! Whether the term of a lane fits the term of a value.
+
+ghost use Rattle.std.specs.Prelude.{◌≡◌, ◌<◌, ◌^◌, IfOk, map};
+ghost use Rattle.std.specs.Option.{option_map};
+ghost use Rattle.vg_match.specs.Fit.{bind, fit, same_wanted, standing};
+ghost use Rattle.vg_match.specs.Least.{AreByTerm};
+ghost use Rattle.vg_shapes.specs.Fits.{wanted_for};
+ghost use Rattle.vg_terms.specs.Term.{tree};
+ghost use Rattle.vg_terms.specs.Value.{same_key};
+
+use crate::least::LeastValues;
+use std::alloc::{AllocError, Global};
+use vg_shapes::{Bound, Wanted};
+use vg_terms::{LeafKey, Term};
+
+// Whether the two keys are one.
+fn is_same_key(a: &LeafKey, b: &LeafKey) -> bool
+    ensures { result ≡ same_key a.now b.now }
+{
+    a.kind == b.kind && a.first == b.first && a.second == b.second && a.third == b.third
+}
+
+// What a leaf is bound to, or nothing.
+fn wanted_for(bound: &[Bound], width: u32, key: &LeafKey) -> Wanted
+    ensures { result ≡ wanted_for bound.now width key.now }
+{
+    for b in bound {
+        if width == b.width && is_same_key(key, &b.key) {
+            return b.wanted;
+        }
+    }
+    Wanted::Nothing
+}
+
+// Whether the two are the same.
+fn is_same_wanted(a: Wanted, b: Wanted) -> bool
+    ensures { result ≡ same_wanted a b }
+{
+    match (a, b) {
+        (Wanted::Value(v), Wanted::Value(u)) => v == u,
+        (Wanted::Constant { width: w, value: n }, Wanted::Constant { width: x, value: m }) => {
+            w == x && n == m
+        }
+        (Wanted::Nothing, Wanted::Nothing) => true,
+        _ => false,
+    }
+}
+
+// What stands for a term below a value: the constant that it is, else the least value that has it.
+// Nothing where no value below has it.
+fn standing(least: &LeastValues<'_>, value: u32, t: &Term) -> Wanted
+    requires { AreByTerm least.now }
+    ensures { result ≡ standing (map tree least.now.terms.now) value (tree t.now) }
+{
+    match t {
+        Term::Const { width, value } => Wanted::Constant {
+            width: *width,
+            value: *value,
+        },
+        _ => match least.with(t) {
+            Some(first) => {
+                if first < value {
+                    Wanted::Value(first)
+                } else {
+                    Wanted::Nothing
+                }
+            }
+            None => Wanted::Nothing,
+        },
+    }
+}
+
+// A leaf bound behind others. It may be bound to the same already.
+#[tactic(auto, unfolding(crate::specs::Fit::bind))]
+fn bind(
+    width: u32,
+    key: LeafKey,
+    wanted: Wanted,
+    bound: Vec<Bound>,
+) -> Result<Option<Vec<Bound>>, AllocError>
+    ensures { IfOk result
+        (λ found. option_map (λ b. b.items) found ≡ bind width key wanted bound.items) }
+{
+    if is_same_wanted(wanted, Wanted::Nothing) {
+        return Ok(None);
+    }
+    let there = wanted_for(bound.as_slice(), width, &key);
+    if is_same_wanted(there, Wanted::Nothing) {
+        let mut all = bound;
+        all.push(Bound { key, width, wanted })?;
+        Ok(Some(all))
+    } else if is_same_wanted(there, wanted) {
+        Ok(Some(bound))
+    } else {
+        Ok(None)
+    }
+}
+
+/// The leaves of the term of a lane, bound behind others to what stands for the parts of the term of
+/// a value, where the two fit.
+#[tactic(auto, unfolding(crate::specs::Fit::fit))]
+pub(crate) fn fit(
+    least: &LeastValues<'_>,
+    value: u32,
+    lane: &Term,
+    t: &Term,
+    bound: Vec<Bound>,
+) -> Result<Option<Vec<Bound>>, AllocError>
+    requires { AreByTerm least.now }
+    ensures { IfOk result
+        (λ found. option_map (λ b. b.items) found
+        ≡ fit (map tree least.now.terms.now) value (tree lane.now) (tree t.now) bound.items) }
+{
+    match (lane, t) {
+        (
+            Term::One {
+                op,
+                width,
+                amount,
+                x,
+            },
+            Term::One {
+                op: o,
+                width: u,
+                amount: j,
+                x: y,
+            },
+        ) => {
+            if op.tag() == o.tag() && *width == *u && *amount == *j {
+                fit(least, value, x, y, bound)
+            } else {
+                Ok(None)
+            }
+        }
+        (
+            Term::Two { op, width, x, y },
+            Term::Two {
+                op: o,
+                width: u,
+                x: p,
+                y: q,
+            },
+        ) => {
+            if op.tag() == o.tag() && *width == *u {
+                match fit(least, value, x, p, bound)? {
+                    Some(more) => fit(least, value, y, q, more),
+                    None => Ok(None),
+                }
+            } else {
+                Ok(None)
+            }
+        }
+        (
+            Term::Sel { width, c, x, y },
+            Term::Sel {
+                width: u,
+                c: d,
+                x: p,
+                y: q,
+            },
+        ) => {
+            if *width == *u {
+                match fit(least, value, c, d, bound)? {
+                    Some(more) => match fit(least, value, x, p, more)? {
+                        Some(most) => fit(least, value, y, q, most),
+                        None => Ok(None),
+                    },
+                    None => Ok(None),
+                }
+            } else {
+                Ok(None)
+            }
+        }
+        (Term::Leaf { width, key }, _) => {
+            if t.width() == *width {
+                bind(*width, *key, standing(least, value, t), bound)
+            } else {
+                Ok(None)
+            }
+        }
+        (Term::Const { .. }, _) => {
+            if lane.is_same(t) {
+                Ok(Some(bound))
+            } else {
+                Ok(None)
+            }
+        }
+        (Term::One { .. }, _) => Ok(None),
+        (Term::Two { .. }, _) => Ok(None),
+        (Term::Sel { .. }, _) => Ok(None),
+    }
+}

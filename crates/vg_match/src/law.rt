@@ -1,0 +1,30 @@
+//! Laws on matches.
+
+ghost use Rattle.vg_match.specs.Laws.{BoundEarlier, FoundFit, LanesHaveNumbers, OneBinding, ReachedHave};
+
+/// A law that costs nothing to call: what is found in a table of all matches for a lane and a value
+/// is what the leaves of the lane are bound to where it fits the value.
+pub fn found_matches_fit()
+    ensures { FoundFit }
+{}
+
+/// A law: two bindings by which a term fits a value bind each leaf to the same.
+pub fn there_is_one_binding()
+    ensures { OneBinding }
+{}
+
+/// A law: where a term fits a value, its leaves are bound to constants and to values before it.
+pub fn bound_values_are_earlier()
+    ensures { BoundEarlier }
+{}
+
+/// A law: where a run of units reaches values, their terms have their numbers.
+pub fn reached_terms_have_numbers()
+    ensures { ReachedHave }
+{}
+
+/// A law: a term that fits a value has the number of the value in registers whose bits have the
+/// numbers of what its leaves are bound to. So a lane of which the term is true has it.
+pub fn lanes_have_numbers()
+    ensures { LanesHaveNumbers }
+{}
