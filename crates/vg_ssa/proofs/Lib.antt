@@ -1,4 +1,11 @@
 pub mod Counts
 pub mod Earlier
+pub mod Environment
+pub mod Meaning
+pub mod Operations
 pub mod Running
 pub mod SameAccesses
+pub mod Soundness
+pub mod Terms
+pub mod TypedUnits
+pub mod Typing

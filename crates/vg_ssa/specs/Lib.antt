@@ -1,3 +1,4 @@
+pub mod Fitting
 pub mod Laws
 pub mod Numbering
 pub mod ValueTerm

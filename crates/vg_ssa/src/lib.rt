@@ -6,5 +6,5 @@
 pub mod law;
 
 pub use law::{
-    layouts_are_the_same, units_are_counted, units_run_as_kernels, units_take_earlier_values,
+    layouts_are_the_same, numbered_values_are_sound, units_are_counted, units_run_as_kernels, units_take_earlier_values,
 };
