@@ -1,8 +1,11 @@
+pub mod Building
 pub mod Counts
+pub mod Differences
 pub mod Earlier
+pub mod Enough
 pub mod Environment
 pub mod Meaning
-pub mod Operations
+pub mod OperationTerms
 pub mod Running
 pub mod SameAccesses
 pub mod Soundness

@@ -29,7 +29,7 @@ use Rattle.vg_shapes.specs.Sound.{cut_key, load_key, unit_bits}
 use Rattle.vg_ssa.specs.Fitting.{IsTermOf}
 use Rattle.vg_ssa.specs.ValueTerm.{cut_term, no_term, operand_term, over_operands, terms_behind, unit_term}
 use Rattle.vg_ssa.proofs.Environment.{ReadUnits}
-use Rattle.vg_ssa.proofs.Operations.{canonical-means}
+use Rattle.vg_ssa.proofs.OperationTerms.{canonical-means}
 use Rattle.vg_ssa.proofs.Terms.{cut-fit, Stand, stand-more, whole-fit}
 use Rattle.vg_ssa.proofs.Typing.{BitIn, NumberIn, OperationIn, UnitIn, UnitsIn}
 use Rattle.vg_terms.specs.declared.value.Env.{Env}

@@ -43,7 +43,7 @@ use Rattle.vg_ssa.proofs.Counts.{arguments_first, expression-units}
 use Rattle.vg_ssa.proofs.Earlier.{units-take_earlier}
 use Rattle.vg_ssa.proofs.Environment.{of-arguments, of-units, ReadArguments, read-front, ReadUnits}
 use Rattle.vg_ssa.proofs.Meaning.{Mean, run-means, run-more}
-use Rattle.vg_ssa.proofs.Operations.{bits-width}
+use Rattle.vg_ssa.proofs.OperationTerms.{bits-width}
 use Rattle.vg_ssa.proofs.Terms.{leaf-term, Stand, terms_after, terms-behind, terms-both, terms-long, unit-terms, units-fit}
 use Rattle.vg_ssa.proofs.TypedUnits.{Held, statements-typed}
 use Rattle.vg_ssa.proofs.Typing.{behind, behind-both, BitIn, number-stays, NumberIn, bit-stays, OperationIn, UnitIn, UnitsIn}
@@ -107,7 +107,7 @@ argument-terms : (ps : List KParam) (v : ℕ) → AreArgumentTerms v (integers_o
 argument-terms [] v = refl
 argument-terms (p ∷ ps) v = terms-of-integer v p.kind p.name (integers_of (map param_of ps)) (integer_widths ps) (argument-terms ps)
 
-arguments-long : (v : ℕ) (ws : List Width) → length (argument_terms v ws) ≡ length ws
+pub arguments-long : (v : ℕ) (ws : List Width) → length (argument_terms v ws) ≡ length ws
 arguments-long v [] = refl
 arguments-long v (w ∷ ws) = ap suc (arguments-long (v + 1) ws)
 

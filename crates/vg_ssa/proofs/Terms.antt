@@ -16,7 +16,7 @@ use Rattle.vg_shapes.specs.declared.wanted.Wanted.TheVariants.{Value, Constant, 
 use Rattle.vg_shapes.specs.Sound.{AreUnitTerms, cut_key, IsUnitTerm, load_key, result_bits, unit_bits}
 use Rattle.vg_ssa.specs.Fitting.{Fit, IsTermOf, UnitFits, UnitsFit}
 use Rattle.vg_ssa.specs.ValueTerm.{cut_term, no_term, operand_term, over_operands, terms_behind, unit_term}
-use Rattle.vg_ssa.proofs.Operations.{bits-width, canonical-term}
+use Rattle.vg_ssa.proofs.OperationTerms.{bits-width, canonical-term}
 use Rattle.vg_ssa.proofs.Typing.{BitIn, NumberIn, OperationIn, UnitIn, UnitsIn}
 use Rattle.vg_terms.specs.declared.term.LeafKey.{LeafKey}
 use Rattle.vg_terms.specs.Term.{Tree, constant, IsWidth, leaf, node_count, width_of}
