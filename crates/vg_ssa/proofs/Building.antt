@@ -1,9 +1,11 @@
 -- Units that are numbered one after the other.
-use Rattle.std.proofs.Common.{◌≡◌, ℕ, ◌+◌, ◌<◌, ◌≤◌, ◌^◌, List, [], ◌∷◌, ◌++◌, length, map, refl, sym, ap, subst, ◌∙◌, arith, append_assoc, append-nil}
+use Rattle.std.proofs.Common.{◌≡◌, ℕ, suc, ◌+◌, ◌-◌, ◌<◌, ◌≤◌, ◌^◌, List, [], ◌∷◌, ◌++◌, length, take, drop, map, get_or, refl, sym, ap, subst, ◌∙◌, arith, append_assoc, append-nil}
 use Rattle.std.specs.Prelude.{Err, IfOk, Ok, Result}
 use Rattle.std.proofs.lemmas.List.{length-append, length_push}
 use Rattle.vg_base.specs.declared.width.Width.{Width}
-use Rattle.vg_kernel.specs.Tree.{Expression, Statement, assign, store}
+use Rattle.std.proofs.Math.Seq.{take-length}
+use Rattle.vg_kernel.specs.declared.statement.KStmt.{KStmt}
+use Rattle.vg_kernel.specs.Tree.{Expression, Statement, assign, statement_of, store}
 use Rattle.vg_shapes.specs.declared.unit.Operator.{Operator}
 use Rattle.vg_shapes.specs.declared.unit.Operator.TheVariants.{Select}
 use Rattle.vg_shapes.specs.declared.unit.Unit.{Unit as Work}
@@ -11,6 +13,7 @@ use Rattle.vg_shapes.specs.declared.unit.Unit.TheVariants.{Operation, Store}
 use Rattle.vg_shapes.specs.declared.wanted.Wanted.{Wanted}
 use Rattle.vg_shapes.specs.declared.wanted.Wanted.TheVariants.{Nothing, Value}
 use Rattle.vg_ssa.specs.Built.{after_statement, Built, CanTake, choice_in, numbered_in, Numbers, pair_in, single_in, statement_units, with_name, with_units}
+use Rattle.vg_ssa.specs.Fitting.{UnitsFit}
 use Rattle.vg_ssa.specs.Numbering.{found, Numbered, numbered, operands, units_from}
 use Rattle.vg_ssa.specs.ValueTerm.{terms_behind}
 use Rattle.vg_ssa.proofs.Terms.{fit-behind, fit-front, terms-both, terms-long}
@@ -89,15 +92,62 @@ ok-both (Ok x) P Q R f p q = f x p q
 ok-both (Err e) P Q R f p q = tt
 
 -- one statement, and those that are left behind it
-pub statement-left : (b : Built) (s : Statement) (ss : List Statement)
-    → (with_units b (statement_units b s)).units ++ left_units (after_statement b s) ss ≡ b.units ++ left_units b (s ∷ ss)
-statement-left b (assign e) ss =
+statement-split : (b : Built) (s : Statement) (ss : List Statement) → left_units b (s ∷ ss) ≡ statement_units b s ++ left_units (after_statement b s) ss
+statement-split b (assign e) ss =
     let p = numbered_in b e in
-    (λ i. (b.units ++ p.units) ++ units_from (terms-long b.first b.terms p.units i) (b.names ++ p.value ∷ []) ss)
-    ∙ append_assoc b.units p.units (units_from (length b.terms + length p.units) (b.names ++ p.value ∷ []) ss)
-statement-left b (store w a e) ss =
+    λ i. p.units ++ units_from (sym (terms-long b.first b.terms p.units) i) (b.names ++ p.value ∷ []) ss
+statement-split b (store w a e) ss =
     let p = numbered_in b e in
     let us = p.units ++ Store a w p.value ∷ [] in
-    let long : length (terms_behind b.first b.terms us) ≡ length b.terms + length p.units + 1 = terms-long b.first b.terms us ∙ (let l = length_push p.units (Store a w p.value) in let e : length b.terms + length us ≡ length b.terms + length p.units + 1 = omega arith in e) in
-    (λ i. (b.units ++ us) ++ units_from (long i) b.names ss)
-    ∙ append_assoc b.units us (units_from (length b.terms + length p.units + 1) b.names ss)
+    let long : length b.terms + length p.units + 1 ≡ length (terms_behind b.first b.terms us) =
+        (let l = length_push p.units (Store a w p.value) in let e : length b.terms + length p.units + 1 ≡ length b.terms + length us = omega arith in e) ∙ sym (terms-long b.first b.terms us) in
+    λ i. us ++ units_from (long i) b.names ss
+
+-- what a statement leaves has the terms and units of what it numbered
+record After (b : Built) (s : Statement) : Type 0 where
+  first : (after_statement b s).first ≡ b.first
+  units : (after_statement b s).units ≡ b.units ++ statement_units b s
+  terms : (after_statement b s).terms ≡ terms_behind b.first b.terms (statement_units b s)
+
+after-is : (b : Built) (s : Statement) → After b s
+after-is b (assign e) = record { first = refl; units = refl; terms = refl }
+after-is b (store w a e) = record { first = refl; units = refl; terms = refl }
+
+room-after : (b c : Built) (us vs : List Work) → c.first ≡ b.first → c.terms ≡ terms_behind b.first b.terms us → CanTake b (us ++ vs) → CanTake c vs
+room-after b c us vs f t h =
+    let g = take-behind b us vs h in
+    record {
+      few = subst (λ l. length l + length vs < 2 ^ 32) (sym t) g.few;
+      fit = subst (λ n. UnitsFit n c.terms vs) (sym f) (subst (λ l. UnitsFit b.first l vs) (sym t) g.fit);
+    }
+
+pub left-step : (start : Built) (all : List Statement) (b : Built) (s : Statement) (ss : List Statement) → Left start all b (s ∷ ss) → Left start all (after_statement b s) ss
+left-step start all b s ss h =
+    let a = after-is b s in
+    let us = statement_units b s in
+    let rest = left_units (after_statement b s) ss in
+    let split = statement-split b s ss in
+    record {
+      first = a.first ∙ h.first;
+      units = ap (λ l. l ++ rest) a.units ∙ append_assoc b.units us rest ∙ ap (λ l. b.units ++ l) (sym split) ∙ h.units;
+      terms = (λ i. terms_behind (a.first i) (a.terms i) rest) ∙ sym (terms-both b.first b.terms us rest) ∙ ap (terms_behind b.first b.terms) (sym split) ∙ h.terms;
+      room = room-after b (after_statement b s) us rest a.first a.terms (subst (CanTake b) split h.room);
+    }
+
+pub left-room : (start : Built) (all : List Statement) (b : Built) (s : Statement) (ss : List Statement) → Left start all b (s ∷ ss) → CanTake b (statement_units b s)
+left-room start all b s ss h = take-front b (statement_units b s) (left_units (after_statement b s) ss) (subst (CanTake b) (statement-split b s ss) h.room)
+
+-- the same of statements of the code
+behind-first : (s : KStmt) (ss : List KStmt) → take (length (s ∷ ss) - 1) (drop 1 (s ∷ ss)) ≡ ss
+behind-first s ss = let e : suc (length ss) - 1 ≡ length ss = omega arith in ap (λ n. take n ss) e ∙ take-length ss
+
+pub item-room : (start : Built) (all : List Statement) (b : Built) (left : List KStmt) (item : KStmt) → 1 ≤ length left → item ≡ get_or left 0 item → Left start all b (map statement_of left) → CanTake b (statement_units b (statement_of item))
+item-room start all b [] item some is h = absurd (omega arith)
+item-room start all b (s ∷ ss) item some is h = subst (λ x. CanTake b (statement_units b (statement_of x))) (sym is) (left-room start all b (statement_of s) (map statement_of ss) h)
+
+pub item-step : (start : Built) (all : List Statement) (b new : Built) (left : List KStmt) (item : KStmt) → 1 ≤ length left → item ≡ get_or left 0 item → new ≡ after_statement b (statement_of item) → Left start all b (map statement_of left)
+    → Left start all new (map statement_of (take (length left - 1) (drop 1 left)))
+item-step start all b new [] item some is e h = absurd (omega arith)
+item-step start all b new (s ∷ ss) item some is e h =
+    subst (λ l. Left start all new (map statement_of l)) (sym (behind-first s ss))
+    (subst (λ d. Left start all d (map statement_of ss)) (sym (e ∙ ap (λ x. after_statement b (statement_of x)) is)) (left-step start all b (statement_of s) (map statement_of ss) h))

@@ -1,14 +1,14 @@
 //! The units of expressions and statements.
 
 ghost use Rattle.std.specs.Prelude.{◌≡◌, ◌++◌, IfOk, OnOk, length, map, slice_index_or};
-ghost use Rattle.vg_kernel.specs.Tree.{expression_of, statement_of};
+ghost use Rattle.vg_kernel.specs.Tree.{expression_of, statement_of, store};
 ghost use Rattle.vg_ssa.specs.Built.{CanTake, Numbers, after_statement, built, choice_in, numbered_in, pair_in, single_in, statement_units};
 ghost use Rattle.vg_ssa.specs.Numbering.{units_from};
 ghost use Rattle.vg_ssa.specs.ValueTerm.{terms_behind};
 
 use crate::values::Values;
 use std::alloc::{AllocError, Global};
-use vg_base::Width;
+use vg_base::{Address, Width};
 use vg_kernel::{KExpr, KStmt};
 use vg_shapes::{Operands, Operator, Unit, Wanted};
 
@@ -190,15 +190,30 @@ impl Values {
                 width,
                 address,
                 value: stored,
-            } => {
-                let value = self.number(alloc, stored)?;
-                let _none = self.push(alloc, Unit::Store {
-                    address: *address,
-                    width: *width,
-                    value,
-                })?;
-            }
+            } => self.number_store(alloc, *width, *address, stored)?,
         }
+        Ok(())
+    }
+
+    // Numbers a store behind the expression whose value it stores.
+    fn number_store(
+        &mut self,
+        alloc: Global,
+        width: Width,
+        address: Address,
+        stored: &KExpr,
+    ) -> Result<(), AllocError>
+        requires { CanTake (built self.old)
+            (statement_units (built self.old) (store width address (expression_of stored.now))) }
+        ensures { OnOk result (built self.new
+            ≡ after_statement (built self.old) (store width address (expression_of stored.now))) }
+    {
+        let value = self.number(alloc, stored)?;
+        let _none = self.push(alloc, Unit::Store {
+            address,
+            width,
+            value,
+        })?;
         Ok(())
     }
 

@@ -10,5 +10,5 @@ pub returns : goal.returns
 returns c =
     let ws = integer_widths c.args.params.now in
     let terms = c.in_ok-terms.ensures in
-    let count : c.len.result ≡ length ws = c.len.ensures ∙ c.in_ok-terms.terms.ok ∙ sym (length-map c.in_ok-terms.terms.items tree) ∙ ap length terms ∙ arguments-long 0 ws in
+    let count : c.len.result ≡ length ws = c.len.ensures ∙ c.in_ok-terms.terms.ok.0 ∙ sym (length-map c.in_ok-terms.terms.items tree) ∙ ap length terms ∙ arguments-long 0 ws in
     λ i. record { first = count i; units = c.new.ensures.items i; terms = terms i; names = c.new-2.ensures.items i }
