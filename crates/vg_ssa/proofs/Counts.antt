@@ -21,7 +21,7 @@ use Rattle.vg_ssa.specs.Numbering.{kind_of, numbered, param_of, units_from}
 one-more : (us : List Work) (u : Work) → length (us ++ u ∷ []) ≡ length us + 1
 one-more us u = length-append us (u ∷ [])
 
-expression-units : (n : ℕ) (names : List Wanted) (e : Expression) → length (numbered n names e).units ≡ expression_cost e
+pub expression-units : (n : ℕ) (names : List Wanted) (e : Expression) → length (numbered n names e).units ≡ expression_cost e
 expression-units n names (argument k w) = refl
 expression-units n names (assigned k t) = refl
 expression-units n names (literal w v) = refl

@@ -1,4 +1,14 @@
+pub mod Building
 pub mod Counts
+pub mod Differences
 pub mod Earlier
+pub mod Enough
+pub mod Environment
+pub mod Meaning
+pub mod OperationTerms
 pub mod Running
 pub mod SameAccesses
+pub mod Soundness
+pub mod Terms
+pub mod TypedUnits
+pub mod Typing

@@ -10,7 +10,7 @@ use Rattle.vg_shapes.specs.declared.access.Access.{Access}
 use Rattle.vg_shapes.specs.declared.ssa.Ssa.{Ssa}
 use Rattle.vg_shapes.specs.Layout.{accesses, Respects}
 use Rattle.vg_shapes.specs.RunUnits.{run_units, start_of}
-use Rattle.vg_shapes.specs.Sound.{TakeEarlier}
+use Rattle.vg_shapes.specs.Sound.{IsSound, TakeEarlier}
 use Rattle.vg_shapes.specs.Units.{arguments}
 use Rattle.vg_ssa.specs.Numbering.{first_unit, IsNumbering, units_of}
 
@@ -48,3 +48,8 @@ ArgumentsFirst = (k : Tree) (ssa : Ssa) → IsNumbering k ssa → arguments ssa 
 -- each unit takes values before it alone
 abbrev pub UnitsTakeEarlier : Type 0
 UnitsTakeEarlier = (k : Tree) → IsWellFormed k → TakeEarlier (first_unit k) (units_of k)
+
+-- what a well-formed kernel is numbered as is sound: above all, where a run of the units reaches a
+-- value, the term of the value has its number
+abbrev pub NumberedValuesAreSound : Type 0
+NumberedValuesAreSound = (k : Tree) (ssa : Ssa) → IsWellFormed k → IsNumbering k ssa → IsSound ssa

@@ -1,3 +1,6 @@
+pub mod Built
+pub mod Fitting
 pub mod Laws
 pub mod Numbering
+pub mod StandsFor
 pub mod ValueTerm

@@ -1,6 +1,6 @@
 //! What numbered values promise.
 
-ghost use Rattle.vg_ssa.specs.Laws.{ArgumentsFirst, SameAccesses, SameLayouts, UnitsAreTheCost, UnitsRunAsKernels, UnitsTakeEarlier};
+ghost use Rattle.vg_ssa.specs.Laws.{ArgumentsFirst, NumberedValuesAreSound, SameAccesses, SameLayouts, UnitsAreTheCost, UnitsRunAsKernels, UnitsTakeEarlier};
 
 /// A law that costs nothing to call: the units of a well-formed kernel leave the memory that the
 /// kernel leaves, and trap where it traps.
@@ -25,4 +25,10 @@ pub fn units_are_counted()
 /// A law: each unit of a well-formed kernel takes values before it alone.
 pub fn units_take_earlier_values()
     ensures { UnitsTakeEarlier }
+{}
+
+/// A law: numbered values of a well-formed kernel are sound. Above all the term of a value has its
+/// number wherever a run of the units reaches it.
+pub fn numbered_values_are_sound()
+    ensures { NumberedValuesAreSound }
 {}

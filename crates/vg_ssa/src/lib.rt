@@ -3,8 +3,14 @@
 //! `specs/Numbering.antt` says which units a kernel has, and `specs/ValueTerm.antt` which terms.
 #![tactic(auto)]
 
+mod expressions;
 pub mod law;
+mod numbering;
+mod operations;
+mod values;
+
+pub use numbering::number_values;
 
 pub use law::{
-    layouts_are_the_same, units_are_counted, units_run_as_kernels, units_take_earlier_values,
+    layouts_are_the_same, numbered_values_are_sound, units_are_counted, units_run_as_kernels, units_take_earlier_values,
 };

@@ -1,0 +1,410 @@
+-- The numbered values of a well-formed kernel are sound.
+use Rattle.std.proofs.Common.{◌≡◌, ℕ, zero, suc, ◌+◌, ◌-◌, ◌*◌, ◌%◌, ◌^◌, ◌<◌, ◌≤◌, Bool, true, false, List, [], ◌∷◌, ◌++◌, length, take, drop, map, Option, Some, None, refl, sym, ap, subst, ◌∙◌, arith, append_assoc, append-nil}
+use Rattle.std.specs.Prelude.{◌&&◌, filter, IsTrue, nat_lt, not, slice_get, slice_index, slice_index_or, sum_by, if◌then◌else◌}
+use Rattle.std.specs.List.{AllByRecursion, cons_option, IsDistinct}
+use Rattle.std.specs.Option.{option_map}
+use Rattle.std.specs.Str.{bytes_eq}
+use Rattle.std.proofs.lemmas.Bool.{ltb-true, ltb-false}
+use Rattle.std.proofs.lemmas.List.{get_or_append_left, get_or-append_right, length-append, length-map, take-append-drop}
+use Rattle.std.proofs.lemmas.List.Elements.{filter-append}
+use Rattle.std.proofs.lemmas.List.Sums.{sum_by-cons}
+use Rattle.std.proofs.Math.Nat.{mod-eq_of_lt}
+use Rattle.std.proofs.Math.Seq.{drop-append_seam, take-append_seam}
+use Rattle.vg_base.specs.Trap.{◌>>=◌}
+use Rattle.vg_base.specs.declared.width.Width.{Width}
+use Rattle.vg_base.specs.Width.{bits_of}
+use Rattle.vg_bits.specs.BitList.{IsBytes}
+use Rattle.vg_kernel.specs.declared.parameter.KParam.{KParam}
+use Rattle.vg_kernel.specs.declared.parameter.KParamKind.{KParamKind}
+use Rattle.vg_kernel.specs.declared.parameter.KParamKind.TheVariants as kinds
+use Rattle.vg_kernel.specs.Cost.{expression_cost, uses_of}
+use Rattle.vg_kernel.specs.Names.{is_pointer}
+use Rattle.vg_kernel.specs.Tree.{Expression, argument, assigned, literal, load, two, shift, resize, compare, select, Statement, assign, store, Tree as Kernel}
+use Rattle.vg_kernel.specs.WellFormed.{integer_widths, IsWellFormed, pointers as kernel_pointers}
+use Rattle.vg_kernel.specs.Words.{is_free, is_reserved}
+use Rattle.vg_text.specs.Byte.{is_name_text}
+use Rattle.vg_shapes.specs.declared.ssa.Ssa.{Ssa}
+use Rattle.vg_shapes.specs.declared.ssa.SsaParam.{SsaParam}
+use Rattle.vg_shapes.specs.declared.unit.Operands.{Operands}
+use Rattle.vg_shapes.specs.declared.unit.Operator.{Operator}
+use Rattle.vg_shapes.specs.declared.unit.Operator.TheVariants.{Two, Shift, Resize, Compare, Select}
+use Rattle.vg_shapes.specs.declared.unit.Unit.{Unit as Work}
+use Rattle.vg_shapes.specs.declared.unit.Unit.TheVariants.{Load, Store, Operation}
+use Rattle.vg_shapes.specs.declared.wanted.Wanted.{Wanted}
+use Rattle.vg_shapes.specs.declared.wanted.Wanted.TheVariants.{Value, Constant, Nothing}
+use Rattle.vg_shapes.specs.RunUnits.{Reached, run_units, start_of}
+use Rattle.vg_shapes.specs.Sound.{AreArguments, AreArgumentTerms, argument_key, AreUnitTerms, environment, IsNumber, IsOperation, IsBit, IsSound, IsUnit, is_store, kind_bits, pointers, term_at, terms_of, TakeEarlier, TermsMean, unit_bits, value_bits}
+use Rattle.vg_shapes.specs.Units.{arguments, integers, integers_of, is_integer, unit_at}
+use Rattle.vg_ssa.specs.Laws.{NumberedValuesAreSound}
+use Rattle.vg_ssa.specs.Numbering.{first_unit, IsNumbering, kind_of, numbered, param_of, units_from, units_of}
+use Rattle.vg_ssa.specs.ValueTerm.{argument_terms, no_term, terms_behind}
+use Rattle.vg_ssa.specs.Fitting.{IsTermOf, UnitsFit}
+use Rattle.vg_ssa.proofs.Counts.{arguments_first, expression-units}
+use Rattle.vg_ssa.proofs.Earlier.{units-take_earlier}
+use Rattle.vg_ssa.proofs.Environment.{of-arguments, of-units, ReadArguments, read-front, ReadUnits}
+use Rattle.vg_ssa.proofs.Meaning.{Mean, run-means, run-more}
+use Rattle.vg_ssa.proofs.OperationTerms.{bits-width}
+use Rattle.vg_ssa.proofs.Terms.{leaf-term, Stand, terms_after, terms-behind, terms-both, terms-long, unit-terms, units-fit}
+use Rattle.vg_ssa.proofs.TypedUnits.{Held, statements-typed}
+use Rattle.vg_ssa.proofs.Typing.{behind, behind-both, BitIn, number-stays, NumberIn, bit-stays, OperationIn, UnitIn, UnitsIn}
+use Rattle.vg_terms.specs.declared.term.LeafKey.{LeafKey}
+use Rattle.vg_terms.specs.declared.value.Env.{Env}
+use Rattle.vg_terms.specs.Term.{Tree, IsWidth, leaf}
+use Rattle.vg_terms.specs.Value.{number_at, value}
+
+-- ---- parameters
+
+names-same : (ps : List KParam) → map (λ p. p.name) (map param_of ps) ≡ map (λ p. p.name) ps
+names-same [] = refl
+names-same (p ∷ ps) = ap (λ l. p.name ∷ l) (names-same ps)
+
+and-left : (a b : Bool) → IsTrue (a && b) → IsTrue a
+and-left true b h = refl
+and-left false b h = h
+
+names-free : (ps : List KParam) → AllByRecursion (λ p. IsTrue (is_free p.name)) ps → AllByRecursion (λ p. IsTrue (is_name_text p.name)) (map param_of ps)
+names-free [] h = tt
+names-free (p ∷ ps) h = (and-left (is_name_text p.name) (not (is_reserved p.name)) h.0, names-free ps h.1)
+
+-- one parameter more, by its kind
+pointer-more : (kind : KParamKind) {A B : Type 0} (x : A) (y : B) (xs : List A) (ys : List B) → length xs ≡ length ys
+    → length (if not (is_integer (kind_of kind)) then x ∷ xs else xs) ≡ length (if is_pointer kind then y ∷ ys else ys)
+pointer-more (kinds.Pointer noalias) x y xs ys e = ap suc e
+pointer-more (kinds.Integer w) x y xs ys e = e
+
+pointers-same : (ps : List KParam) → length (filter (λ p. not (is_integer p.kind)) (map param_of ps)) ≡ length (kernel_pointers ps)
+pointers-same [] = refl
+pointers-same (p ∷ ps) = pointer-more p.kind (param_of p) p (filter (λ p. not (is_integer p.kind)) (map param_of ps)) (kernel_pointers ps) (pointers-same ps)
+
+-- the widths of integer parameters
+abbrev widths : List SsaParam → List (Option ℕ)
+widths ps = map (λ p. Some (kind_bits p.kind)) ps
+
+integer-more : (kind : KParamKind) (name : List ℕ) (qs : List SsaParam) (ws : List Width) → widths qs ≡ map (λ w. Some (bits_of w)) ws
+    → widths (if is_integer (kind_of kind) then (record { name = name; kind = kind_of kind }) ∷ qs else qs)
+    ≡ map (λ w. Some (bits_of w)) (cons_option (elim kind as (λ k. Option Width) [ kinds.Pointer noalias ↦ None | kinds.Integer w ↦ Some w ]) ws)
+integer-more (kinds.Pointer noalias) name qs ws e = e
+integer-more (kinds.Integer w) name qs ws e = ap (λ l. Some (bits_of w) ∷ l) e
+
+widths-same : (ps : List KParam) → widths (integers_of (map param_of ps)) ≡ map (λ w. Some (bits_of w)) (integer_widths ps)
+widths-same [] = refl
+widths-same (p ∷ ps) = integer-more p.kind p.name (integers_of (map param_of ps)) (integer_widths ps) (widths-same ps)
+
+width-at : (ws : List Width) (k : ℕ) (w : Width) → slice_get ws k ≡ Some w → slice_index_or (map (λ w. Some (bits_of w)) ws) k None ≡ Some (bits_of w)
+width-at [] k w e = absurd (cc)
+width-at (v ∷ ws) zero w e = let same : v ≡ w = cc in ap (λ u. Some (bits_of u)) same
+width-at (v ∷ ws) (suc k) w e = width-at ws k w e
+
+-- their terms
+terms-of-integer : (v : ℕ) (kind : KParamKind) (name : List ℕ) (qs : List SsaParam) (ws : List Width)
+    → ((u : ℕ) → AreArgumentTerms u qs (argument_terms u ws))
+    → AreArgumentTerms v (if is_integer (kind_of kind) then (record { name = name; kind = kind_of kind }) ∷ qs else qs)
+    (argument_terms v (cons_option (elim kind as (λ k. Option Width) [ kinds.Pointer noalias ↦ None | kinds.Integer w ↦ Some w ]) ws))
+terms-of-integer v (kinds.Pointer noalias) name qs ws h = h v
+terms-of-integer v (kinds.Integer w) name qs ws h = (refl, h (v + 1))
+
+argument-terms : (ps : List KParam) (v : ℕ) → AreArgumentTerms v (integers_of (map param_of ps)) (argument_terms v (integer_widths ps))
+argument-terms [] v = refl
+argument-terms (p ∷ ps) v = terms-of-integer v p.kind p.name (integers_of (map param_of ps)) (integer_widths ps) (argument-terms ps)
+
+pub arguments-long : (v : ℕ) (ws : List Width) → length (argument_terms v ws) ≡ length ws
+arguments-long v [] = refl
+arguments-long v (w ∷ ws) = ap suc (arguments-long (v + 1) ws)
+
+-- they stand
+arguments-each : (u : ℕ) (ws : List Width) (v w : ℕ) → slice_index_or (map (λ w. Some (bits_of w)) ws) v None ≡ Some w → IsWidth w × IsTermOf w (slice_index_or (argument_terms u ws) v no_term)
+arguments-each u [] v w e = absurd (cc)
+arguments-each u (x ∷ ws) zero w e =
+    let same : bits_of x ≡ w = cc in
+    let P : ℕ → Type 0 = λ n. IsWidth n × IsTermOf n (leaf (bits_of x) (argument_key u)) in
+    subst P same (bits-width x, leaf-term (bits_of x) (argument_key u) (bits-width x))
+arguments-each u (x ∷ ws) (suc v) w e = arguments-each (u + 1) ws v w e
+
+-- ---- the rules on units
+
+value-at : (ps : List SsaParam) (us : List Work) (v : ℕ)
+    → (if nat_lt v (length ps) then option_map (λ p. kind_bits p.kind) (slice_get ps v) else (if nat_lt v (length ps) then None else slice_get us (v - length ps)) >>= unit_bits)
+    ≡ slice_index_or (behind (widths ps) us) v None
+value-at ps us v = by (nat_lt v (length ps)) refl
+  where
+    front : (ps : List SsaParam) (v : ℕ) → option_map (λ p. kind_bits p.kind) (slice_get ps v) ≡ slice_index_or (widths ps) v None
+    front [] v = refl
+    front (p ∷ ps) zero = refl
+    front (p ∷ ps) (suc v) = front ps v
+    back : (us : List Work) (v : ℕ) → (slice_get us v >>= unit_bits) ≡ slice_index_or (map unit_bits us) v None
+    back [] v = refl
+    back (u ∷ us) zero = refl
+    back (u ∷ us) (suc v) = back us v
+    by : (b : Bool) → nat_lt v (length ps) ≡ b
+        → (if nat_lt v (length ps) then option_map (λ p. kind_bits p.kind) (slice_get ps v) else (if nat_lt v (length ps) then None else slice_get us (v - length ps)) >>= unit_bits)
+        ≡ slice_index_or (behind (widths ps) us) v None
+    by true e =
+        let long = length-map ps (λ p. Some (kind_bits p.kind)) in
+        let below = ltb-true v (length ps) e in
+        (λ i. if e i then option_map (λ p. kind_bits p.kind) (slice_get ps v) else (if e i then None else slice_get us (v - length ps)) >>= unit_bits)
+        ∙ front ps v ∙ sym (get_or_append_left (widths ps) (map unit_bits us) None v (omega arith))
+    by false e =
+        let long = length-map ps (λ p. Some (kind_bits p.kind)) in
+        let below = ltb-false v (length ps) e in
+        (λ i. if e i then option_map (λ p. kind_bits p.kind) (slice_get ps v) else (if e i then None else slice_get us (v - length ps)) >>= unit_bits)
+        ∙ back us (v - length ps) ∙ sym (get_or-append_right (widths ps) (map unit_bits us) (length ps) v None long below)
+
+number-sound : (ssa : Ssa) (bits : List (Option ℕ)) (w : Width) (x : Wanted) → ((v : ℕ) → value_bits ssa v ≡ slice_index_or bits v None) → NumberIn bits w x → IsNumber ssa w x
+number-sound ssa bits w (Value v) same h = same v ∙ h
+number-sound ssa bits w (Constant m k) same h = h
+number-sound ssa bits w Nothing same h = h
+
+bit-sound : (ssa : Ssa) (bits : List (Option ℕ)) (x : Wanted) → ((v : ℕ) → value_bits ssa v ≡ slice_index_or bits v None) → BitIn bits x → IsBit ssa x
+bit-sound ssa bits (Value v) same h = same v ∙ h
+bit-sound ssa bits (Constant m k) same h = h
+bit-sound ssa bits Nothing same h = h
+
+-- in a list of widths with more behind
+operation-sound : (ssa : Ssa) (bits more : List (Option ℕ)) (op : Operator) (w : Width) (k : ℕ) (xs : Operands) → ((v : ℕ) → value_bits ssa v ≡ slice_index_or (bits ++ more) v None) → OperationIn bits op w k xs → IsOperation ssa op w k xs
+operation-sound ssa bits more op w k xs same = by op
+  where
+    n : (w : Width) (x : Wanted) → NumberIn bits w x → IsNumber ssa w x
+    n w x h = number-sound ssa (bits ++ more) w x same (number-stays bits more w x h)
+    by : (op : Operator) → OperationIn bits op w k xs → IsOperation ssa op w k xs
+    by (Two op) h = (h.0, n w xs.first h.1, n w xs.second h.2, h.3)
+    by (Shift op) h = (h.0, n w xs.first h.1, h.2, h.3)
+    by (Resize op v) h = (h.0, h.1, n v xs.first h.2, h.3, h.4)
+    by (Compare op) h = (h.0, n w xs.first h.1, n w xs.second h.2, h.3)
+    by Select h = (h.0, bit-sound ssa (bits ++ more) xs.first same (bit-stays bits more xs.first h.1), n w xs.second h.2, n w xs.third h.3)
+
+unit-sound : (ssa : Ssa) (bits more : List (Option ℕ)) (u : Work) → ((v : ℕ) → value_bits ssa v ≡ slice_index_or (bits ++ more) v None) → UnitIn (length (pointers ssa)) bits u → IsUnit ssa u
+unit-sound ssa bits more (Load a w) same h = h
+unit-sound ssa bits more (Store a w x) same h = (h.0, number-sound ssa (bits ++ more) w x same (number-stays bits more w x h.1))
+unit-sound ssa bits more (Operation op w k xs) same h = operation-sound ssa bits more op w k xs same h
+
+units-sound : (ssa : Ssa) (bits : List (Option ℕ)) (us : List Work) → ((v : ℕ) → value_bits ssa v ≡ slice_index_or (behind bits us) v None) → UnitsIn (length (pointers ssa)) bits us → AllByRecursion (IsUnit ssa) us
+units-sound ssa bits [] same h = tt
+units-sound ssa bits (u ∷ us) same h =
+    (unit-sound ssa bits (map unit_bits (u ∷ us)) u same h.0,
+      units-sound ssa (bits ++ unit_bits u ∷ []) us (λ v. same v ∙ ap (λ l. slice_index_or l v None) (sym (append_assoc bits (unit_bits u ∷ []) (map unit_bits us)))) h.1)
+
+-- ---- the limits
+
+abbrev stores_of : List Work → List Work
+stores_of us = filter is_store us
+
+abbrev others_of : List Work → List Work
+others_of us = filter (λ u. not (is_store u)) us
+
+-- units of which none is a store
+record NoStore (us : List Work) : Type 0 where
+  stores : stores_of us ≡ []
+  others : others_of us ≡ us
+
+none-both : (us vs : List Work) → NoStore us → NoStore vs → NoStore (us ++ vs)
+none-both us vs h g = record {
+  stores = filter-append is_store us vs ∙ (λ i. h.stores i ++ g.stores i);
+  others = filter-append (λ u. not (is_store u)) us vs ∙ (λ i. h.others i ++ g.others i);
+}
+
+no-store : (n : ℕ) (names : List Wanted) (e : Expression) → NoStore (numbered n names e).units
+no-store n names (argument k w) = record { stores = refl; others = refl }
+no-store n names (assigned k t) = record { stores = refl; others = refl }
+no-store n names (literal w v) = record { stores = refl; others = refl }
+no-store n names (load w a) = record { stores = refl; others = refl }
+no-store n names (two op w x y) =
+    let p = numbered n names x in
+    let q = numbered (n + length p.units) names y in
+    none-both (p.units ++ q.units) _ (none-both p.units q.units (no-store n names x) (no-store (n + length p.units) names y)) (record { stores = refl; others = refl })
+no-store n names (shift op w k x) = none-both (numbered n names x).units _ (no-store n names x) (record { stores = refl; others = refl })
+no-store n names (resize op w v x) = none-both (numbered n names x).units _ (no-store n names x) (record { stores = refl; others = refl })
+no-store n names (compare op w x y) =
+    let p = numbered n names x in
+    let q = numbered (n + length p.units) names y in
+    none-both (p.units ++ q.units) _ (none-both p.units q.units (no-store n names x) (no-store (n + length p.units) names y)) (record { stores = refl; others = refl })
+no-store n names (select w c x y) =
+    let o = numbered n names c in
+    let p = numbered (n + length o.units) names x in
+    let q = numbered (n + length (o.units ++ p.units)) names y in
+    none-both ((o.units ++ p.units) ++ q.units) _
+    (none-both (o.units ++ p.units) q.units (none-both o.units p.units (no-store n names c) (no-store (n + length o.units) names x)) (no-store (n + length (o.units ++ p.units)) names y))
+    (record { stores = refl; others = refl })
+
+stores-few : (n : ℕ) (names : List Wanted) (ss : List Statement) → length (stores_of (units_from n names ss)) ≤ length ss
+stores-few n names [] = omega arith
+stores-few n names (assign e ∷ ss) =
+    let p = numbered n names e in
+    let rest = units_from (n + length p.units) (names ++ p.value ∷ []) ss in
+    let h = no-store n names e in
+    let split = ap length (filter-append is_store p.units rest ∙ ap (λ l. l ++ stores_of rest) h.stores) in
+    let more = stores-few (n + length p.units) (names ++ p.value ∷ []) ss in
+    omega arith
+stores-few n names (store w a e ∷ ss) =
+    let p = numbered n names e in
+    let rest = units_from (n + length p.units + 1) names ss in
+    let h = no-store n names e in
+    let one = Store a w p.value ∷ [] in
+    let front = filter-append is_store p.units one ∙ ap (λ l. l ++ stores_of one) h.stores in
+    let split = ap length (filter-append is_store (p.units ++ one) rest ∙ ap (λ l. l ++ stores_of rest) front) in
+    let more = stores-few (n + length p.units + 1) names ss in
+    omega arith
+
+others-counted : (n : ℕ) (names : List Wanted) (ss : List Statement) → length (others_of (units_from n names ss)) ≡ sum_by uses_of ss
+others-counted n names [] = refl
+others-counted n names (assign e ∷ ss) =
+    let p = numbered n names e in
+    let rest = units_from (n + length p.units) (names ++ p.value ∷ []) ss in
+    let h = no-store n names e in
+    ap length (filter-append (λ u. not (is_store u)) p.units rest ∙ ap (λ l. l ++ others_of rest) h.others)
+    ∙ length-append p.units (others_of rest)
+    ∙ (λ i. expression-units n names e i + others-counted (n + length p.units) (names ++ p.value ∷ []) ss i)
+    ∙ sym (sum_by-cons uses_of (assign e) ss)
+others-counted n names (store w a e ∷ ss) =
+    let p = numbered n names e in
+    let rest = units_from (n + length p.units + 1) names ss in
+    let h = no-store n names e in
+    let one = Store a w p.value ∷ [] in
+    let front = filter-append (λ u. not (is_store u)) p.units one ∙ append-nil (others_of p.units) ∙ h.others in
+    ap length (filter-append (λ u. not (is_store u)) (p.units ++ one) rest ∙ ap (λ l. l ++ others_of rest) front)
+    ∙ length-append p.units (others_of rest)
+    ∙ (λ i. expression-units n names e i + others-counted (n + length p.units + 1) names ss i)
+    ∙ sym (sum_by-cons uses_of (store w a e) ss)
+
+-- ---- the terms of a run
+
+-- the number of an argument is that of its leaf
+arguments-mean : (env : Env) (u : ℕ) (ps : List SsaParam) (ts : List Tree) (ns : List ℕ) → AreArgumentTerms u ps ts → AreArguments ps ns → ReadArguments env.pairs u ns
+    → (v : ℕ) → value env (slice_index_or ts v no_term) ≡ slice_index ns v
+arguments-mean env u [] ts ns h g r v =
+    subst (λ t. value env (slice_index_or t v no_term) ≡ slice_index ns v) (sym h) (subst (λ l. value env (slice_index_or [] v no_term) ≡ slice_index l v) (sym g) refl)
+arguments-mean env u (p ∷ ps) [] ns h g r v = absurd h
+arguments-mean env u (p ∷ ps) (t ∷ ts) [] h g r v = absurd g
+arguments-mean env u (p ∷ ps) (t ∷ ts) (n ∷ ns) h g r zero = ap (value env) h.0 ∙ ap (λ k. k % 2 ^ kind_bits p.kind) r.0 ∙ mod-eq_of_lt g.0
+arguments-mean env u (p ∷ ps) (t ∷ ts) (n ∷ ns) h g r (suc v) = arguments-mean env (u + 1) ps ts ns h.1 g.1 r.1 v
+
+arguments-count : (ps : List SsaParam) (ns : List ℕ) → AreArguments ps ns → length ns ≡ length ps
+arguments-count [] ns h = ap length h
+arguments-count (p ∷ ps) [] h = absurd h
+arguments-count (p ∷ ps) (n ∷ ns) h = ap suc (arguments-count ps ns h.1)
+
+some-below : (bits : List (Option ℕ)) (v w : ℕ) → slice_index_or bits v None ≡ Some w → v < length bits
+some-below [] v w e = absurd (cc)
+some-below (b ∷ bits) zero w e = omega arith
+some-below (b ∷ bits) (suc v) w e = let rest = some-below bits v w e in omega arith
+
+index-at : (ts : List Tree) (v : ℕ) (t : Tree) → slice_get ts v ≡ Some t → slice_index_or ts v no_term ≡ t
+index-at [] v t e = absurd (cc)
+index-at (x ∷ ts) zero t e = cc
+index-at (x ∷ ts) (suc v) t e = index-at ts v t e
+
+units-front : (count : ℕ) (bits : List (Option ℕ)) (us vs : List Work) → UnitsIn count bits (us ++ vs) → UnitsIn count bits us
+units-front count bits [] vs h = tt
+units-front count bits (u ∷ us) vs h = (h.0, units-front count (bits ++ unit_bits u ∷ []) us vs h.1)
+
+-- the term of a value that the first units reach is theirs
+term-of-front : (first : ℕ) (terms : List Tree) (us vs : List Work) (v : ℕ) → v < length terms + length us → slice_index_or (terms_behind first terms (us ++ vs)) v no_term ≡ slice_index_or (terms_behind first terms us) v no_term
+term-of-front first terms us vs v l =
+    let long = terms-long first terms us in
+    ap (λ t. slice_index_or t v no_term) (terms-both first terms us vs ∙ terms-behind first (terms_behind first terms us) vs)
+    ∙ get_or_append_left (terms_behind first terms us) (terms_after first (terms_behind first terms us) vs) no_term v (omega arith)
+
+record Typed (ssa : Ssa) (terms : List Tree) : Type 0 where
+  units : UnitsIn (length (pointers ssa)) (widths (integers ssa)) ssa.units
+  stand : Stand (widths (integers ssa)) terms
+  leaves : AreArgumentTerms 0 (integers ssa) terms
+  all : terms_of ssa ≡ terms_behind (arguments ssa) terms ssa.units
+
+-- in the environment of a run of some of the units
+front-means : (ssa : Ssa) (terms : List Tree) (us vs : List Work) (places memory args : List ℕ) (r : Reached) → Typed ssa terms → us ++ vs ≡ ssa.units → IsBytes memory → AreArguments (integers ssa) args
+    → run_units places us (start_of memory args) ≡ Some r
+    → (v : ℕ) → v < length r.numbers → value (environment ssa r.numbers) (slice_index_or (terms_of ssa) v no_term) ≡ slice_index r.numbers v
+front-means ssa terms us vs places memory args r h split bytes fit run v l =
+    let first = arguments ssa in
+    let bits = widths (integers ssa) in
+    let more = run-more places us (start_of memory args) r bytes run in
+    let count : length args ≡ first = arguments-count (integers ssa) args fit in
+    let wide : length bits ≡ first = length-map (integers ssa) (λ p. Some (kind_bits p.kind)) in
+    let taken : take first r.numbers ≡ args = (λ i. take (sym count i) (more.numbers i)) ∙ take-append_seam args more.more in
+    let left : drop first r.numbers ≡ more.more = (λ i. drop (sym count i) (more.numbers i)) ∙ drop-append_seam args more.more in
+    let env : Env = environment ssa r.numbers in
+    let read : ReadArguments env.pairs 0 args = subst (ReadArguments env.pairs 0) taken (of-arguments first (take first r.numbers) (drop first r.numbers) ssa.units) in
+    let whole : ReadUnits env.pairs first ssa.units (drop first r.numbers) = of-units first (take first r.numbers) (drop first r.numbers) ssa.units (ap length taken ∙ count) in
+    let reads : ReadUnits env.pairs (length args) us (drop (length args) r.numbers) =
+        subst (λ n. ReadUnits env.pairs n us (drop n r.numbers)) (sym count) (read-front env.pairs first us vs (drop first r.numbers) (subst (λ l. ReadUnits env.pairs first l (drop first r.numbers)) (sym split) whole)) in
+    let begun : Mean env first bits terms args = record {
+      long = count ∙ sym wide;
+      each = arguments-mean env 0 (integers ssa) terms args h.leaves fit read;
+      cut = λ j w c e. let below = some-below bits j w e in let above = ltb-false j first c in absurd (omega arith);
+    } in
+    let typed = units-front (length (pointers ssa)) bits us vs (subst (UnitsIn (length (pointers ssa)) bits) (sym split) h.units) in
+    let means = run-means env (length (pointers ssa)) first places us bits terms (start_of memory args) r h.stand begun typed bytes run reads v in
+    let size = ap length more.numbers ∙ length-append args more.more in
+    let long = more.long in
+    let stood = h.stand.long in
+    let near : v < length terms + length us = omega arith in
+    ap (λ t. value env (slice_index_or t v no_term)) (h.all ∙ ap (terms_behind first terms) (sym split)) ∙ ap (value env) (term-of-front first terms us vs v near) ∙ means
+
+terms-mean : (ssa : Ssa) (terms : List Tree) → Typed ssa terms → TermsMean ssa
+terms-mean ssa terms h places memory args k r bytes fit run v t l e =
+    sym (ap (value (environment ssa r.numbers)) (index-at (terms_of ssa) v t e))
+    ∙ front-means ssa terms (take k ssa.units) (drop k ssa.units) places memory args r h (take-append-drop k ssa.units) bytes fit run v l
+
+-- ---- all of it
+
+-- the widths of the parameters, and the units behind them
+numbered-typed : (k : Kernel) (ssa : Ssa) → IsWellFormed k → IsNumbering k ssa → Typed ssa (argument_terms 0 (integer_widths k.params))
+numbered-typed k ssa good is =
+    let first = first_unit k in
+    let ws = integer_widths k.params in
+    let count : length (pointers ssa) ≡ length (kernel_pointers k.params) = ap (λ l. length (filter (λ p. not (is_integer p.kind)) l)) is.params ∙ pointers-same k.params in
+    let wide : widths (integers ssa) ≡ map (λ w. Some (bits_of w)) ws = ap (λ l. widths (integers_of l)) is.params ∙ widths-same k.params in
+    let held : Held k.params [] [] (map (λ w. Some (bits_of w)) ws) = record { args = width-at ws; count = refl; named = λ j t e. absurd (cc) } in
+    let units = statements-typed k.params [] [] first (map (λ w. Some (bits_of w)) ws) k.statements good.each held (sym (length-map ws (λ w. Some (bits_of w)))) in
+    record {
+      units = subst (UnitsIn (length (pointers ssa)) (widths (integers ssa))) (sym is.units) (subst (λ b. UnitsIn (length (pointers ssa)) b (units_of k)) (sym wide) (subst (λ n. UnitsIn n (map (λ w. Some (bits_of w)) ws) (units_of k)) (sym count) units));
+      stand = subst (λ b. Stand b (argument_terms 0 ws)) (sym wide) (record {
+        long = arguments-long 0 ws ∙ sym (length-map ws (λ w. Some (bits_of w)));
+        each = arguments-each 0 ws;
+      });
+      leaves = subst (λ l. AreArgumentTerms 0 (integers_of l) (argument_terms 0 ws)) (sym is.params) (argument-terms k.params 0);
+      all = is.terms ∙ (λ i. terms_behind (sym (arguments_first k ssa is) i) (argument_terms 0 ws) (sym is.units i));
+    }
+
+typed-sound : (ssa : Ssa) (terms : List Tree) → Typed ssa terms → AllByRecursion (IsUnit ssa) ssa.units
+typed-sound ssa terms h = units-sound ssa (widths (integers ssa)) ssa.units (value-at (integers ssa) ssa.units) h.units
+
+argument-terms-first : (ssa : Ssa) (terms : List Tree) → Typed ssa terms → length terms ≡ arguments ssa → AreArgumentTerms 0 (integers ssa) (take (arguments ssa) (terms_of ssa))
+argument-terms-first ssa terms h e =
+    let same : take (arguments ssa) (terms_of ssa) ≡ terms = (λ i. take (sym e i) ((h.all ∙ terms-behind (arguments ssa) terms ssa.units) i)) ∙ take-append_seam terms (terms_after (arguments ssa) terms ssa.units) in
+    subst (AreArgumentTerms 0 (integers ssa)) (sym same) h.leaves
+
+unit-terms-behind : (ssa : Ssa) (terms : List Tree) → Typed ssa terms → length terms ≡ arguments ssa → AreUnitTerms (arguments ssa) ssa.units (drop (arguments ssa) (terms_of ssa))
+unit-terms-behind ssa terms h e =
+    let same : drop (arguments ssa) (terms_of ssa) ≡ terms_after (arguments ssa) terms ssa.units = (λ i. drop (sym e i) ((h.all ∙ terms-behind (arguments ssa) terms ssa.units) i)) ∙ drop-append_seam terms (terms_after (arguments ssa) terms ssa.units) in
+    let fit = units-fit (length (pointers ssa)) (arguments ssa) (widths (integers ssa)) terms ssa.units h.stand h.units in
+    subst (AreUnitTerms (arguments ssa) ssa.units) (sym same) (subst (λ n. AreUnitTerms n ssa.units (terms_after (arguments ssa) terms ssa.units)) e (unit-terms (arguments ssa) terms ssa.units fit))
+
+-- the units of a well-formed kernel fit behind the terms of its parameters
+pub kernel-fits : (k : Kernel) → IsWellFormed k → UnitsFit (first_unit k) (argument_terms 0 (integer_widths k.params)) (units_of k)
+kernel-fits k good =
+    let ws = integer_widths k.params in
+    let bits = map (λ w. Some (bits_of w)) ws in
+    let held : Held k.params [] [] bits = record { args = width-at ws; count = refl; named = λ j t e. absurd (cc) } in
+    let long = length-map ws (λ w. Some (bits_of w)) in
+    let stand : Stand bits (argument_terms 0 ws) = record { long = arguments-long 0 ws ∙ sym long; each = arguments-each 0 ws } in
+    units-fit (length (kernel_pointers k.params)) (first_unit k) bits (argument_terms 0 ws) (units_of k) stand
+    (statements-typed k.params [] [] (first_unit k) bits k.statements good.each held (sym long))
+
+pub numbered-values-are-sound : NumberedValuesAreSound
+numbered-values-are-sound k ssa good is =
+    let terms = argument_terms 0 (integer_widths k.params) in
+    let typed = numbered-typed k ssa good is in
+    let first : length terms ≡ arguments ssa = arguments-long 0 (integer_widths k.params) ∙ sym (arguments_first k ssa is) in
+    record {
+      name = subst (λ n. IsTrue (is_name_text n)) (sym is.name) (and-left (is_name_text k.name) (not (is_reserved k.name)) good.name);
+      names = subst (AllByRecursion (λ p. IsTrue (is_name_text p.name))) (sym is.params) (names-free k.params good.names);
+      distinct = subst (IsDistinct bytes_eq) (sym (ap (map (λ p. p.name)) is.params ∙ names-same k.params)) good.distinct;
+      params = subst (λ n. n ≤ 16) (sym (ap length is.params ∙ length-map k.params param_of)) good.params;
+      stores = (let few = stores-few (first_unit k) [] k.statements in let same = ap (λ us. length (stores_of us)) is.units in let most = good.statements in omega arith);
+      uses = (let same = ap (λ us. length (others_of us)) is.units in let count = others-counted (first_unit k) [] k.statements in let most = good.uses in omega arith);
+      units = typed-sound ssa terms typed;
+      earlier = subst (λ n. TakeEarlier n ssa.units) (sym (arguments_first k ssa is)) (subst (TakeEarlier (first_unit k)) (sym is.units) (units-take_earlier k good));
+      argument_terms = argument-terms-first ssa terms typed first;
+      unit_terms = unit-terms-behind ssa terms typed first;
+      meaning = terms-mean ssa terms typed;
+    }

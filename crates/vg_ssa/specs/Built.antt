@@ -1,0 +1,92 @@
+-- Units that are numbered one after the other, each with the term of its value.
+use Rattle.std.specs.Prelude.{◌≡◌, ◌<◌, ◌+◌, ◌^◌, ℕ, List, [], ◌∷◌, ◌++◌, length, map}
+use Rattle.vg_base.specs.declared.width.Width.{Width}
+use Rattle.vg_kernel.specs.Tree.{Expression, Statement, assign, store}
+use Rattle.vg_shapes.specs.declared.unit.Operator.{Operator}
+use Rattle.vg_shapes.specs.declared.unit.Operator.TheVariants.{Select}
+use Rattle.vg_shapes.specs.declared.unit.Unit.{Unit as Work}
+use Rattle.vg_shapes.specs.declared.unit.Unit.TheVariants.{Operation, Store}
+use Rattle.vg_shapes.specs.declared.wanted.Wanted.{Wanted}
+use Rattle.vg_shapes.specs.declared.wanted.Wanted.TheVariants.{Nothing}
+use Rattle.vg_ssa.specs.declared.values.Values.{Values}
+use Rattle.vg_ssa.specs.Fitting.{UnitsFit}
+use Rattle.vg_ssa.specs.Numbering.{found, Numbered, numbered, operands}
+use Rattle.vg_ssa.specs.ValueTerm.{terms_behind}
+use Rattle.vg_terms.specs.Term.{Tree, tree}
+
+-- the number of the first unit, the units so far, the terms of all values so far, and what stands for the
+-- names that statements gave
+pub record Built : Type 0 where
+  pub first : ℕ
+  pub units : List Work
+  pub terms : List Tree
+  pub names : List Wanted
+
+-- what values of the code hold
+abbrev pub built : Values → Built
+built v =
+    record {
+      first = v.first;
+      units = v.units.items;
+      terms = map tree v.terms.items;
+      names = v.names.items;
+    }
+
+-- these units more
+abbrev pub with_units : Built → List Work → Built
+with_units b us =
+    record {
+      first = b.first;
+      units = b.units ++ us;
+      terms = terms_behind b.first b.terms us;
+      names = b.names;
+    }
+
+-- a name more
+abbrev pub with_name : Built → Wanted → Built
+with_name b x = record b { names = b.names ++ x ∷ [] }
+
+-- there are numbers for these units, and their operands have the terms that they need
+pub record CanTake (b : Built) (us : List Work) : Type 0 where
+  pub few : length b.terms + length us < 2 ^ 32
+  pub fit : UnitsFit b.first b.terms us
+
+-- what was numbered is behind the rest, and this stands for its value
+pub record Numbers (b : Built) (p : Numbered) (new : Built) (x : Wanted) : Type 0 where
+  pub built : new ≡ with_units b p.units
+  pub value : x ≡ p.value
+
+-- the next number is that of the next term
+abbrev pub numbered_in : Built → Expression → Numbered
+numbered_in b e = numbered (length b.terms) b.names e
+
+-- an operation of a width and an amount on what one, two or three expressions give
+abbrev pub single_in : Built → Operator → Width → ℕ → Expression → Numbered
+single_in b op w k x =
+    let p = numbered_in b x in
+    found (length b.terms) p.units (Operation op w k (operands p.value Nothing Nothing))
+
+abbrev pub pair_in : Built → Operator → Width → Expression → Expression → Numbered
+pair_in b op w x y =
+    let p = numbered_in b x in
+    let q = numbered (length b.terms + length p.units) b.names y in
+    found (length b.terms) (p.units ++ q.units) (Operation op w 0 (operands p.value q.value Nothing))
+
+abbrev pub choice_in : Built → Width → Expression → Expression → Expression → Numbered
+choice_in b w c x y =
+    let o = numbered_in b c in
+    let p = numbered (length b.terms + length o.units) b.names x in
+    let q = numbered (length b.terms + length (o.units ++ p.units)) b.names y in
+    found (length b.terms) ((o.units ++ p.units) ++ q.units)
+    (Operation Select w 0 (operands o.value p.value q.value))
+
+-- the units of a statement, and what they leave
+abbrev pub statement_units : Built → Statement → List Work
+statement_units b (assign e) = (numbered_in b e).units
+statement_units b (store w a e) =
+    let p = numbered_in b e in
+    p.units ++ Store a w p.value ∷ []
+
+abbrev pub after_statement : Built → Statement → Built
+after_statement b (assign e) = let p = numbered_in b e in with_name (with_units b p.units) p.value
+after_statement b (store w a e) = with_units b (statement_units b (store w a e))

@@ -1,0 +1,11 @@
+//! Cases of numbered values: the terms of the values of kernels, as printed text.
+#![tactic(auto)]
+
+#[cfg(test)]
+mod cuts;
+#[cfg(test)]
+mod large;
+#[cfg(test)]
+mod numbered;
+#[cfg(test)]
+mod terms;
