@@ -1,0 +1,4 @@
+pub mod Counts
+pub mod Looks
+pub mod Placing
+pub mod Walks

@@ -1,0 +1,19 @@
+-- What a refusal tells.
+use Rattle.std.specs.Prelude.{ℕ, List}
+use Rattle.vg_shapes.specs.declared.match_table.Match.{Match}
+use Rattle.vg_shapes.specs.declared.pack.Pack.{Pack as Packed}
+use Rattle.vg_shapes.specs.declared.ssa.Ssa.{Ssa}
+use Rattle.vg_order.specs.declared.fault.OrderFault.{OrderFault}
+use Rattle.vg_order.specs.declared.fault.OrderFault.TheVariants.{Cycle, Memory}
+use Rattle.vg_order.specs.ByList.{NamesCycle}
+use Rattle.vg_order.specs.Paths.{ClosesBy}
+
+-- units whose nodes are a cycle
+abbrev pub Tells : List (ℕ × ℕ) → Ssa → List Match → List Packed → OrderFault → Type 0
+Tells deps ssa matches packs (Cycle units) = NamesCycle deps ssa matches packs units.items
+Tells deps ssa matches packs (Memory e) = Unit {0}
+
+-- units that lead from one to the next, where nodes and units have numbers
+abbrev pub Closes : (ℕ → List ℕ) → (ℕ → ℕ) → OrderFault → Type 0
+Closes needs home (Cycle units) = ClosesBy needs home units.items
+Closes needs home (Memory e) = Unit {0}

@@ -1,0 +1,4 @@
+pub mod ByList
+pub mod Faults
+pub mod Needs
+pub mod Paths
