@@ -1,6 +1,7 @@
 -- A path of waiting nodes: going up, going back, and closing it to a cycle.
 use Rattle.std.proofs.Common.{◌≡◌, ◌≢◌, ℕ, zero, suc, ◌+◌, ◌-◌, ◌*◌, ◌<◌, ◌≤◌, Bool, true, false, List, [], ◌∷◌, ◌++◌, length, drop, map, Option, Some, None, refl, sym, ap, subst, ◌∙◌, ◌⊎◌, inl, inr, arith, get_or}
 use Rattle.std.specs.Prelude.{slice_index, slice_set, ◌==◌}
+use Rattle.std.specs.List.{AllByRecursion}
 use Rattle.std.proofs.lemmas.Bool.{cases_eq, cases_lt, eq-eqb, ne_eqb, true≢false}
 use Rattle.std.proofs.lemmas.List.{drop_more, get_or-map, get_or-set_other, get_or-set_same, get_or_append_left, get_or_past, length-map, length-set, length_push, map-append}
 use Rattle.vg_shapes.specs.Order.{count_of, one_if, Stands}
@@ -8,9 +9,9 @@ use Rattle.vg_order.specs.declared.graph.Graph.{Graph}
 use Rattle.vg_order.specs.declared.paths.Path.{Path}
 use Rattle.vg_order.specs.declared.progress.Progress.{Progress}
 use Rattle.vg_order.specs.Needs.{flag_at}
-use Rattle.vg_order.specs.Paths.{ClosesBy, count_true, GoesBack, home_at, IsAtRest, IsClosing, IsOff, LeadsBack, LeadsUp, needs_at, OnPath, StandsOn, StaysPlaced, Steps}
+use Rattle.vg_order.specs.Paths.{ClosesBy, count_true, GoesBack, home_at, IsAtRest, IsClosing, IsInside, IsOff, LeadsBack, LeadsUp, needs_at, OnPath, StandsOn, Steps}
 use Rattle.vg_order.proofs.Counts.{count_of-push, stands_where}
-use Rattle.vg_order.proofs.Placing.{counts-more, flag-still}
+use Rattle.vg_order.proofs.Placing.{counts-more}
 
 -- ---- what leads on
 
@@ -35,6 +36,20 @@ back-drop needs home end [] (suc k) h = h
 back-drop needs home end (n ∷ []) (suc zero) h = tt
 back-drop needs home end (n ∷ []) (suc (suc k)) h = tt
 back-drop needs home end (n ∷ (m ∷ ns)) (suc k) h = back-drop needs home end (m ∷ ns) k h.1
+
+-- each of a list
+all-push : (P : ℕ → Type 0) (xs : List ℕ) (x : ℕ) → AllByRecursion P xs → P x → AllByRecursion P (xs ++ x ∷ [])
+all-push P [] x h p = (p, tt)
+all-push P (y ∷ ys) x h p = (h.0, all-push P ys x h.1 p)
+
+all-front : (P : ℕ → Type 0) (xs : List ℕ) (x : ℕ) → AllByRecursion P (xs ++ x ∷ []) → AllByRecursion P xs
+all-front P [] x h = tt
+all-front P (y ∷ ys) x h = (h.0, all-front P ys x h.1)
+
+pub all-drop : (P : ℕ → Type 0) (k : ℕ) (xs : List ℕ) → AllByRecursion P xs → AllByRecursion P (drop k xs)
+all-drop P zero xs h = h
+all-drop P (suc k) [] h = tt
+all-drop P (suc k) (x ∷ xs) h = all-drop P k xs h.1
 
 -- a path with its top that leads back to a node on it, from that node on
 pub closes-path : (needs : ℕ → List ℕ) (homes : List ℕ) (count : ℕ) (placed : List Bool) (path : List ℕ) (on : List Bool) (top x node : ℕ) (units : List ℕ)
@@ -203,36 +218,38 @@ pub steps-back : (deps : List (ℕ × ℕ)) (g : Graph) (before after : Progress
 steps-back deps g before after was path top None p e o m =
     let needs = needs_at deps g in
     let count = length g.needs in
-    let first : OnPath needs g.homes count before.placed.items [] was.on.items top = subst (λ (q : List ℕ). OnPath needs g.homes count before.placed.items q was.on.items top) m.0 p in
+    let first : OnPath needs g.homes count before.placed.items [] was.on.items top = subst (λ (q : List ℕ). OnPath needs g.homes count before.placed.items q was.on.items top) m.0 p.0 in
     let off = path-off needs g.homes count before.placed.items was.on.items top first in
     ((m.1, ap length o ∙ off.1, λ n. ap (λ (l : List Bool). flag_at l n) o ∙ off.2 n), m.0, e)
 steps-back deps g before after was path top (Some below) p e o m =
     let needs = needs_at deps g in
     let count = length g.needs in
     let front = path.units.items in
-    let longer : OnPath needs g.homes count before.placed.items (front ++ below ∷ []) was.on.items top = subst (λ (q : List ℕ). OnPath needs g.homes count before.placed.items q was.on.items top) m p in
+    let longer : OnPath needs g.homes count before.placed.items (front ++ below ∷ []) was.on.items top = subst (λ (q : List ℕ). OnPath needs g.homes count before.placed.items q was.on.items top) m p.0 in
     let back = path-back needs g.homes count before.placed.items front was.on.items below top longer in
     let size : length front + 1 ≡ length was.units.items = sym (ap length m ∙ length_push front below) in
     let same : slice_index (front ++ below ∷ []) 0 ≡ slice_index (was.units.items ++ top ∷ []) 0 =
     ap (λ (l : List ℕ). slice_index l 0) (sym m) ∙ sym (get_or_append_left was.units.items (top ∷ []) 0 0 (omega arith)) in
-    (subst (λ (q : List Bool). OnPath needs g.homes count q front path.on.items below) (sym e)
+    ((subst (λ (q : List Bool). OnPath needs g.homes count q front path.on.items below) (sym e)
     (subst (λ (q : List Bool). OnPath needs g.homes count (slice_set before.placed.items (home_at g top) true) front q below) (sym o) back),
+    subst (AllByRecursion (IsInside g)) m (all-front (IsInside g) was.units.items top p.1)),
     same, inr (e, size))
 
 pub steps-up : (deps : List (ℕ × ℕ)) (g : Graph) (before after : Progress) (was path : Path) (top next : ℕ) → StandsOn deps g before was top
     → home_at g next < length g.needs → Stands next (needs_at deps g (home_at g top)) → flag_at was.on.items (home_at g next) ≡ false → flag_at before.placed.items (home_at g next) ≡ false
-    → after.placed.items ≡ before.placed.items → path.units.items ≡ was.units.items ++ top ∷ [] → path.on.items ≡ slice_set was.on.items (home_at g next) true
+    → after.placed.items ≡ before.placed.items → path.units.items ≡ was.units.items ++ top ∷ [] → path.on.items ≡ slice_set was.on.items (home_at g next) true → IsInside g next
     → Steps deps g before after was path top (Some next)
-steps-up deps g before after was path top next p h s off waits e u o =
+steps-up deps g before after was path top next p h s off waits e u o inside =
     let needs = needs_at deps g in
     let count = length g.needs in
-    let up = path-up needs g.homes count before.placed.items was.units.items was.on.items top next p h s off waits in
+    let up = path-up needs g.homes count before.placed.items was.units.items was.on.items top next p.0 h s off waits in
     let size = length_push was.units.items top in
     let same : slice_index (path.units.items ++ next ∷ []) 0 ≡ slice_index (was.units.items ++ top ∷ []) 0 =
     ap (λ (l : List ℕ). slice_index (l ++ next ∷ []) 0) u ∙ get_or_append_left (was.units.items ++ top ∷ []) (next ∷ []) 0 0 (omega arith) in
-    (subst (λ (q : List Bool). OnPath needs g.homes count q path.units.items path.on.items next) (sym e)
+    ((subst (λ (q : List Bool). OnPath needs g.homes count q path.units.items path.on.items next) (sym e)
     (subst (λ (q : List ℕ). OnPath needs g.homes count before.placed.items q path.on.items next) (sym u)
     (subst (λ (q : List Bool). OnPath needs g.homes count before.placed.items (was.units.items ++ top ∷ []) q next) (sym o) up)),
+    subst (λ (l : List ℕ). AllByRecursion (IsInside g) (l ++ next ∷ [])) (sym u) (all-push (IsInside g) (was.units.items ++ top ∷ []) next p.1 inside)),
     same, inl (e, ap length u ∙ size))
 
 -- ---- the whole climb
@@ -240,8 +257,9 @@ steps-up deps g before after was path top next p h s off waits e u o =
 pub path-shorter : (deps : List (ℕ × ℕ)) (g : Graph) (before after : Progress) (was path : Path) (top next : ℕ) → StandsOn deps g before was top
     → length before.placed.items ≡ length g.needs → length after.placed.items ≡ length g.needs → Steps deps g before after was path top (Some next)
     → 2 * (length after.placed.items - count_true after.placed.items) - length path.units.items < 2 * (length before.placed.items - count_true before.placed.items) - length was.units.items
-path-shorter deps g before after was path top next p l m s =
-    let q = s.0 in
+path-shorter deps g before after was path top next stands l m s =
+    let p = stands.0 in
+    let q = s.0.0 in
     let node = home_at g top in
     let a = apart-most was.on.items before.placed.items (p.long ∙ sym l) p.waits in
     let b = apart-most path.on.items after.placed.items (q.long ∙ sym m) q.waits in
@@ -253,23 +271,3 @@ path-shorter deps g before after was path top next p l m s =
         let e = ap count_true back.0 ∙ count_true-set before.placed.items node (omega arith) (top-waits (needs_at deps g) g.homes (length g.needs) before.placed.items was.units.items was.on.items top p) in
         let f = back.1 in omega arith)
     ]
-
-pub stays-set : (before placed now : List Bool) (node : ℕ) → node < length placed → StaysPlaced before placed → now ≡ slice_set placed node true → StaysPlaced before now
-stays-set before placed now node h stays e n t = ap (λ (l : List Bool). flag_at l n) e ∙ flag-still placed node n h (stays n t)
-
-pub stays-step : (deps : List (ℕ × ℕ)) (g : Graph) (first : List Bool) (before after : Progress) (was path : Path) (top : ℕ) (to : Option ℕ) → StandsOn deps g before was top
-    → length before.placed.items ≡ length g.needs → StaysPlaced first before.placed.items → Steps deps g before after was path top to → StaysPlaced first after.placed.items
-stays-step deps g first before after was path top None p l stays s = stays-set first before.placed.items after.placed.items (home_at g top) (let n = p.node in omega arith) stays s.2
-stays-step deps g first before after was path top (Some next) p l stays s = elim s.2 [
-  | inl up ↦ λ n t. ap (λ (l : List Bool). flag_at l n) up.0 ∙ stays n t
-  | inr back ↦ stays-set first before.placed.items after.placed.items (home_at g top) (let n = p.node in omega arith) stays back.0
-]
-
--- at the end the first one is placed
-pub start-placed : (deps : List (ℕ × ℕ)) (g : Graph) (before after : Progress) (was path : Path) (top unit : ℕ) → StandsOn deps g before was top
-    → length before.placed.items ≡ length g.needs → slice_index (was.units.items ++ top ∷ []) 0 ≡ unit → Steps deps g before after was path top None
-    → flag_at after.placed.items (home_at g unit) ≡ true
-start-placed deps g before after was path top unit p l starts s =
-    let same : top ≡ unit = ap (λ (l : List ℕ). slice_index (l ++ top ∷ []) 0) (sym s.1) ∙ starts in
-    let node = home_at g top in
-    ap (flag_at after.placed.items) (ap (home_at g) (sym same)) ∙ ap (λ (l : List Bool). flag_at l node) s.2 ∙ get_or-set_same before.placed.items node true false (let n = p.node in omega arith)

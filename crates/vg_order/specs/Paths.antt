@@ -1,6 +1,6 @@
 -- Nodes by number, and the search along paths of nodes that wait for each other.
-use Rattle.std.specs.Prelude.{◌≡◌, ◌≢◌, ◌<◌, ◌≤◌, ℕ, ◌+◌, ◌-◌, Bool, true, false, List, [], ◌∷◌, ◌++◌, drop, length, map, slice_index, slice_index_or, slice_set, Option, Some, None, ◌⊎◌}
-use Rattle.std.specs.List.{concat}
+use Rattle.std.specs.Prelude.{◌≡◌, ◌≢◌, ◌<◌, ◌≤◌, ℕ, ◌+◌, ◌-◌, ◌^◌, Bool, true, false, List, [], ◌∷◌, ◌++◌, drop, length, map, slice_index, slice_index_or, slice_set, Option, Some, None, ◌⊎◌}
+use Rattle.std.specs.List.{AllByRecursion, concat}
 use Rattle.vg_shapes.specs.Order.{count_of, one_if, Stands}
 use Rattle.vg_order.specs.declared.graph.Graph.{Graph}
 use Rattle.vg_order.specs.declared.needs.Cursor.{Cursor}
@@ -30,10 +30,15 @@ start = record { row = 0; index = 0 }
 abbrev pub left_at : List (ℕ × ℕ) → Graph → List Cursor → ℕ → List ℕ
 left_at deps g cursors n = left_from (rows_at deps g n) (slice_index_or cursors n start)
 
--- nodes depend on units that have nodes, the first unit having this number
+-- the number of a unit
+abbrev pub IsInside : Graph → ℕ → Type 0
+IsInside g x = (g.first ≤ x) × (x < length g.homes)
+
+-- nodes depend on units, and units have nodes
 pub record IsGraph (deps : List (ℕ × ℕ)) (g : Graph) : Type 0 where
-  pub units : (n x : ℕ) → Stands x (needs_at deps g n) → (g.first ≤ x) × (x < length g.homes)
-  pub homes : (x : ℕ) → g.first ≤ x → x < length g.homes → home_at g x < length g.needs
+  pub units : (n x : ℕ) → Stands x (needs_at deps g n) → IsInside g x
+  pub homes : (x : ℕ) → IsInside g x → home_at g x < length g.needs
+  pub few : (length g.homes < 2 ^ 32) × (length g.needs < 2 ^ 32)
 
 -- ---- orders of numbers
 
@@ -124,6 +129,7 @@ IsAtRest g p = IsOff (length g.needs) p.units.items p.on.items
 abbrev pub StandsOn : List (ℕ × ℕ) → Graph → Progress → Path → ℕ → Type 0
 StandsOn deps g progress p top =
     OnPath (needs_at deps g) g.homes (length g.needs) progress.placed.items p.units.items p.on.items top
+    × AllByRecursion (IsInside g) (p.units.items ++ top ∷ [])
 
 -- A step along a path: up to a unit for which the top waited, or, where the top was placed, back to the
 -- unit below it; there is none where the top was the first.
@@ -152,6 +158,6 @@ IsReady deps g placed n =
 -- the nodes are the units in their order, and depend on lesser ones alone
 abbrev pub IsRising : List (ℕ × ℕ) → Graph → Type 0
 IsRising deps g =
-    ((x : ℕ) → g.first ≤ x → x < length g.homes → home_at g x ≡ x - g.first)
+    ((x : ℕ) → IsInside g x → home_at g x ≡ x - g.first)
     × (length g.needs ≡ length g.homes - g.first)
     × ((n x : ℕ) → Stands x (needs_at deps g n) → home_at g x < n)

@@ -3,7 +3,7 @@
 ghost use Rattle.std.specs.Prelude.{◌≡◌, ◌<◌, ◌≤◌, ◌≢◌, ◌++◌, ◌∷◌, ℕ, [], drop, false, length, slice_index, slice_set, true, IfErr, IfOk, OnOk};
 ghost use Rattle.vg_order.specs.Faults.{Closes};
 ghost use Rattle.vg_order.specs.Needs.{flag_at};
-ghost use Rattle.vg_order.specs.Paths.{GoesBack, home_at, IsAtRest, IsClosing, IsGraph, IsProgress, needs_at, StandsOn, StaysPlaced, Steps};
+ghost use Rattle.vg_order.specs.Paths.{GoesBack, home_at, IsAtRest, IsClosing, IsGraph, IsInside, IsProgress, StandsOn, StaysPlaced, Steps};
 
 use crate::fault::OrderFault;
 use crate::graph::Graph;
@@ -96,7 +96,7 @@ fn step(
     requires on_path { StandsOn deps.now graph.now progress.old path.old top }
     ensures valid { OnOk result (IsProgress deps.now graph.now progress.new) }
     ensures steps { IfOk result (λ next. Steps deps.now graph.now progress.old progress.new path.old path.new top next) }
-    ensures cycle { IfErr result (λ fault. Closes (needs_at deps.now graph.now) (home_at graph.now) fault) }
+    ensures cycle { IfErr result (λ fault. Closes deps.now graph.now fault) }
 {
     let homes = graph.homes.as_slice();
     let node = home_of(homes, top);
@@ -125,13 +125,13 @@ pub(crate) fn climb(
     requires graph { IsGraph deps.now graph.now }
     requires valid { IsProgress deps.now graph.now progress.old }
     requires rest { IsAtRest graph.now path.old }
-    requires node { home_at graph.now unit < length graph.now.needs }
+    requires unit { IsInside graph.now unit }
     requires waits { flag_at progress.old.placed.items (home_at graph.now unit) ≡ false }
     ensures valid { OnOk result (IsProgress deps.now graph.now progress.new) }
     ensures rest { OnOk result (IsAtRest graph.now path.new) }
     ensures stays { OnOk result (StaysPlaced progress.old.placed.items progress.new.placed.items) }
     ensures placed { OnOk result (flag_at progress.new.placed.items (home_at graph.now unit) ≡ true) }
-    ensures cycle { IfErr result (λ fault. Closes (needs_at deps.now graph.now) (home_at graph.now) fault) }
+    ensures cycle { IfErr result (λ fault. Closes deps.now graph.now fault) }
 {
     let mut top = unit;
     let node = home_of(graph.homes.as_slice(), top);

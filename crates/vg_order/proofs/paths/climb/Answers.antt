@@ -1,6 +1,7 @@
 use Rattle.std.proofs.Common.{◌≡◌, ◌++◌, ◌∷◌, [], ℕ, List, true, length, Option, ap, subst, sym, ◌∙◌}
 use Rattle.std.specs.Prelude.{slice_index, slice_set}
-use Rattle.vg_order.specs.Paths.{home_at, needs_at, OnPath, Steps}
+use Rattle.std.specs.List.{AllByRecursion}
+use Rattle.vg_order.specs.Paths.{home_at, IsInside, needs_at, OnPath, Steps}
 use Rattle.vg_order.proofs.Walks.{path-shorter, path-start}
 use Rattle.vg_order.proofs.paths.climb.Goals as goal
 
@@ -13,8 +14,9 @@ path-init c =
     let node : c.home_of-node.result ≡ home_at g c.args.unit = c.home_of-node.ensures ∙ ap (λ (l : List ℕ). slice_index l c.args.unit) c.as_slice.ensures in
     record {
       valid = c.requires.valid;
-      on_path = subst (λ n. OnPath needs g.homes (length g.needs) placed path.units.items (slice_set path.on.items n true) c.args.unit) (sym node)
-          (path-start needs g.homes (length g.needs) placed path.units.items path.on.items c.args.unit c.requires.rest c.requires.node c.requires.waits);
+      on_path = (subst (λ n. OnPath needs g.homes (length g.needs) placed path.units.items (slice_set path.on.items n true) c.args.unit) (sym node)
+          (path-start needs g.homes (length g.needs) placed path.units.items path.on.items c.args.unit c.requires.rest (c.requires.graph.homes c.args.unit c.requires.unit) c.requires.waits),
+          subst (λ (l : List ℕ). AllByRecursion (IsInside g) (l ++ c.args.unit ∷ [])) (sym c.requires.rest.0) (c.requires.unit, tt));
       stays = λ n t. t;
       starts = ap (λ (l : List ℕ). slice_index (l ++ c.args.unit ∷ []) 0) c.requires.rest.0;
     }
