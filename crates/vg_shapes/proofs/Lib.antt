@@ -1,4 +1,5 @@
 pub mod Apart
+pub mod MatchTables
 pub mod Pairs
 pub mod Readings
 pub mod Replacing

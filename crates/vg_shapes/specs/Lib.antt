@@ -5,6 +5,7 @@ pub mod Fits
 pub mod Lane
 pub mod Layout
 pub mod Leaves
+pub mod MatchTable
 pub mod Nodes
 pub mod Operands
 pub mod Order

@@ -5,7 +5,8 @@
 //! `specs/Registers.antt` says what a leaf reads of the registers that an instruction is given,
 //! `specs/Leaves.antt` which leaves a value can stand at, `specs/Description.antt` what a description
 //! promises, `specs/RunUnits.antt` what the units of a kernel do, `specs/Depends.antt` which of them
-//! depend on which, and `specs/Nodes.antt` which orders of packs and units are legal.
+//! depend on which, `specs/Fits.antt` which lanes compute which values, and `specs/Nodes.antt` which
+//! orders of packs and units are legal.
 #![tactic(auto)]
 
 pub mod access;
@@ -31,7 +32,7 @@ pub use lane::Lane;
 pub use lanes::Lanes;
 pub use law::{leaves_read_registers, replaced_leaves_keep_numbers};
 pub use leaf::Leaf;
-pub use match_table::{Bound, Match};
+pub use match_table::{Bound, Match, MatchTable};
 pub use operand::{Operand, Slot};
 pub use order::{Node, Order};
 pub use pack::Pack;
