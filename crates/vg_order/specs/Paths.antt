@@ -150,7 +150,16 @@ Steps deps g before after was path top (Some next) =
 abbrev pub StaysPlaced : List Bool → List Bool → Type 0
 StaysPlaced before after = (n : ℕ) → flag_at before n ≡ true → flag_at after n ≡ true
 
--- a node all of whose units are placed
+-- the nodes of all units from the first one up to this number are placed
+abbrev pub AreUnitsPlaced : Graph → List Bool → ℕ → Type 0
+AreUnitsPlaced g placed unit =
+    (x : ℕ) → g.first ≤ x → x < unit → flag_at placed (home_at g x) ≡ true
+
+-- the first so many nodes are
+abbrev pub AreAllPlaced : List Bool → ℕ → Type 0
+AreAllPlaced placed count = (n : ℕ) → n < count → flag_at placed n ≡ true
+
+-- a node of which all units for which it waits are placed
 abbrev pub IsReady : List (ℕ × ℕ) → Graph → List Bool → ℕ → Type 0
 IsReady deps g placed n =
     (x : ℕ) → Stands x (needs_at deps g n) → flag_at placed (home_at g x) ≡ true

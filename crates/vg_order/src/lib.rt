@@ -8,5 +8,6 @@ mod graph;
 mod needs;
 mod paths;
 mod progress;
+pub mod scheduling;
 
 pub use fault::OrderFault;
