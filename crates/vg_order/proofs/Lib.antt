@@ -1,6 +1,9 @@
 pub mod Building
 pub mod Counts
 pub mod Graphs
+pub mod Dependences
 pub mod Looks
+pub mod Permutations
 pub mod Placing
+pub mod Rising
 pub mod Walks

@@ -38,6 +38,7 @@ IsInside g x = (g.first ≤ x) × (x < length g.homes)
 pub record IsGraph (deps : List (ℕ × ℕ)) (g : Graph) : Type 0 where
   pub units : (n x : ℕ) → Stands x (needs_at deps g n) → IsInside g x
   pub homes : (x : ℕ) → IsInside g x → home_at g x < length g.needs
+  pub begins : g.first ≤ length g.homes
   pub few : (length g.homes < 2 ^ 32) × (length g.needs < 2 ^ 32)
 
 -- ---- orders of numbers
@@ -48,6 +49,12 @@ FollowsHomes needs home done [] = Unit {0}
 FollowsHomes needs home done (n ∷ ns) =
     ((x : ℕ) → Stands x (needs n) → Stands (home x) done)
     × FollowsHomes needs home (done ++ n ∷ []) ns
+
+-- each of so many nodes once, behind the nodes of the units on which it depends
+pub record IsOrdered (needs : ℕ → List ℕ) (home : ℕ → ℕ) (count : ℕ) (order : List ℕ) : Type 0 where
+  pub once : (n : ℕ) → n < count → count_of n order ≡ 1
+  pub none : (n : ℕ) → count ≤ n → count_of n order ≡ 0
+  pub follows : FollowsHomes needs home [] order
 
 abbrev pub count_true : List Bool → ℕ
 count_true [] = 0

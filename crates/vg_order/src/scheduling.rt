@@ -1,11 +1,11 @@
 //! Orders of the packs of a plan and the units outside them.
 
-ghost use Rattle.std.specs.Prelude.{◌≡◌, ◌<◌, ◌++◌, ◌∷◌, ℕ, [], false, length, map, replicate, true, IfErr, IfOk, OnOk};
+ghost use Rattle.std.specs.Prelude.{◌≡◌, ◌<◌, ◌++◌, ◌∷◌, ℕ, [], false, length, map, replicate, slice_index_or, true, IfErr, IfOk, OnOk};
 ghost use Rattle.vg_order.specs.ByList.{IsOrderBy, NameLesser, NameUnits};
 ghost use Rattle.vg_order.specs.Faults.{Closes, Tells};
 ghost use Rattle.vg_order.specs.Graphs.{IsGraphOf, node_at};
 ghost use Rattle.vg_order.specs.Needs.{flag_at};
-ghost use Rattle.vg_order.specs.Paths.{AreAllPlaced, AreUnitsPlaced, home_at, IsAtRest, IsGraph, IsInside, IsProgress, IsReady, IsRising, start, StaysPlaced};
+ghost use Rattle.vg_order.specs.Paths.{AreAllPlaced, AreUnitsPlaced, home_at, IsAtRest, IsGraph, IsInside, IsOrdered, IsProgress, IsReady, IsRising, needs_at, start, StaysPlaced};
 ghost use Rattle.vg_shapes.specs.declared.order.Node.TheVariants.{UnitAt};
 ghost use Rattle.vg_shapes.specs.Nodes.{ArePacks};
 ghost use Rattle.vg_shapes.specs.Order.{numbers_from};
@@ -133,4 +133,38 @@ fn empty(alloc: Global, count: usize) -> Result<Path, AllocError>
         units: Vec::new(alloc),
         on: vec![in alloc; false; count]?,
     })
+}
+
+// Places all nodes.
+fn place_all(alloc: Global, deps: &DepList, graph: &Graph) -> Result<Vec<u32>, OrderFault>
+    requires { IsGraph deps.now graph.now }
+    ensures order { IfOk result (λ order. IsOrdered (needs_at deps.now graph.now) (home_at graph.now) (length graph.now.needs) order.items) }
+    ensures rising { IfOk result (λ order. IsRising deps.now graph.now → order.items ≡ numbers_from 0 (length graph.now.needs)) }
+    ensures cycle { IfErr result (λ fault. Closes deps.now graph.now fault) }
+{
+    let count = graph.needs.as_slice().len();
+    let mut progress = fresh(alloc, count)?;
+    let mut path = empty(alloc, count)?;
+    place_units(alloc, deps, graph, &mut progress, &mut path)?;
+    place_rest(deps, graph, &mut progress)?;
+    Ok(progress.order)
+}
+
+// The node of a number.
+fn node_at(nodes: &[Node], number: u32) -> Node
+    ensures { result ≡ slice_index_or nodes.now number (UnitAt 0) }
+{
+    nodes
+        .get(number as usize)
+        .copied()
+        .unwrap_or(Node::UnitAt(0))
+}
+
+fn nodes_at(alloc: Global, nodes: &[Node], numbers: &[u32]) -> Result<Vec<Node>, AllocError>
+    ensures { IfOk result (λ found. found.items ≡ map (λ n. slice_index_or nodes.now n (UnitAt 0)) numbers.now) }
+{
+    numbers
+        .iter()
+        .map(|number| node_at(nodes, *number))
+        .collect(alloc)
 }
