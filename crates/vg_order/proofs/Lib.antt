@@ -3,6 +3,7 @@ pub mod Counts
 pub mod Graphs
 pub mod Dependences
 pub mod Looks
+pub mod Orders
 pub mod Permutations
 pub mod Placing
 pub mod Rising

@@ -11,3 +11,4 @@ mod progress;
 pub mod scheduling;
 
 pub use fault::OrderFault;
+pub use scheduling::schedule;

@@ -168,3 +168,28 @@ fn nodes_at(alloc: Global, nodes: &[Node], numbers: &[u32]) -> Result<Vec<Node>,
         .map(|number| node_at(nodes, *number))
         .collect(alloc)
 }
+
+/// An order of the packs of a plan and the units outside them, each of them once and behind all units
+/// on which it depends by a list; else units whose nodes wait for each other in a circle. A call depends
+/// on the units to which its lanes are bound. Looks at each pair of the list once or twice.
+///
+/// Under the empty plan, where units depend on lesser ones alone, the units come in their order. More
+/// than 2^24 packs or units are want of memory.
+pub fn schedule(
+    alloc: Global,
+    plan: &Plan,
+    table: &MatchTable,
+    ssa: &Ssa,
+    deps: &DepList,
+) -> Result<Order, OrderFault>
+    requires packs { ArePacks ssa.now plan.now }
+    requires units { NameUnits ssa.now deps.now }
+    ensures order { IfOk result (λ order. IsOrderBy deps.now ssa.now table.now plan.now order) }
+    ensures cycle { IfErr result (λ fault. Tells deps.now ssa.now table.now plan.now fault) }
+    ensures numbers { IfOk result (λ order. plan.now ≡ [] → NameLesser deps.now → order ≡ map UnitAt (numbers_from (arguments ssa.now) (length ssa.now.units))) }
+{
+    let graph = graph_of(alloc, plan.as_slice(), table, ssa)?;
+    let numbers = place_all(alloc, deps, &graph)?;
+    let nodes = nodes_at(alloc, graph.nodes.as_slice(), numbers.as_slice())?;
+    Ok(Order::from_vec(nodes))
+}
