@@ -1,0 +1,10 @@
+pub mod Building
+pub mod Counts
+pub mod Graphs
+pub mod Dependences
+pub mod Looks
+pub mod Orders
+pub mod Permutations
+pub mod Placing
+pub mod Rising
+pub mod Walks
