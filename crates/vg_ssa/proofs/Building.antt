@@ -1,23 +1,19 @@
 -- Units that are numbered one after the other.
-use Rattle.std.proofs.Common.{◌≡◌, ℕ, suc, ◌+◌, ◌-◌, ◌<◌, ◌≤◌, ◌^◌, List, [], ◌∷◌, ◌++◌, length, take, drop, map, get_or, refl, sym, ap, subst, ◌∙◌, arith, append_assoc, append-nil}
+use Rattle.std.proofs.Common.{◌≡◌, suc, ◌+◌, ◌-◌, ◌<◌, ◌≤◌, ◌^◌, List, [], ◌∷◌, ◌++◌, length, take, drop, map, get_or, refl, sym, ap, subst, ◌∙◌, arith, append_assoc}
 use Rattle.std.specs.Prelude.{Err, IfOk, Ok, Result}
 use Rattle.std.proofs.lemmas.List.{length-append, length_push}
-use Rattle.vg_base.specs.declared.width.Width.{Width}
 use Rattle.std.proofs.Math.Seq.{take-length}
 use Rattle.vg_kernel.specs.declared.statement.KStmt.{KStmt}
 use Rattle.vg_kernel.specs.Tree.{Expression, Statement, assign, statement_of, store}
-use Rattle.vg_shapes.specs.declared.unit.Operator.{Operator}
-use Rattle.vg_shapes.specs.declared.unit.Operator.TheVariants.{Select}
 use Rattle.vg_shapes.specs.declared.unit.Unit.{Unit as Work}
-use Rattle.vg_shapes.specs.declared.unit.Unit.TheVariants.{Operation, Store}
+use Rattle.vg_shapes.specs.declared.unit.Unit.TheVariants.{Store}
 use Rattle.vg_shapes.specs.declared.wanted.Wanted.{Wanted}
-use Rattle.vg_shapes.specs.declared.wanted.Wanted.TheVariants.{Nothing, Value}
-use Rattle.vg_ssa.specs.Built.{after_statement, Built, CanTake, choice_in, numbered_in, Numbers, pair_in, single_in, statement_units, with_name, with_units}
+use Rattle.vg_shapes.specs.declared.wanted.Wanted.TheVariants.{Value}
+use Rattle.vg_ssa.specs.Built.{after_statement, Built, CanTake, numbered_in, Numbers, statement_units, with_units}
 use Rattle.vg_ssa.specs.Fitting.{UnitsFit}
-use Rattle.vg_ssa.specs.Numbering.{found, Numbered, numbered, operands, units_from}
+use Rattle.vg_ssa.specs.Numbering.{found, Numbered, numbered, units_from}
 use Rattle.vg_ssa.specs.ValueTerm.{terms_behind}
 use Rattle.vg_ssa.proofs.Terms.{fit-behind, fit-front, terms-both, terms-long}
-use Rattle.vg_terms.specs.Term.{Tree}
 
 -- ---- units, and more behind them
 
@@ -100,7 +96,7 @@ statement-split b (store w a e) ss =
     let p = numbered_in b e in
     let us = p.units ++ Store a w p.value ∷ [] in
     let long : length b.terms + length p.units + 1 ≡ length (terms_behind b.first b.terms us) =
-        (let l = length_push p.units (Store a w p.value) in let e : length b.terms + length p.units + 1 ≡ length b.terms + length us = omega arith in e) ∙ sym (terms-long b.first b.terms us) in
+    (let l = length_push p.units (Store a w p.value) in let e : length b.terms + length p.units + 1 ≡ length b.terms + length us = omega arith in e) ∙ sym (terms-long b.first b.terms us) in
     λ i. us ++ units_from (long i) b.names ss
 
 -- what a statement leaves has the terms and units of what it numbered

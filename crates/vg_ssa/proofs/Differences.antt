@@ -1,6 +1,5 @@
 -- Operations over constants, and a difference, whose second operand is made canonical first.
 use Rattle.std.proofs.Common.{◌≡◌, ℕ, ◌-◌, ◌^◌, ◌<◌, refl, sym, ap, subst, ◌∙◌}
-use Rattle.std.proofs.Math.Pow.{pow-lt}
 use Rattle.vg_canon.specs.Canonical.{at_root, canonical, IsCanonical}
 use Rattle.vg_canon.proofs.Forms.{canonical-is, canonical-same, canonical-settled}
 use Rattle.vg_canon.proofs.Steps.{constant-finished}

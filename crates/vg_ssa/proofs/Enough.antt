@@ -1,5 +1,5 @@
 -- A well-formed kernel has so few values that each has a number.
-use Rattle.std.proofs.Common.{◌≡◌, ℕ, suc, ◌+◌, ◌<◌, ◌≤◌, ◌^◌, List, [], ◌∷◌, ◌++◌, length, map, Option, Some, None, sym, ap, subst, ◌∙◌, arith}
+use Rattle.std.proofs.Common.{◌≡◌, ℕ, suc, ◌+◌, ◌≤◌, List, [], ◌∷◌, ◌++◌, length, map, Option, Some, None, sym, ap, subst, ◌∙◌, arith}
 use Rattle.std.specs.Prelude.{sum_by}
 use Rattle.std.specs.List.{cons_option}
 use Rattle.std.proofs.lemmas.List.Sums.{sum_by-cons}
@@ -13,7 +13,7 @@ use Rattle.vg_base.specs.Trap.{◌>>=◌}
 use Rattle.vg_shapes.specs.declared.ssa.Ssa.{Ssa}
 use Rattle.vg_shapes.specs.RunUnits.{run_units, start_of}
 use Rattle.vg_shapes.specs.Sound.{terms_of}
-use Rattle.vg_ssa.specs.Numbering.{first_unit, IsNumbering, param_of, units_from, units_of}
+use Rattle.vg_ssa.specs.Numbering.{first_unit, IsNumbering, param_of, units_from}
 use Rattle.vg_ssa.specs.StandsFor.{StandsFor}
 use Rattle.vg_ssa.specs.ValueTerm.{argument_terms, terms_behind}
 use Rattle.vg_ssa.proofs.Running.{units-run-as-kernels}
@@ -45,13 +45,13 @@ kernel-room k b good e =
     subst (λ d. CanTake d (units_from (length d.terms) d.names k.statements)) (sym e)
     (subst (λ n. CanTake (begun k.params) (units_from n [] k.statements)) (sym front) (record {
       few = (
-        let count = units-are_the_cost k in
-        let most = cost-most k.statements in
-        let few = integers-most k.params in
-        let a = good.params in
-        let b = good.statements in
-        let c = good.uses in
-        omega arith);
+          let count = units-are_the_cost k in
+          let most = cost-most k.statements in
+          let few = integers-most k.params in
+          let a = good.params in
+          let b = good.statements in
+          let c = good.uses in
+          omega arith);
       fit = kernel-fits k good;
     }))
 

@@ -1,7 +1,7 @@
 -- Where a run of units reaches a value, its term has its number.
-use Rattle.std.proofs.Common.{◌≡◌, ℕ, zero, suc, ◌+◌, ◌*◌, ◌/◌, ◌%◌, ◌^◌, ◌<◌, ◌≤◌, ◌⊎◌, Bool, true, false, List, [], ◌∷◌, ◌++◌, length, take, drop, map, min, Option, Some, None, refl, sym, ap, subst, ◌∙◌, arith, append_assoc, append-nil, inl, inr}
+use Rattle.std.proofs.Common.{◌≡◌, ℕ, zero, suc, ◌+◌, ◌*◌, ◌%◌, ◌^◌, ◌<◌, ◌≤◌, ◌⊎◌, Bool, true, false, List, [], ◌∷◌, ◌++◌, length, take, drop, Option, Some, None, refl, sym, ap, subst, ◌∙◌, arith, append_assoc, append-nil, inl, inr}
 use Rattle.std.specs.Prelude.{ℤ, pos, negsuc, nat_le, nat_lt, slice_index, slice_index_or, if◌then◌else◌}
-use Rattle.std.proofs.lemmas.List.{get_or_push, length-append, length-take, length_push}
+use Rattle.std.proofs.lemmas.List.{get_or_push, length-take, length_push}
 use Rattle.std.proofs.Math.Nat.{mod-eq_of_lt}
 use Rattle.std.proofs.Math.Seq.{drop-append_seam}
 use Rattle.vg_base.specs.Address.{place_of}
@@ -25,7 +25,7 @@ use Rattle.vg_shapes.specs.declared.unit.Unit.TheVariants.{Load, Store, Operatio
 use Rattle.vg_shapes.specs.declared.wanted.Wanted.{Wanted}
 use Rattle.vg_shapes.specs.declared.wanted.Wanted.TheVariants.{Value, Constant, Nothing}
 use Rattle.vg_shapes.specs.RunUnits.{number_of, operation_result, Reached, reached, result_of, run_units, unit_run}
-use Rattle.vg_shapes.specs.Sound.{cut_key, load_key, unit_bits}
+use Rattle.vg_shapes.specs.Sound.{cut_key, unit_bits}
 use Rattle.vg_ssa.specs.Fitting.{IsTermOf}
 use Rattle.vg_ssa.specs.ValueTerm.{cut_term, no_term, operand_term, over_operands, terms_behind, unit_term}
 use Rattle.vg_ssa.proofs.Environment.{ReadUnits}
@@ -161,6 +161,7 @@ cut-means env first bits terms numbers v w s m h = by (nat_lt v first) refl
   where
     t : Tree
     t = slice_index_or terms v no_term
+
     by : (b : Bool) → nat_lt v first ≡ b → value env (if nat_lt v first then slice_index_or terms v no_term else leaf (width_of (slice_index_or terms v no_term)) (cut_key v)) ≡ slice_index numbers v
     by true e = ap (λ b. value env (if b then slice_index_or terms v no_term else leaf (width_of (slice_index_or terms v no_term)) (cut_key v))) e ∙ m.each v
     by false e =
@@ -202,9 +203,9 @@ operation-number env first bits terms numbers op w k xs s m h =
     either-means env (nat_le (node_count (over_operands (operand_term terms) op (bits_of w) k xs)) 128)
     (over_operands (operand_term terms) op (bits_of w) k xs) (over_operands (cut_term first terms) op (bits_of w) k xs) (result_of (slice_index numbers) op (bits_of w) k xs)
     (canonical-means op env w k (operand_term terms xs.first) (operand_term terms xs.second) (operand_term terms xs.third) (whole-fit bits terms op w k xs s h)
-      ∙ (λ i. operation_result op (bits_of w) k (f xs.first m i) (f xs.second m i) (f xs.third m i)))
+    ∙ (λ i. operation_result op (bits_of w) k (f xs.first m i) (f xs.second m i) (f xs.third m i)))
     (canonical-means op env w k (cut_term first terms xs.first) (cut_term first terms xs.second) (cut_term first terms xs.third) (cut-fit first bits terms op w k xs s h)
-      ∙ cut-result env first bits terms numbers op w k xs s m h)
+    ∙ cut-result env first bits terms numbers op w k xs s m h)
 
 -- ---- one unit more
 
@@ -276,8 +277,8 @@ run-means env count first places (u ∷ us) bits terms r t s m h g e reads v =
     let long : length q.numbers ≡ length r.numbers + 1 = ap length p.numbers ∙ length_push r.numbers p.given in
     let read = subst (ReadUnits env.pairs (length r.numbers) (u ∷ us)) here reads in
     let next : Mean env first (bits ++ unit_bits u ∷ []) (terms ++ unit_term first terms u ∷ []) q.numbers =
-        subst (Mean env first (bits ++ unit_bits u ∷ []) (terms ++ unit_term first terms u ∷ [])) (sym p.numbers)
-        (mean-more env count first bits terms r.numbers u p.given s m h.0 p.gives (read.0, tt)) in
+    subst (Mean env first (bits ++ unit_bits u ∷ []) (terms ++ unit_term first terms u ∷ [])) (sym p.numbers)
+    (mean-more env count first bits terms r.numbers u p.given s m h.0 p.gives (read.0, tt)) in
     let later : ReadUnits env.pairs (length q.numbers) us (drop (length q.numbers) t.numbers) =
-        subst (λ n. ReadUnits env.pairs n us (drop (length q.numbers) t.numbers)) (sym long) (subst (ReadUnits env.pairs (length r.numbers + 1) us) (sym ahead) read.1) in
+    subst (λ n. ReadUnits env.pairs n us (drop (length q.numbers) t.numbers)) (sym long) (subst (ReadUnits env.pairs (length r.numbers + 1) us) (sym ahead) read.1) in
     run-means env count first places us (bits ++ unit_bits u ∷ []) (terms ++ unit_term first terms u ∷ []) q t (stand-more count first bits terms u s h.0) next h.1 p.memory b.2 later v

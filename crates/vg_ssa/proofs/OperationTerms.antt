@@ -1,5 +1,5 @@
 -- What the terms of operations mean: what vg_scalar makes of the numbers of their operands.
-use Rattle.std.proofs.Common.{◌≡◌, ℕ, zero, suc, ◌+◌, ◌-◌, ◌*◌, ◌/◌, ◌%◌, ◌^◌, ◌<◌, ◌≤◌, refl, sym, ap, subst, ◌∙◌, arith}
+use Rattle.std.proofs.Common.{◌≡◌, ℕ, zero, suc, ◌+◌, ◌-◌, ◌*◌, ◌/◌, ◌%◌, ◌^◌, ◌<◌, refl, sym, ap, subst, ◌∙◌, arith}
 use Rattle.std.specs.Prelude.{if◌then◌else◌, int_lt, nat_eq, nat_lt, min, max, bit_and, bit_or, bit_xor}
 use Rattle.std.proofs.lemmas.Nat.{pow_pos, mod-mul-add}
 use Rattle.std.proofs.Math.Nat.{mod-eq_of_lt, add-mod_right, zero-mul}
@@ -9,7 +9,7 @@ use Rattle.vg_base.specs.Number.{residue, floor_shift}
 use Rattle.vg_base.specs.declared.width.Width.{Width}
 use Rattle.vg_base.specs.declared.width.Width.TheVariants.{W8, W16, W32, W64}
 use Rattle.vg_base.specs.Width.{bits_of}
-use Rattle.vg_canon.specs.Canonical.{canonical, Settled}
+use Rattle.vg_canon.specs.Canonical.{canonical}
 use Rattle.vg_canon.proofs.Forms.{canonical-settled}
 use Rattle.vg_scalar.specs.declared.two_op.TwoOp.{TwoOp}
 use Rattle.vg_scalar.specs.declared.two_op.TwoOp.TheVariants.{Add, Sub, Mul, And, Or, Xor, Smin, Smax, Umin, Umax}
@@ -19,7 +19,7 @@ use Rattle.vg_scalar.specs.declared.resize.Resize.{Resize}
 use Rattle.vg_scalar.specs.declared.resize.Resize.TheVariants.{Sext, Zext, Trunc}
 use Rattle.vg_scalar.specs.declared.comparison.Comparison.{Comparison}
 use Rattle.vg_scalar.specs.declared.comparison.Comparison.TheVariants.{Eq, Slt, Ult}
-use Rattle.vg_scalar.specs.Scalar.{low, two_result, shift_result, resize_result, comparison_result, select_result}
+use Rattle.vg_scalar.specs.Scalar.{low, two_result, shift_result, resize_result, comparison_result}
 use Rattle.vg_shapes.specs.declared.unit.Operator.{Operator}
 use Rattle.vg_shapes.specs.declared.unit.Operator.TheVariants as operator
 use Rattle.vg_shapes.specs.RunUnits.{operation_result}

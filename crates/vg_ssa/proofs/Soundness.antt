@@ -1,5 +1,5 @@
 -- The numbered values of a well-formed kernel are sound.
-use Rattle.std.proofs.Common.{◌≡◌, ℕ, zero, suc, ◌+◌, ◌-◌, ◌*◌, ◌%◌, ◌^◌, ◌<◌, ◌≤◌, Bool, true, false, List, [], ◌∷◌, ◌++◌, length, take, drop, map, Option, Some, None, refl, sym, ap, subst, ◌∙◌, arith, append_assoc, append-nil}
+use Rattle.std.proofs.Common.{◌≡◌, ℕ, zero, suc, ◌+◌, ◌-◌, ◌%◌, ◌^◌, ◌<◌, ◌≤◌, Bool, true, false, List, [], ◌∷◌, ◌++◌, length, take, drop, map, Option, Some, None, refl, sym, ap, subst, ◌∙◌, arith, append_assoc, append-nil}
 use Rattle.std.specs.Prelude.{◌&&◌, filter, IsTrue, nat_lt, not, slice_get, slice_index, slice_index_or, sum_by, if◌then◌else◌}
 use Rattle.std.specs.List.{AllByRecursion, cons_option, IsDistinct}
 use Rattle.std.specs.Option.{option_map}
@@ -17,7 +17,7 @@ use Rattle.vg_bits.specs.BitList.{IsBytes}
 use Rattle.vg_kernel.specs.declared.parameter.KParam.{KParam}
 use Rattle.vg_kernel.specs.declared.parameter.KParamKind.{KParamKind}
 use Rattle.vg_kernel.specs.declared.parameter.KParamKind.TheVariants as kinds
-use Rattle.vg_kernel.specs.Cost.{expression_cost, uses_of}
+use Rattle.vg_kernel.specs.Cost.{uses_of}
 use Rattle.vg_kernel.specs.Names.{is_pointer}
 use Rattle.vg_kernel.specs.Tree.{Expression, argument, assigned, literal, load, two, shift, resize, compare, select, Statement, assign, store, Tree as Kernel}
 use Rattle.vg_kernel.specs.WellFormed.{integer_widths, IsWellFormed, pointers as kernel_pointers}
@@ -33,8 +33,8 @@ use Rattle.vg_shapes.specs.declared.unit.Unit.TheVariants.{Load, Store, Operatio
 use Rattle.vg_shapes.specs.declared.wanted.Wanted.{Wanted}
 use Rattle.vg_shapes.specs.declared.wanted.Wanted.TheVariants.{Value, Constant, Nothing}
 use Rattle.vg_shapes.specs.RunUnits.{Reached, run_units, start_of}
-use Rattle.vg_shapes.specs.Sound.{AreArguments, AreArgumentTerms, argument_key, AreUnitTerms, environment, IsNumber, IsOperation, IsBit, IsSound, IsUnit, is_store, kind_bits, pointers, term_at, terms_of, TakeEarlier, TermsMean, unit_bits, value_bits}
-use Rattle.vg_shapes.specs.Units.{arguments, integers, integers_of, is_integer, unit_at}
+use Rattle.vg_shapes.specs.Sound.{AreArguments, AreArgumentTerms, argument_key, AreUnitTerms, environment, IsNumber, IsOperation, IsBit, IsUnit, is_store, kind_bits, pointers, terms_of, TakeEarlier, TermsMean, unit_bits, value_bits}
+use Rattle.vg_shapes.specs.Units.{arguments, integers, integers_of, is_integer}
 use Rattle.vg_ssa.specs.Laws.{NumberedValuesAreSound}
 use Rattle.vg_ssa.specs.Numbering.{first_unit, IsNumbering, kind_of, numbered, param_of, units_from, units_of}
 use Rattle.vg_ssa.specs.ValueTerm.{argument_terms, no_term, terms_behind}
@@ -46,11 +46,10 @@ use Rattle.vg_ssa.proofs.Meaning.{Mean, run-means, run-more}
 use Rattle.vg_ssa.proofs.OperationTerms.{bits-width}
 use Rattle.vg_ssa.proofs.Terms.{leaf-term, Stand, terms_after, terms-behind, terms-both, terms-long, unit-terms, units-fit}
 use Rattle.vg_ssa.proofs.TypedUnits.{Held, statements-typed}
-use Rattle.vg_ssa.proofs.Typing.{behind, behind-both, BitIn, number-stays, NumberIn, bit-stays, OperationIn, UnitIn, UnitsIn}
-use Rattle.vg_terms.specs.declared.term.LeafKey.{LeafKey}
+use Rattle.vg_ssa.proofs.Typing.{behind, BitIn, number-stays, NumberIn, bit-stays, OperationIn, UnitIn, UnitsIn}
 use Rattle.vg_terms.specs.declared.value.Env.{Env}
 use Rattle.vg_terms.specs.Term.{Tree, IsWidth, leaf}
-use Rattle.vg_terms.specs.Value.{number_at, value}
+use Rattle.vg_terms.specs.Value.{value}
 
 -- ---- parameters
 
@@ -131,10 +130,12 @@ value-at ps us v = by (nat_lt v (length ps)) refl
     front [] v = refl
     front (p ∷ ps) zero = refl
     front (p ∷ ps) (suc v) = front ps v
+
     back : (us : List Work) (v : ℕ) → (slice_get us v >>= unit_bits) ≡ slice_index_or (map unit_bits us) v None
     back [] v = refl
     back (u ∷ us) zero = refl
     back (u ∷ us) (suc v) = back us v
+
     by : (b : Bool) → nat_lt v (length ps) ≡ b
         → (if nat_lt v (length ps) then option_map (λ p. kind_bits p.kind) (slice_get ps v) else (if nat_lt v (length ps) then None else slice_get us (v - length ps)) >>= unit_bits)
         ≡ slice_index_or (behind (widths ps) us) v None
@@ -165,6 +166,7 @@ operation-sound ssa bits more op w k xs same = by op
   where
     n : (w : Width) (x : Wanted) → NumberIn bits w x → IsNumber ssa w x
     n w x h = number-sound ssa (bits ++ more) w x same (number-stays bits more w x h)
+
     by : (op : Operator) → OperationIn bits op w k xs → IsOperation ssa op w k xs
     by (Two op) h = (h.0, n w xs.first h.1, n w xs.second h.2, h.3)
     by (Shift op) h = (h.0, n w xs.first h.1, h.2, h.3)
@@ -179,9 +181,10 @@ unit-sound ssa bits more (Operation op w k xs) same h = operation-sound ssa bits
 
 units-sound : (ssa : Ssa) (bits : List (Option ℕ)) (us : List Work) → ((v : ℕ) → value_bits ssa v ≡ slice_index_or (behind bits us) v None) → UnitsIn (length (pointers ssa)) bits us → AllByRecursion (IsUnit ssa) us
 units-sound ssa bits [] same h = tt
-units-sound ssa bits (u ∷ us) same h =
-    (unit-sound ssa bits (map unit_bits (u ∷ us)) u same h.0,
-      units-sound ssa (bits ++ unit_bits u ∷ []) us (λ v. same v ∙ ap (λ l. slice_index_or l v None) (sym (append_assoc bits (unit_bits u ∷ []) (map unit_bits us)))) h.1)
+units-sound ssa bits (u ∷ us) same h = (
+  unit-sound ssa bits (map unit_bits (u ∷ us)) u same h.0,
+  units-sound ssa (bits ++ unit_bits u ∷ []) us (λ v. same v ∙ ap (λ l. slice_index_or l v None) (sym (append_assoc bits (unit_bits u ∷ []) (map unit_bits us)))) h.1,
+)
 
 -- ---- the limits
 
@@ -325,7 +328,7 @@ front-means ssa terms us vs places memory args r h split bytes fit run v l =
     let read : ReadArguments env.pairs 0 args = subst (ReadArguments env.pairs 0) taken (of-arguments first (take first r.numbers) (drop first r.numbers) ssa.units) in
     let whole : ReadUnits env.pairs first ssa.units (drop first r.numbers) = of-units first (take first r.numbers) (drop first r.numbers) ssa.units (ap length taken ∙ count) in
     let reads : ReadUnits env.pairs (length args) us (drop (length args) r.numbers) =
-        subst (λ n. ReadUnits env.pairs n us (drop n r.numbers)) (sym count) (read-front env.pairs first us vs (drop first r.numbers) (subst (λ l. ReadUnits env.pairs first l (drop first r.numbers)) (sym split) whole)) in
+    subst (λ n. ReadUnits env.pairs n us (drop n r.numbers)) (sym count) (read-front env.pairs first us vs (drop first r.numbers) (subst (λ l. ReadUnits env.pairs first l (drop first r.numbers)) (sym split) whole)) in
     let begun : Mean env first bits terms args = record {
       long = count ∙ sym wide;
       each = arguments-mean env 0 (integers ssa) terms args h.leaves fit read;

@@ -1,8 +1,7 @@
 -- The terms of the values of typed units: each has the width of its value, and each operation can take those of its operands.
-use Rattle.std.proofs.Common.{◌≡◌, ℕ, zero, suc, ◌+◌, ◌<◌, ◌≤◌, ◌^◌, Bool, true, false, List, [], ◌∷◌, ◌++◌, length, map, Option, Some, None, refl, sym, ap, subst, ◌∙◌, arith, append_assoc, append-nil}
-use Rattle.std.specs.Prelude.{nat_le, nat_lt, pos, slice_index_or, if◌then◌else◌}
-use Rattle.std.proofs.lemmas.List.{get_or_push, get_or_append_left, length-append, length_push}
-use Rattle.vg_base.specs.declared.address.Address.{Address}
+use Rattle.std.proofs.Common.{◌≡◌, ℕ, zero, suc, ◌+◌, ◌<◌, ◌^◌, Bool, true, false, List, [], ◌∷◌, ◌++◌, length, Option, Some, None, refl, sym, subst, ◌∙◌, arith, append_assoc, append-nil}
+use Rattle.std.specs.Prelude.{nat_le, nat_lt, slice_index_or, if◌then◌else◌}
+use Rattle.std.proofs.lemmas.List.{length_push}
 use Rattle.vg_base.specs.declared.width.Width.{Width}
 use Rattle.vg_base.specs.Width.{bits_of}
 use Rattle.vg_canon.proofs.Steps.{leaf-finished, constant-finished}

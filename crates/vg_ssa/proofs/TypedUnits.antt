@@ -1,9 +1,8 @@
 -- The operands of the units of a kernel have the widths that the units want.
-use Rattle.std.proofs.Common.{◌≡◌, ℕ, zero, suc, ◌+◌, ◌<◌, ◌^◌, List, [], ◌∷◌, ◌++◌, length, map, Option, Some, None, refl, sym, ap, subst, ◌∙◌, arith, append_assoc, append-nil}
+use Rattle.std.proofs.Common.{◌≡◌, ℕ, zero, suc, ◌+◌, List, [], ◌∷◌, ◌++◌, length, map, Option, Some, None, refl, sym, ap, subst, ◌∙◌, arith, append-nil}
 use Rattle.std.specs.Prelude.{IsTrue, slice_get, slice_index_or}
 use Rattle.std.proofs.lemmas.Bool.{ltb-true}
-use Rattle.std.proofs.lemmas.List.{get_or_push, length-append, length-map, length_push, map-append}
-use Rattle.vg_base.specs.Offset.{IsAddress}
+use Rattle.std.proofs.lemmas.List.{get_or_push, length_push}
 use Rattle.vg_base.specs.declared.width.Width.{Width}
 use Rattle.vg_base.specs.Width.{bits_of}
 use Rattle.vg_kernel.specs.declared.parameter.KParam.{KParam}
@@ -14,13 +13,11 @@ use Rattle.vg_kernel.specs.Tree.{Expression, argument, assigned, literal, load, 
 use Rattle.vg_kernel.specs.WellFormed.{AreStatements, integer_widths, IsExpression, pointers}
 use Rattle.vg_scalar.specs.declared.resize.Resize.{Resize}
 use Rattle.vg_scalar.specs.declared.resize.Resize.TheVariants.{Sext, Zext, Trunc}
-use Rattle.vg_shapes.specs.declared.unit.Operands.{Operands}
-use Rattle.vg_shapes.specs.declared.unit.Operator.{Operator}
 use Rattle.vg_shapes.specs.declared.unit.Operator.TheVariants.{Two, Shift, Resize as ToWidth, Compare, Select}
 use Rattle.vg_shapes.specs.declared.unit.Unit.{Unit as Work}
 use Rattle.vg_shapes.specs.declared.unit.Unit.TheVariants.{Load, Store, Operation}
 use Rattle.vg_shapes.specs.declared.wanted.Wanted.{Wanted}
-use Rattle.vg_shapes.specs.declared.wanted.Wanted.TheVariants.{Value, Constant, Nothing}
+use Rattle.vg_shapes.specs.declared.wanted.Wanted.TheVariants.{Value, Nothing}
 use Rattle.vg_shapes.specs.Sound.{IsChange, unit_bits}
 use Rattle.vg_ssa.specs.Numbering.{Numbered, numbered, operands, units_from}
 use Rattle.vg_ssa.proofs.Typing.{behind, behind-both, behind-long, bit-stays, BitIn, number-stays, NumberIn, stays, UnitIn, units-both, UnitsIn}
@@ -54,9 +51,9 @@ typed-one : (count n : ℕ) (bits : List (Option ℕ)) (us : List Work) (u : Wor
 typed-one count n bits us u t long h g e = record {
   units = units-both count bits us (u ∷ []) h (g, tt);
   value = value-typed (behind bits (us ++ u ∷ [])) t (n + length us)
-  (ap (λ l. slice_index_or l (n + length us) None) (behind-both bits us (u ∷ []))
-    ∙ get_or_push (behind bits us) (unit_bits u) None (n + length us) (let l = behind-long bits us in omega arith)
-    ∙ e);
+      (ap (λ l. slice_index_or l (n + length us) None) (behind-both bits us (u ∷ []))
+      ∙ get_or_push (behind bits us) (unit_bits u) None (n + length us) (let l = behind-long bits us in omega arith)
+      ∙ e);
 }
 
 -- two integers of one width
@@ -180,7 +177,7 @@ statements-typed params given names n bits (assign e ∷ ss) good held long =
     let first = typed params given names n bits e good.0.0 held long in
     units-both (length (pointers params)) bits p.units (units_from (n + length p.units) (names ++ p.value ∷ []) ss) first.units
     (statements-typed params (given ++ gives (assign e)) (names ++ p.value ∷ []) (n + length p.units) (behind bits p.units) ss good.1
-      (held-named params given names (behind bits p.units) (type_of e) p.value (held-more params given names bits (map unit_bits p.units) held) first.value) (omega arith))
+    (held-named params given names (behind bits p.units) (type_of e) p.value (held-more params given names bits (map unit_bits p.units) held) first.value) (omega arith))
 statements-typed params given names n bits (store w a e ∷ ss) good held long =
     let c = length (pointers params) in
     let p = numbered n names e in

@@ -1,13 +1,10 @@
 -- When operands of units have the widths that the units want.
-use Rattle.std.proofs.Common.{◌≡◌, ℕ, zero, suc, ◌+◌, ◌<◌, ◌^◌, List, [], ◌∷◌, ◌++◌, length, map, Option, Some, None, refl, sym, ap, subst, ◌∙◌, arith, append_assoc, append-nil}
-use Rattle.std.specs.Prelude.{IsTrue, slice_get, slice_index_or}
-use Rattle.std.proofs.lemmas.Bool.{ltb-true}
-use Rattle.std.proofs.lemmas.List.{get_or_push, length-append, length-map, length_push, map-append}
+use Rattle.std.proofs.Common.{◌≡◌, ℕ, zero, suc, ◌+◌, ◌<◌, ◌^◌, List, [], ◌∷◌, ◌++◌, length, map, Option, Some, None, sym, ap, subst, ◌∙◌, append_assoc, append-nil}
+use Rattle.std.specs.Prelude.{slice_index_or}
+use Rattle.std.proofs.lemmas.List.{length-append, length-map, map-append}
 use Rattle.vg_base.specs.Offset.{IsAddress}
 use Rattle.vg_base.specs.declared.width.Width.{Width}
 use Rattle.vg_base.specs.Width.{bits_of}
-use Rattle.vg_scalar.specs.declared.resize.Resize.{Resize}
-use Rattle.vg_scalar.specs.declared.resize.Resize.TheVariants.{Sext, Zext, Trunc}
 use Rattle.vg_shapes.specs.declared.unit.Operands.{Operands}
 use Rattle.vg_shapes.specs.declared.unit.Operator.{Operator}
 use Rattle.vg_shapes.specs.declared.unit.Operator.TheVariants.{Two, Shift, Resize as ToWidth, Compare, Select}
@@ -76,4 +73,3 @@ pub units-both : (count : ℕ) (bits : List (Option ℕ)) (us vs : List Work) �
 units-both count bits [] vs h g = subst (λ l. UnitsIn count l vs) (append-nil bits) g
 units-both count bits (u ∷ us) vs h g =
     (h.0, units-both count (bits ++ unit_bits u ∷ []) us vs h.1 (subst (λ l. UnitsIn count l vs) (sym (append_assoc bits (unit_bits u ∷ []) (map unit_bits us))) g))
-

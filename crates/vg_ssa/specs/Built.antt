@@ -14,8 +14,8 @@ use Rattle.vg_ssa.specs.Numbering.{found, Numbered, numbered, operands}
 use Rattle.vg_ssa.specs.ValueTerm.{terms_behind}
 use Rattle.vg_terms.specs.Term.{Tree, tree}
 
--- the number of the first unit, the units so far, the terms of all values so far, and what stands for the
--- names that statements gave
+-- the number of the first unit, the units and the terms of all values so far, and what stands for
+-- the names that statements gave
 pub record Built : Type 0 where
   pub first : ℕ
   pub units : List Work
@@ -70,7 +70,8 @@ abbrev pub pair_in : Built → Operator → Width → Expression → Expression 
 pair_in b op w x y =
     let p = numbered_in b x in
     let q = numbered (length b.terms + length p.units) b.names y in
-    found (length b.terms) (p.units ++ q.units) (Operation op w 0 (operands p.value q.value Nothing))
+    found (length b.terms) (p.units ++ q.units)
+    (Operation op w 0 (operands p.value q.value Nothing))
 
 abbrev pub choice_in : Built → Width → Expression → Expression → Expression → Numbered
 choice_in b w c x y =

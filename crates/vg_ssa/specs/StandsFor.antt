@@ -10,8 +10,8 @@ use Rattle.vg_shapes.specs.RunUnits.{run_units, start_of}
 use Rattle.vg_shapes.specs.Units.{arguments}
 use Rattle.vg_ssa.specs.Laws.{access_of}
 
--- The units leave the memory that the kernel leaves, and trap where it traps; they make its accesses in
--- the same order, and the layouts that respect noalias are the same.
+-- The units leave the memory that the kernel leaves, and trap where it traps; they make its accesses
+-- in the same order, and the layouts that respect noalias are the same.
 pub record StandsFor (k : Tree) (ssa : Ssa) : Type 0 where
   pub runs :
       (memory places args : List ℕ) → length args ≡ arguments ssa →

@@ -38,10 +38,13 @@ impl Values {
                 width: width.bits(),
                 value: *number as u128,
             }),
-            KExpr::Load { width, address } => self.push(alloc, Unit::Load {
-                address: *address,
-                width: *width,
-            }),
+            KExpr::Load { width, address } => self.push(
+                alloc,
+                Unit::Load {
+                    address: *address,
+                    width: *width,
+                },
+            ),
             KExpr::Two {
                 op,
                 width,
@@ -102,12 +105,15 @@ impl Values {
             second: Wanted::Nothing,
             third: Wanted::Nothing,
         };
-        self.push(alloc, Unit::Operation {
-            op,
-            width,
-            amount,
-            operands,
-        })
+        self.push(
+            alloc,
+            Unit::Operation {
+                op,
+                width,
+                amount,
+                operands,
+            },
+        )
     }
 
     // An operation on two expressions.
@@ -133,12 +139,15 @@ impl Values {
             second,
             third: Wanted::Nothing,
         };
-        self.push(alloc, Unit::Operation {
-            op,
-            width,
-            amount: 0,
-            operands,
-        })
+        self.push(
+            alloc,
+            Unit::Operation {
+                op,
+                width,
+                amount: 0,
+                operands,
+            },
+        )
     }
 
     // A choice by one expression between two.
@@ -166,12 +175,15 @@ impl Values {
             second,
             third,
         };
-        self.push(alloc, Unit::Operation {
-            op: Operator::Select,
-            width,
-            amount: 0,
-            operands,
-        })
+        self.push(
+            alloc,
+            Unit::Operation {
+                op: Operator::Select,
+                width,
+                amount: 0,
+                operands,
+            },
+        )
     }
 
     // Numbers a statement: a name stands for what its expression gives, or that is stored.
@@ -209,11 +221,14 @@ impl Values {
             ≡ after_statement (built self.old) (store width address (expression_of stored.now))) }
     {
         let value = self.number(alloc, stored)?;
-        let _none = self.push(alloc, Unit::Store {
-            address,
-            width,
-            value,
-        })?;
+        let _none = self.push(
+            alloc,
+            Unit::Store {
+                address,
+                width,
+                value,
+            },
+        )?;
         Ok(())
     }
 

@@ -9,8 +9,8 @@ mod numbering;
 mod operations;
 mod values;
 
-pub use numbering::number_values;
-
 pub use law::{
-    layouts_are_the_same, numbered_values_are_sound, units_are_counted, units_run_as_kernels, units_take_earlier_values,
+    layouts_are_the_same, numbered_values_are_sound, units_are_counted, units_run_as_kernels,
+    units_take_earlier_values,
 };
+pub use numbering::number_values;

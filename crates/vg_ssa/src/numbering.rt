@@ -13,8 +13,8 @@ use vg_base::Items;
 use vg_kernel::{KParam, KParamKind, Kernel};
 use vg_shapes::{Ssa, SsaParam, SsaParamKind};
 
-/// A kernel as numbered values: its loads, operations and stores in the order in which they run, and
-/// for each value its canonical term, in which operands are cut past 128 nodes.
+/// A kernel as numbered values: its loads, operations and stores in the order in which they run,
+/// and for each value its canonical term, in which operands are cut past 128 nodes.
 ///
 /// The units leave the memory that the kernel leaves and trap where it traps, the accesses are the
 /// same, and the layouts that respect noalias are the same. Fails for want of memory alone.

@@ -40,13 +40,7 @@ pub(crate) fn operation(
 }
 
 // An operation on two canonical terms.
-fn settled_two(
-    alloc: Global,
-    op: TermOp,
-    width: u32,
-    x: Term,
-    y: Term,
-) -> Result<Term, AllocError>
+fn settled_two(alloc: Global, op: TermOp, width: u32, x: Term, y: Term) -> Result<Term, AllocError>
     requires well_formed { WellFormed (two op width (tree x) (tree y)) }
     requires first { IsCanonical (tree x) }
     requires second { IsCanonical (tree y) }
@@ -120,13 +114,7 @@ fn shift(alloc: Global, op: Shift, width: u32, amount: u32, x: Term) -> Result<T
     }
 }
 
-fn resize(
-    alloc: Global,
-    op: Resize,
-    width: Width,
-    from: Width,
-    x: Term,
-) -> Result<Term, AllocError>
+fn resize(alloc: Global, op: Resize, width: Width, from: Width, x: Term) -> Result<Term, AllocError>
     requires change { IsChange op width from }
     requires operand { IsTermOf (bits_of from) (tree x) }
     ensures { IfOk result (λ t. tree t ≡ canonical (resize_term op (bits_of width) (tree x))) }

@@ -52,7 +52,8 @@ impl Values {
     /// One unit more, with the term of its value. Gives the value.
     pub(crate) fn push(&mut self, alloc: Global, unit: Unit) -> Result<Wanted, AllocError>
         requires { CanTake (built self.old) (unit ∷ []) }
-        ensures built { IfOk result (λ x. built self.new ≡ with_units (built self.old) (unit ∷ [])) }
+        ensures built { IfOk result
+            (λ x. built self.new ≡ with_units (built self.old) (unit ∷ [])) }
         ensures value { IfOk result (λ x. x ≡ Wanted.Value (length (built self.old).terms)) }
     {
         let number = self.terms.len() as u32;
@@ -66,7 +67,8 @@ impl Values {
     fn unit_term(&self, alloc: Global, unit: &Unit) -> Result<Term, AllocError>
         requires few { length (built self.now).terms < 2 ^ 32 }
         requires fit { UnitFits (built self.now).first (built self.now).terms unit.now }
-        ensures { IfOk result (λ t. tree t ≡ unit_term (built self.now).first (built self.now).terms unit.now) }
+        ensures { IfOk result (λ t. tree t
+            ≡ unit_term (built self.now).first (built self.now).terms unit.now) }
     {
         match *unit {
             Unit::Load { address, width } => {
@@ -95,7 +97,8 @@ impl Values {
         requires whole { Fit (operand_term (built self.now).terms) op width amount xs }
         requires cut { Fit (cut_term (built self.now).first (built self.now).terms) op width amount xs }
         ensures { IfOk result (λ t. tree t
-            ≡ unit_term (built self.now).first (built self.now).terms (Unit.Operation op width amount xs)) }
+            ≡ unit_term (built self.now).first (built self.now).terms
+            (Unit.Operation op width amount xs)) }
     {
         let first = self.whole(alloc, xs.first)?;
         let second = self.whole(alloc, xs.second)?;
@@ -118,7 +121,8 @@ impl Values {
     ) -> Result<Term, AllocError>
         requires { Fit (cut_term (built self.now).first (built self.now).terms) op width amount xs }
         ensures { IfOk result (λ t. tree t
-            ≡ over_operands (cut_term (built self.now).first (built self.now).terms) op (bits_of width) amount xs) }
+            ≡ over_operands (cut_term (built self.now).first (built self.now).terms) op
+            (bits_of width) amount xs) }
     {
         let first = self.cut(alloc, xs.first)?;
         let second = self.cut(alloc, xs.second)?;
@@ -139,7 +143,8 @@ impl Values {
 
     // The same, where the value of a unit is a leaf.
     fn cut(&self, alloc: Global, x: Wanted) -> Result<Term, AllocError>
-        ensures { IfOk result (λ t. tree t ≡ cut_term (built self.now).first (built self.now).terms x) }
+        ensures { IfOk result
+            (λ t. tree t ≡ cut_term (built self.now).first (built self.now).terms x) }
     {
         match x {
             Wanted::Value(value) => {
@@ -218,7 +223,8 @@ fn cut_key(value: u32) -> LeafKey
 // The terms of the integer parameters, in their order.
 fn argument_terms(alloc: Global, params: &[KParam]) -> Result<Vec<Term>, AllocError>
     requires { length params.now ≤ 16 }
-    ensures { IfOk result (λ terms. map tree terms.items ≡ argument_terms 0 (integer_widths params.now)) }
+    ensures { IfOk result
+        (λ terms. map tree terms.items ≡ argument_terms 0 (integer_widths params.now)) }
 {
     let mut terms = Vec::new(alloc);
     let mut rest = params;

@@ -5,12 +5,12 @@ use std::alloc::Global;
 use std::process::Abort;
 use std::test::Fail;
 
-// A kernel of many statements. Statement i has the number i + 1 behind the first piece, i behind the
-// second and 8 i behind the third.
+// A kernel of many statements. Statement i has the number i + 1 behind the first piece, i behind
+// the second and 8 i behind the third.
 struct Large {
     head: &'static str,
     pieces: [&'static str; 4],
-    statements: u64,
+    statements: u32,
     units: usize,
 }
 
@@ -57,7 +57,9 @@ fn written(alloc: Global, large: &Large) -> Result<String, Fail> {
     let mut text = String::from_str(alloc, large.head)?;
     let [first, second, third, last] = large.pieces;
     for i in 0..large.statements {
-        let line = format!(in alloc; "{first}{}{second}{i}{third}{}{last}", i + 1, 8 * i)?;
+        let number = i as u64;
+        let (next, offset) = (number + 1, 8 * number);
+        let line = format!(in alloc; "{first}{next}{second}{number}{third}{offset}{last}")?;
         text.push_str(line.as_str())?;
     }
     text.push_str(" }")?;

@@ -1,8 +1,8 @@
 //! The terms of the values of small kernels.
 
 use crate::numbered::{lines, numbered};
-use std::process::Abort;
 use std::alloc::Global;
+use std::process::Abort;
 use std::test::Fail;
 
 // A kernel, and the terms of its values in order.

@@ -2,7 +2,7 @@ use Rattle.std.proofs.Common.{◌≡◌, ◌++◌, length, map, sym, ap, subst, 
 use Rattle.vg_kernel.specs.Tree.{statement_of, tree_of}
 use Rattle.vg_shapes.specs.declared.ssa.Ssa.{Ssa}
 use Rattle.vg_ssa.specs.Built.{built, CanTake}
-use Rattle.vg_ssa.specs.Numbering.{IsNumbering, param_of, units_from}
+use Rattle.vg_ssa.specs.Numbering.{param_of, units_from}
 use Rattle.vg_ssa.specs.ValueTerm.{terms_behind}
 use Rattle.vg_ssa.proofs.Enough.{begun, kernel-room, numbering-is, stands-for}
 use Rattle.vg_ssa.proofs.Soundness.{numbered-values-are-sound}

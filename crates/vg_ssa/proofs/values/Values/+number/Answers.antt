@@ -1,4 +1,4 @@
-use Rattle.std.proofs.Common.{[], ◌∷◌, ◌++◌, ap, arith}
+use Rattle.std.proofs.Common.{[], ◌∷◌, ◌++◌, arith}
 use Rattle.vg_kernel.specs.Tree.{expression_of}
 use Rattle.vg_shapes.specs.declared.unit.Operator.TheVariants.{Select}
 use Rattle.vg_shapes.specs.declared.unit.Unit.TheVariants.{Operation}
@@ -79,9 +79,11 @@ number_choice-number-requires-2 t c =
     let o = numbered_in b (expression_of c.args.c.now) in
     let p = behind_units b o.units (expression_of c.args.x.now) in
     let q = behind_units b (o.units ++ p.units) (expression_of c.args.y.now) in
-    let g = c.in_ok-first.ensures in
-    (omega (arith, c.decreases), can-number b (built c.number.new.self) o.units (expression_of c.args.x.now) g.built
-      (take-front b (o.units ++ p.units) q.units (take-front b ((o.units ++ p.units) ++ q.units) (Operation Select c.args.width 0 (operands o.value p.value q.value) ∷ []) c.requires)))
+    let g = c.in_ok-first.ensures in (
+      omega (arith, c.decreases),
+      can-number b (built c.number.new.self) o.units (expression_of c.args.x.now) g.built
+          (take-front b (o.units ++ p.units) q.units (take-front b ((o.units ++ p.units) ++ q.units) (Operation Select c.args.width 0 (operands o.value p.value q.value) ∷ []) c.requires)),
+    )
 
 pub number_choice-number-requires-3 : goal.number_choice-number-requires-3
 number_choice-number-requires-3 t c =
@@ -90,9 +92,11 @@ number_choice-number-requires-3 t c =
     let p = behind_units b o.units (expression_of c.args.x.now) in
     let q = behind_units b (o.units ++ p.units) (expression_of c.args.y.now) in
     let g = c.in_ok-first.ensures in
-    let f = further b (built c.number.new.self) (built c.number-2.new.self) o.units (expression_of c.args.x.now) c.in_ok-second.second g.built c.in_ok-second.ensures in
-    (omega (arith, c.decreases), can-number b (built c.number-2.new.self) (o.units ++ p.units) (expression_of c.args.y.now) f.0
-      (take-front b ((o.units ++ p.units) ++ q.units) (Operation Select c.args.width 0 (operands o.value p.value q.value) ∷ []) c.requires))
+    let f = further b (built c.number.new.self) (built c.number-2.new.self) o.units (expression_of c.args.x.now) c.in_ok-second.second g.built c.in_ok-second.ensures in (
+      omega (arith, c.decreases),
+      can-number b (built c.number-2.new.self) (o.units ++ p.units) (expression_of c.args.y.now) f.0
+          (take-front b ((o.units ++ p.units) ++ q.units) (Operation Select c.args.width 0 (operands o.value p.value q.value) ∷ []) c.requires),
+    )
 
 pub number_choice-push-requires : goal.number_choice-push-requires
 number_choice-push-requires t c =

@@ -1,7 +1,6 @@
-use Rattle.std.proofs.Common.{◌≡◌, [], length, map, sym, ap, ◌∙◌}
+use Rattle.std.proofs.Common.{◌≡◌, length, sym, ap, ◌∙◌}
 use Rattle.std.proofs.lemmas.List.{length-map}
 use Rattle.vg_kernel.specs.WellFormed.{integer_widths}
-use Rattle.vg_ssa.specs.Built.{Built}
 use Rattle.vg_ssa.proofs.Soundness.{arguments-long}
 use Rattle.vg_terms.specs.Term.{tree}
 use Rattle.vg_ssa.proofs.values.Values.new.Goals as goal

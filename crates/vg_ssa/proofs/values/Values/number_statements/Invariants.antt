@@ -1,9 +1,7 @@
-use Rattle.std.proofs.Common.{◌≡◌, ◌++◌, length, map}
+use Rattle.std.proofs.Common.{length, map}
 use Rattle.vg_kernel.specs.Tree.{statement_of}
-use Rattle.vg_ssa.specs.Built.{built, CanTake}
-use Rattle.vg_ssa.specs.Numbering.{units_from}
-use Rattle.vg_ssa.specs.ValueTerm.{terms_behind}
-use Rattle.vg_ssa.proofs.Building.{left_units, Left}
+use Rattle.vg_ssa.specs.Built.{built}
+use Rattle.vg_ssa.proofs.Building.{Left}
 use Rattle.vg_ssa.proofs.values.Values.number_statements.Given as goal
 
 -- what was numbered and what is left are all

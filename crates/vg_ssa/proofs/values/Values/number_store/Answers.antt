@@ -1,4 +1,4 @@
-use Rattle.std.proofs.Common.{[], ◌∷◌, ◌++◌}
+use Rattle.std.proofs.Common.{[], ◌∷◌}
 use Rattle.vg_kernel.specs.Tree.{expression_of}
 use Rattle.vg_shapes.specs.declared.unit.Unit.TheVariants.{Store}
 use Rattle.vg_ssa.specs.Built.{built, numbered_in}
