@@ -1,5 +1,5 @@
 -- What leaves are bound to, and what one leaf more leaves as it was.
-use Rattle.std.proofs.Common.{◌≡◌, ℕ, ◌⊎◌, Bool, true, false, List, [], ◌∷◌, ◌++◌, Option, Some, None, cond, refl, sym, ap, subst, ◌∙◌, inl, inr, arith, append-nil}
+use Rattle.std.proofs.Common.{◌≡◌, ℕ, ◌⊎◌, Bool, true, false, List, [], ◌∷◌, ◌++◌, Some, None, refl, sym, ap, subst, ◌∙◌, inl, inr, append-nil}
 use Rattle.std.specs.Prelude.{◌&&◌, nat_eq}
 use Rattle.std.specs.Ordering.{int_eq}
 use Rattle.std.specs.List.{AllByRecursion}
@@ -13,6 +13,8 @@ use Rattle.vg_shapes.specs.declared.wanted.Wanted.{Wanted}
 use Rattle.vg_shapes.specs.declared.wanted.Wanted.TheVariants.{Value, Constant, Nothing}
 use Rattle.vg_shapes.specs.Fits.{same_leaf, wanted_for}
 use Rattle.vg_match.specs.Fit.{bind, same_wanted}
+use Rattle.std.proofs.lemmas.Option.{none-some}
+use Rattle.vg_match.proofs.Members.{some-same}
 
 -- ---- tests that hold of one thing alone
 
@@ -153,12 +155,6 @@ pub record Binds (w : ℕ) (k : LeafKey) (x : Wanted) (bound after : List Bound)
   pub keeps : (u : ℕ) (l : LeafKey) → IsBound bound u l → wanted_for after u l ≡ wanted_for bound u l
   pub is : wanted_for after w k ≡ x
   pub something : same_wanted x Nothing ≡ false
-
-none-some : {X : Type 0} (x : X) → None ≡ Some x → ⊥
-none-some x e = cc
-
-some-same : {X : Type 0} (x y : X) → Some x ≡ Some y → x ≡ y
-some-same x y e = cc
 
 pub bind-binds : (w : ℕ) (k : LeafKey) (x : Wanted) (bound after : List Bound) → Good bound → bind w k x bound ≡ Some after → Binds w k x bound after
 unfolding bind

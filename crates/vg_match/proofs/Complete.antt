@@ -1,5 +1,5 @@
 -- Where the leaves of the term of a lane can be replaced, it fits.
-use Rattle.std.proofs.Common.{◌≡◌, ℕ, ◌⊎◌, Bool, true, false, List, [], ◌∷◌, ◌++◌, Option, Some, None, cond, refl, sym, ap, subst, ◌∙◌, inl, inr}
+use Rattle.std.proofs.Common.{◌≡◌, ℕ, ◌⊎◌, false, List, [], ◌∷◌, ◌++◌, Some, refl, sym, ap, ◌∙◌, inl, inr}
 use Rattle.std.specs.Prelude.{◌&&◌, nat_eq}
 use Rattle.std.specs.Option.{option_and_then}
 use Rattle.std.proofs.lemmas.Bool.{cases_Bool, and_from, eq-eqb, cond-true}
@@ -10,11 +10,10 @@ use Rattle.vg_terms.specs.Order.{is_same_term, one_tag, two_tag}
 use Rattle.vg_terms.specs.Term.{Tree, leaf, constant, one, two, sel, width_of}
 use Rattle.vg_terms.proofs.Orders.{same_term-means}
 use Rattle.vg_shapes.specs.declared.match_table.Bound.{Bound}
-use Rattle.vg_shapes.specs.declared.wanted.Wanted.{Wanted}
-use Rattle.vg_shapes.specs.declared.wanted.Wanted.TheVariants.{Value, Constant, Nothing}
+use Rattle.vg_shapes.specs.declared.wanted.Wanted.TheVariants.{Nothing}
 use Rattle.vg_shapes.specs.Fits.{EachLeaf, replaced, wanted_for}
 use Rattle.vg_match.specs.Fit.{bind, fit, same_wanted, standing}
-use Rattle.vg_match.proofs.Binding.{behind, bind-again, bind-new, entry, wanted-itself, wanted-same}
+use Rattle.vg_match.proofs.Binding.{behind, bind-again, bind-new, entry, wanted-itself}
 
 module _ (terms : List Tree) (v : ℕ) (by : ℕ → LeafKey → Tree) where
   -- each leaf that is bound is bound to what stands for its term

@@ -1,6 +1,6 @@
 -- Laws on matches.
-use Rattle.std.proofs.Common.{◌≡◌, ℕ, ◌<◌, ◌≤◌, Bool, true, false, List, [], ◌∷◌, Option, Some, None, length, get_or, refl, sym, ap, subst, ◌∙◌, ◌%◌, ◌^◌, inl, inr, arith}
-use Rattle.std.specs.Prelude.{◌&&◌, find, nat_eq, slice_index, take}
+use Rattle.std.proofs.Common.{◌≡◌, ℕ, ◌<◌, List, [], ◌∷◌, Some, None, length, sym, ap, subst, ◌∙◌, ◌%◌, ◌^◌, inl, inr, arith}
+use Rattle.std.specs.Prelude.{◌&&◌, nat_eq, slice_index}
 use Rattle.std.specs.List.{AllByRecursion}
 use Rattle.std.proofs.lemmas.Bool.{cases_Bool, cond-true, cond-false, and_parts, eqb-true}
 use Rattle.vg_terms.specs.declared.term.LeafKey.{LeafKey}
@@ -12,23 +12,18 @@ use Rattle.vg_shapes.specs.declared.match_table.Match.{Match}
 use Rattle.vg_shapes.specs.declared.ssa.Ssa.{Ssa}
 use Rattle.vg_shapes.specs.declared.wanted.Wanted.{Wanted}
 use Rattle.vg_shapes.specs.declared.wanted.Wanted.TheVariants.{Value, Constant, Nothing}
-use Rattle.vg_shapes.specs.Description.{Description}
 use Rattle.vg_shapes.specs.Fits.{EachLeaf, Fits, replaced, StandsFor, wanted_for}
-use Rattle.vg_shapes.specs.Matches.{AreMatches, IsMatch, lane_at}
+use Rattle.vg_shapes.specs.Matches.{IsMatch, lane_at}
 use Rattle.vg_shapes.specs.Pack.{match_at}
-use Rattle.vg_shapes.specs.Registers.{AllBits, bits_key, env_of, readings_from}
+use Rattle.vg_shapes.specs.Registers.{AllBits, env_of, readings_from}
 use Rattle.vg_shapes.specs.RunUnits.{number_of}
-use Rattle.vg_shapes.specs.Sound.{environment, IsEarlier, term_at, terms_of}
+use Rattle.vg_shapes.specs.Sound.{environment, IsEarlier}
 use Rattle.vg_shapes.proofs.Readings.{leaves-read}
 use Rattle.vg_shapes.proofs.Replacing.{replaced-value}
 use Rattle.vg_match.specs.Laws.{BoundEarlier, FoundFit, HasNumber, LanesHaveNumbers, OneBinding, ReachedHave, TermsHave}
+use Rattle.std.proofs.lemmas.Option.{none-some}
+use Rattle.vg_match.proofs.Members.{some-same}
 use Rattle.vg_match.proofs.Standing.{stands-only}
-
-none-some : {X : Type 0} (x : X) → None ≡ Some x → ⊥
-none-some x e = cc
-
-some-same : {X : Type 0} (x y : X) → Some x ≡ Some y → x ≡ y
-some-same x y e = cc
 
 -- ---- what is found
 

@@ -2,6 +2,7 @@ pub mod Binding
 pub mod Complete
 pub mod Lanes
 pub mod Laws
+pub mod Members
 pub mod Right
 pub mod Roots
 pub mod Sorted

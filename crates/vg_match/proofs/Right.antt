@@ -1,13 +1,11 @@
 -- What is found to fit does, with what is bound.
-use Rattle.std.proofs.Common.{◌≡◌, ℕ, Bool, true, false, List, [], ◌∷◌, ◌++◌, Option, Some, None, cond, refl, sym, ap, subst, ◌∙◌, append_assoc, append-nil, get_or, inl}
+use Rattle.std.proofs.Common.{◌≡◌, ℕ, Bool, true, false, List, [], ◌∷◌, ◌++◌, Option, Some, None, refl, sym, ap, subst, ◌∙◌, append_assoc, append-nil, get_or, inl}
 use Rattle.std.specs.Prelude.{◌&&◌, ◌||◌, nat_eq, if◌then◌else◌}
 use Rattle.std.specs.List.{AllByRecursion, IsDistinct}
 use Rattle.std.specs.Option.{option_and_then}
 use Rattle.std.proofs.lemmas.Bool.{and_parts, or_left, or_right, eqb-true}
-use Rattle.std.proofs.lemmas.Option.{get_or_from_slice_get}
+use Rattle.std.proofs.lemmas.Option.{get_or_from_slice_get, none-some}
 use Rattle.vg_terms.specs.declared.term.LeafKey.{LeafKey}
-use Rattle.vg_terms.specs.declared.term.OneOp.{OneOp}
-use Rattle.vg_terms.specs.declared.term.TwoOp.{TwoOp}
 use Rattle.vg_terms.specs.Order.{is_same_term, one_tag, two_tag}
 use Rattle.vg_terms.specs.Term.{Tree, leaf, constant, one, two, sel, width_of}
 use Rattle.vg_terms.specs.Value.{same_key}
@@ -21,13 +19,8 @@ use Rattle.vg_shapes.specs.Sound.{term_at, terms_of}
 use Rattle.vg_match.specs.Fit.{bind, fit, same_wanted, standing}
 use Rattle.vg_match.proofs.Binding.{bind-binds, Good, IsBound, leaf-itself}
 use Rattle.vg_match.proofs.Standing.{stands-is, stands-only, stands-something}
-use Rattle.vg_match.proofs.Complete.{fits, FitsFrom, MayStand}
-
-none-some : {X : Type 0} (x : X) → None ≡ Some x → ⊥
-none-some x e = cc
-
-some-same : {X : Type 0} (x y : X) → Some x ≡ Some y → x ≡ y
-some-same x y e = cc
+use Rattle.vg_match.proofs.Members.{all-append, all-weaker, some-same}
+use Rattle.vg_match.proofs.Complete.{fits, MayStand}
 
 then-some : {X Y : Type 0} (f : X → Option Y) (o : Option X) (y : Y) → option_and_then f o ≡ Some y → (x : X) × (o ≡ Some x) × (f x ≡ Some y)
 then-some f None y e = absurd (none-some y e)
@@ -36,14 +29,6 @@ then-some f (Some x) y e = (x, refl, e)
 if-some : {X : Type 0} (c : Bool) (o : Option X) (y : X) → (if c then o else None) ≡ Some y → (c ≡ true) × (o ≡ Some y)
 if-some true o y e = (refl, e)
 if-some false o y e = absurd (none-some y e)
-
-all-weaker : (P Q : Bound → Type 0) → ((b : Bound) → P b → Q b) → (bs : List Bound) → AllByRecursion P bs → AllByRecursion Q bs
-all-weaker P Q f [] h = tt
-all-weaker P Q f (b ∷ bs) h = (f b h.0, all-weaker P Q f bs h.1)
-
-all-append : (P : Bound → Type 0) (bs cs : List Bound) → AllByRecursion P bs → AllByRecursion P cs → AllByRecursion P (bs ++ cs)
-all-append P [] cs h g = g
-all-append P (b ∷ bs) cs h g = (h.0, all-append P bs cs h.1 g)
 
 -- the term of what a leaf is bound to
 abbrev no_term : Tree

@@ -1,12 +1,13 @@
 -- The matches that are found are those of all lanes with all values that they fit, in order.
-use Rattle.std.proofs.Common.{◌≡◌, ℕ, zero, suc, ◌+◌, ◌<◌, ◌≤◌, Bool, true, false, List, [], ◌∷◌, ◌++◌, Option, Some, None, map, refl, sym, ap, subst, ◌∙◌, arith, inl, inr}
+use Rattle.std.proofs.Common.{◌≡◌, ℕ, zero, suc, ◌+◌, ◌≤◌, true, List, [], ◌∷◌, ◌++◌, Option, Some, None, map, refl, sym, ap, subst, ◌∙◌, arith}
 use Rattle.std.specs.Prelude.{◌&&◌, ◌||◌, nat_eq, nat_lt, filter, slice_get, IsSome}
 use Rattle.std.specs.List.{AllByRecursion, cons_option, filter_map}
 use Rattle.std.specs.Option.{option_map}
-use Rattle.std.proofs.lemmas.Bool.{lt-ltb, eq-eqb, and_from, or_left, or_right, or_cases, and_parts, ltb-true, eqb-true}
+use Rattle.std.proofs.lemmas.Bool.{lt-ltb, eq-eqb, and_from, or_left, or_right}
+use Rattle.std.proofs.lemmas.Option.{none-some}
 use Rattle.vg_base.specs.Trap.{◌>>=◌}
 use Rattle.vg_terms.specs.declared.term.LeafKey.{LeafKey}
-use Rattle.vg_terms.specs.Term.{Tree, leaf, constant, one, two, sel, tree}
+use Rattle.vg_terms.specs.Term.{Tree, leaf, constant, one, two, sel}
 use Rattle.vg_shapes.specs.declared.description.Description.{Description as Declared}
 use Rattle.vg_shapes.specs.declared.match_table.Bound.{Bound}
 use Rattle.vg_shapes.specs.declared.match_table.Match.{Match}
@@ -21,14 +22,9 @@ use Rattle.vg_match.specs.declared.lane_list.LaneAt.{LaneAt}
 use Rattle.vg_match.specs.Fit.{fit}
 use Rattle.vg_match.specs.LaneList.{all_lanes, has_root, root_of}
 use Rattle.vg_match.specs.Table.{lane_term, lane_trees, match_of, matches_from, value_matches}
-use Rattle.vg_match.proofs.Lanes.{Has, has-left, has-right, has-filter, has-filter_map, found-has, all-filter, all-filter_map, all-append, all-weaker, comes_before, Rising, rising-filter, all-rise, IsThere, all-there, all-listed, lane-same}
+use Rattle.vg_match.proofs.Members.{Has, has-left, has-right, has-filter, has-filter_map, found-has, all-filter, all-filter_map, all-append, all-weaker, some-same}
+use Rattle.vg_match.proofs.Lanes.{comes_before, Rising, rising-filter, all-rise, IsThere, all-there, all-listed, lane-same}
 use Rattle.vg_match.proofs.Right.{found-fits, fit-found}
-
-none-some : {X : Type 0} (x : X) → None ≡ Some x → ⊥
-none-some x e = cc
-
-some-same : {X : Type 0} (x y : X) → Some x ≡ Some y → x ≡ y
-some-same x y e = cc
 
 bind-some : {X Y : Type 0} (o : Option X) (f : X → Option Y) (y : Y) → (o >>= f) ≡ Some y → (x : X) × (o ≡ Some x) × (f x ≡ Some y)
 bind-some None f y e = absurd (none-some y e)

@@ -1,6 +1,5 @@
 -- Laws on matches.
 use Rattle.std.specs.Prelude.{◌≡◌, ◌<◌, ℕ, List, Some, length, slice_index, take, [], get_or}
-use Rattle.std.specs.List.{AllByRecursion}
 use Rattle.vg_base.specs.Bits.{num}
 use Rattle.vg_bits.specs.BitList.{IsBytes}
 use Rattle.vg_bits.specs.Range.{range}

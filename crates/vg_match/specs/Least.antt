@@ -2,7 +2,6 @@
 use Rattle.std.specs.Prelude.{◌≡◌, ℕ, ◌+◌, Bool, List, [], ◌∷◌, Option, position, filter, map}
 use Rattle.std.specs.List.Sorted.{IsSortedBy}
 use Rattle.std.specs.Ordering.{is_lt}
-use Rattle.vg_terms.specs.declared.term.Term.{Term}
 use Rattle.vg_terms.specs.Order.{is_same_term, order}
 use Rattle.vg_terms.specs.Term.{Tree, tree}
 use Rattle.vg_match.specs.declared.least.LeastValues.{LeastValues}
