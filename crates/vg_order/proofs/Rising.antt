@@ -14,7 +14,7 @@ use Rattle.vg_order.proofs.Building.{numbers_from-more}
 use Rattle.vg_order.proofs.Looks.{left-begin}
 
 -- numbers before the first and behind the last of a run, and those of it
-count_of-before : (x first n : ℕ) → x < first → count_of x (numbers_from first n) ≡ 0
+pub count_of-before : (x first n : ℕ) → x < first → count_of x (numbers_from first n) ≡ 0
 count_of-before x first zero h = refl
 count_of-before x first (suc n) h =
     let none : one_if (x == first) ≡ 0 = ap one_if (ne_eqb x first (λ e. absurd (omega arith))) in
