@@ -65,15 +65,19 @@ cycle-by ssa matches packs [] c = c
 cycle-by ssa matches packs (n ∷ ns) c = (c.0, leads-by ssa matches packs n n ns c.1)
 
 pub dependences-give_orders : DependencesGiveOrders
-dependences-give_orders ssa matches packs ns =
-    ((λ is. record { once = is.once; follows = follows-same (node_depends_by (dependences ssa) ssa matches packs) (node_depends ssa matches packs) (units_at packs) [] ns (node-same ssa matches packs) is.follows },
-    λ is. record { once = is.once; follows = follows-same (node_depends ssa matches packs) (node_depends_by (dependences ssa) ssa matches packs) (units_at packs) [] ns (λ n x. sym (node-same ssa matches packs n x)) is.follows }),
-    (cycle-to ssa matches packs ns, cycle-by ssa matches packs ns))
+dependences-give_orders ssa matches packs ns = (
+  (
+    λ is. record { once = is.once; follows = follows-same (node_depends_by (dependences ssa) ssa matches packs) (node_depends ssa matches packs) (units_at packs) [] ns (node-same ssa matches packs) is.follows },
+    λ is. record { once = is.once; follows = follows-same (node_depends ssa matches packs) (node_depends_by (dependences ssa) ssa matches packs) (units_at packs) [] ns (λ n x. sym (node-same ssa matches packs n x)) is.follows },
+  ),
+  (cycle-to ssa matches packs ns, cycle-by ssa matches packs ns),
+)
 
 pub dependences-name_units : DependencesNameUnits
-dependences-name_units ssa =
-    (λ v x e. (and_parts (is_unit ssa x) _ (sym (lists-dependences ssa v x) ∙ e)).0,
-    λ v x e. ltb-true x v (and_parts (nat_lt x v) _ (and_parts (is_unit ssa x) _ (sym (lists-dependences ssa v x) ∙ e)).1).0)
+dependences-name_units ssa = (
+  λ v x e. (and_parts (is_unit ssa x) _ (sym (lists-dependences ssa v x) ∙ e)).0,
+  λ v x e. ltb-true x v (and_parts (nat_lt x v) _ (and_parts (is_unit ssa x) _ (sym (lists-dependences ssa v x) ∙ e)).1).0,
+)
 
 -- ---- the units in their order
 
@@ -86,15 +90,16 @@ all-push done first v e low =
 numbers-follow : (deps : List (ℕ × ℕ)) (ssa : Ssa) (matches : List Match) (done : List Node) (v n : ℕ) → NameUnits ssa deps → NameLesser deps → arguments ssa ≤ v → all_units (units_at []) done ≡ numbers_from (arguments ssa) (v - arguments ssa)
     → Follows (node_depends_by deps ssa matches []) (units_at []) done (map UnitAt (numbers_from v n))
 numbers-follow deps ssa matches done v zero names less low e = tt
-numbers-follow deps ssa matches done v (suc n) names less low e =
-    (λ x d. (
+numbers-follow deps ssa matches done v (suc n) names less low e = (
+  λ x d. (
       let below = less v x d in
       let inside = unit-inside ssa x (names v x d) in
       let first = inside.0 in
       let one = count_of-within x (arguments ssa) (v - arguments ssa) first (omega arith) in
       let same : count_of x (all_units (units_at []) done) ≡ count_of x (numbers_from (arguments ssa) (v - arguments ssa)) = ap (count_of x) e in
       omega arith),
-    numbers-follow deps ssa matches (done ++ UnitAt v ∷ []) (v + 1) n names less (omega arith) (all-push done (arguments ssa) v e low))
+  numbers-follow deps ssa matches (done ++ UnitAt v ∷ []) (v + 1) n names less (omega arith) (all-push done (arguments ssa) v e low),
+)
 
 pub numbers-are_an_order : NumbersAreAnOrder
 numbers-are_an_order deps ssa matches names less =
