@@ -57,11 +57,11 @@ pub own-theirs : (owners : List (Option ℕ)) (units : List ℕ) (k pack : ℕ) 
 own-theirs owners units k pack h inside theirs x s =
     let u = slice_index units k in
     elim (cases_eq x u) [
-    | inl same ↦ ap (λ y. slice_index_or (slice_set owners u (Some pack)) y None) same ∙ get_or-set_same owners u (Some pack) None inside
-    | inr other ↦
-        let none : one_if (x == u) ≡ 0 = ap one_if (ne_eqb x u other) in
-        let sum : count_of x (take (k + 1) units) ≡ count_of x (take k units) + one_if (x == u) = ap (count_of x) (take_more units k 0 h) ∙ count_of-push x u (take k units) in
-        get_or-set_other owners u x (Some pack) None other ∙ theirs x (omega arith)
+      | inl same ↦ ap (λ y. slice_index_or (slice_set owners u (Some pack)) y None) same ∙ get_or-set_same owners u (Some pack) None inside
+      | inr other ↦
+          let none : one_if (x == u) ≡ 0 = ap one_if (ne_eqb x u other) in
+          let sum : count_of x (take (k + 1) units) ≡ count_of x (take k units) + one_if (x == u) = ap (count_of x) (take_more units k 0 h) ∙ count_of-push x u (take k units) in
+          get_or-set_other owners u x (Some pack) None other ∙ theirs x (omega arith)
     ]
 
 pub own-others : (owners before : List (Option ℕ)) (units : List ℕ) (k pack : ℕ) → k < length units
@@ -71,8 +71,8 @@ own-others owners before units k pack h others x z =
     let u = slice_index units k in
     let sum : count_of x (take (k + 1) units) ≡ count_of x (take k units) + one_if (x == u) = ap (count_of x) (take_more units k 0 h) ∙ count_of-push x u (take k units) in
     elim (cases_eq x u) [
-    | inl same ↦ absurd (let one : one_if (x == u) ≡ 1 = ap one_if (eq-eqb x u same) in omega arith)
-    | inr other ↦ get_or-set_other owners u x (Some pack) None other ∙ others x (omega arith)
+      | inl same ↦ absurd (let one : one_if (x == u) ≡ 1 = ap one_if (eq-eqb x u same) in omega arith)
+      | inr other ↦ get_or-set_other owners u x (Some pack) None other ∙ others x (omega arith)
     ]
 
 pub pack-units : (packs : List Packed) (k : ℕ) (p : Packed) → k < length packs → p ≡ get_or packs k p → units_at packs (PackAt k) ≡ units_of p
@@ -207,9 +207,10 @@ homes-more owners first unit homes after start nodes now needs more behind home 
             | inl is ↦
                 let read : slice_index (homes ++ home ∷ []) x ≡ length nodes = get_or_push homes home 0 x (so.long ∙ sym is) ∙ settles.2 in
                 subst (λ q. IsHome now x (slice_index (homes ++ home ∷ []) x) q) (sym (ap (λ n. slice_index_or owners n None) is ∙ same))
-                (subst (λ n. (n < length now) × (slice_index_or now n (UnitAt 0) ≡ UnitAt x)) (sym read)
-                ((let l = ap length settles.0 ∙ length_push nodes (UnitAt unit) in omega arith),
-                ap (λ l. slice_index_or l (length nodes) (UnitAt 0)) settles.0 ∙ get_or_push nodes (UnitAt unit) (UnitAt 0) (length nodes) refl ∙ ap UnitAt (sym is)))
+                (subst (λ n. (n < length now) × (slice_index_or now n (UnitAt 0) ≡ UnitAt x)) (sym read) (
+                  (let l = ap length settles.0 ∙ length_push nodes (UnitAt unit) in omega arith),
+                  ap (λ l. slice_index_or l (length nodes) (UnitAt 0)) settles.0 ∙ get_or_push nodes (UnitAt unit) (UnitAt 0) (length nodes) refl ∙ ap UnitAt (sym is),
+                ))
             | inr other ↦
                 let inside : x < unit = last x b other in
                 subst (λ l. IsHome l x (slice_index (homes ++ home ∷ []) x) (slice_index_or owners x None)) (sym settles.0)

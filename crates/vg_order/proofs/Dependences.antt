@@ -48,8 +48,8 @@ found-rows deps x [] e = absurd (cc)
 found-rows deps x (u ∷ us) e =
     let sum = count_of-append x (row_of deps u) (concat (map (row_of deps) us)) in
     elim (or_cases _ _ e) [
-    | inl here ↦ (let s = found-stands x (row_of deps u) here in omega arith)
-    | inr rest ↦ (let s = found-rows deps x us rest in omega arith)
+      | inl here ↦ (let s = found-stands x (row_of deps u) here in omega arith)
+      | inr rest ↦ (let s = found-rows deps x us rest in omega arith)
     ]
 
 -- ---- bound values

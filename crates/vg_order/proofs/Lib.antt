@@ -1,5 +1,7 @@
+pub mod AllDependences
 pub mod Building
 pub mod Counts
+pub mod Cycles
 pub mod Graphs
 pub mod Dependences
 pub mod Looks

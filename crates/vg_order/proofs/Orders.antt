@@ -36,8 +36,8 @@ done-units packs node m x [] s t = absurd (omega arith)
 done-units packs node m x (n ∷ done) s t =
     let sum = count_of-append x (units_at packs (node n)) (all_units (units_at packs) (map node done)) in
     elim (cases_Bool (m == n)) [
-    | inl same ↦ (let here : Stands x (units_at packs (node n)) = subst (λ k. Stands x (units_at packs (node k))) (eqb-true m n same) t in omega arith)
-    | inr other ↦ (let none : one_if (m == n) ≡ 0 = ap one_if other in let rest = done-units packs node m x done (omega arith) t in omega arith)
+      | inl same ↦ (let here : Stands x (units_at packs (node n)) = subst (λ k. Stands x (units_at packs (node k))) (eqb-true m n same) t in omega arith)
+      | inr other ↦ (let none : one_if (m == n) ≡ 0 = ap one_if other in let rest = done-units packs node m x done (omega arith) t in omega arith)
     ]
 
 graph-follows : (deps : List (ℕ × ℕ)) (ssa : Ssa) (matches : List Match) (packs : List Packed) (g : Graph) (done order : List ℕ) → IsGraphOf ssa matches packs g → NameUnits ssa deps
@@ -46,12 +46,13 @@ graph-follows : (deps : List (ℕ × ℕ)) (ssa : Ssa) (matches : List Match) (p
 graph-follows deps ssa matches packs g done [] is names follows inside = tt
 graph-follows deps ssa matches packs g done (n ∷ order) is names follows inside =
     let graph = is-graph deps ssa matches packs g is names in
-    let here : n < length g.nodes = inside n (let one : one_if (n == n) ≡ 1 = ap one_if (eq-eqb n n refl) in omega arith) in
-    (λ x d. (
-      let need = depends-need deps ssa matches packs g n x is here d in
-      done-units packs (node_at g) (home_at g x) x done (follows.0 x need) (is.homes x (graph.units n x need)).1),
-    subst (λ l. Follows (node_depends_by deps ssa matches packs) (units_at packs) l (map (node_at g) order)) (map-append (node_at g) done (n ∷ []))
-    (graph-follows deps ssa matches packs g (done ++ n ∷ []) order is names follows.1 (λ m s. inside m (omega arith))))
+    let here : n < length g.nodes = inside n (let one : one_if (n == n) ≡ 1 = ap one_if (eq-eqb n n refl) in omega arith) in (
+      λ x d. (
+          let need = depends-need deps ssa matches packs g n x is here d in
+          done-units packs (node_at g) (home_at g x) x done (follows.0 x need) (is.homes x (graph.units n x need)).1),
+      subst (λ l. Follows (node_depends_by deps ssa matches packs) (units_at packs) l (map (node_at g) order)) (map-append (node_at g) done (n ∷ []))
+          (graph-follows deps ssa matches packs g (done ++ n ∷ []) order is names follows.1 (λ m s. inside m (omega arith))),
+    )
 
 pub graph-order : (deps : List (ℕ × ℕ)) (ssa : Ssa) (matches : List Match) (packs : List Packed) (g : Graph) (order : List ℕ) → IsGraphOf ssa matches packs g → NameUnits ssa deps
     → IsOrdered (needs_at deps g) (home_at g) (length g.needs) order → IsOrderBy deps ssa matches packs (map (node_at g) order)
@@ -77,19 +78,23 @@ graph-leads : (deps : List (ℕ × ℕ)) (ssa : Ssa) (matches : List Match) (pac
     → LeadsToBy deps ssa matches packs (node_at g end) (node_at g (home_at g u)) (map (λ v. node_at g (home_at g v)) us)
 graph-leads deps ssa matches packs g end u [] is names all back =
     let graph = is-graph deps ssa matches packs g is names in
-    let x = back.0 in
-    (x, subst (λ n. Stands x (units_at packs (node_at g n))) back.2 (is.homes x (graph.units (home_at g u) x back.1)).1,
-    needs-depend deps ssa matches packs g (home_at g u) x is (is.homes u all.0).0 back.1)
-graph-leads deps ssa matches packs g end u (v ∷ vs) is names all back =
-    ((v, (is.homes v all.1.0).1, needs-depend deps ssa matches packs g (home_at g u) v is (is.homes u all.0).0 back.0),
-    graph-leads deps ssa matches packs g end v vs is names all.1 back.1)
+    let x = back.0 in (
+      x,
+      subst (λ n. Stands x (units_at packs (node_at g n))) back.2 (is.homes x (graph.units (home_at g u) x back.1)).1,
+      needs-depend deps ssa matches packs g (home_at g u) x is (is.homes u all.0).0 back.1,
+    )
+graph-leads deps ssa matches packs g end u (v ∷ vs) is names all back = (
+  (v, (is.homes v all.1.0).1, needs-depend deps ssa matches packs g (home_at g u) v is (is.homes u all.0).0 back.0),
+  graph-leads deps ssa matches packs g end v vs is names all.1 back.1,
+)
 
 graph-contains : (ssa : Ssa) (matches : List Match) (packs : List Packed) (g : Graph) (us : List ℕ) → IsGraphOf ssa matches packs g → AllByRecursion (IsInside g) us
     → AllByRecursion (Contains (nodes ssa packs)) (map (λ v. node_at g (home_at g v)) us)
 graph-contains ssa matches packs g [] is all = tt
-graph-contains ssa matches packs g (u ∷ us) is all =
-    (subst (λ l. Contains l (node_at g (home_at g u))) is.nodes (Contains-get_or g.nodes (home_at g u) (UnitAt 0) (is.homes u all.0).0),
-    graph-contains ssa matches packs g us is all.1)
+graph-contains ssa matches packs g (u ∷ us) is all = (
+  subst (λ l. Contains l (node_at g (home_at g u))) is.nodes (Contains-get_or g.nodes (home_at g u) (UnitAt 0) (is.homes u all.0).0),
+  graph-contains ssa matches packs g us is all.1,
+)
 
 graph-units : (ssa : Ssa) (matches : List Match) (packs : List Packed) (g : Graph) (us : List ℕ) → IsGraphOf ssa matches packs g → AllByRecursion (IsInside g) us
     → AreUnitsOf packs us (map (λ v. node_at g (home_at g v)) us)
@@ -99,10 +104,11 @@ graph-units ssa matches packs g (u ∷ us) is all = ((is.homes u all.0).1, graph
 graph-cycle : (deps : List (ℕ × ℕ)) (ssa : Ssa) (matches : List Match) (packs : List Packed) (g : Graph) (us : List ℕ) → IsGraphOf ssa matches packs g → NameUnits ssa deps
     → ClosesBy (needs_at deps g) (home_at g) us → AllByRecursion (IsInside g) us → NamesCycle deps ssa matches packs us
 graph-cycle deps ssa matches packs g [] is names closes all = absurd closes
-graph-cycle deps ssa matches packs g (u ∷ us) is names closes all =
-    (map (λ v. node_at g (home_at g v)) (u ∷ us),
-    (graph-contains ssa matches packs g (u ∷ us) is all, graph-leads deps ssa matches packs g (home_at g u) u us is names all closes),
-    graph-units ssa matches packs g (u ∷ us) is all)
+graph-cycle deps ssa matches packs g (u ∷ us) is names closes all = (
+  map (λ v. node_at g (home_at g v)) (u ∷ us),
+  (graph-contains ssa matches packs g (u ∷ us) is all, graph-leads deps ssa matches packs g (home_at g u) u us is names all closes),
+  graph-units ssa matches packs g (u ∷ us) is all,
+)
 
 pub graph-tells : (deps : List (ℕ × ℕ)) (ssa : Ssa) (matches : List Match) (packs : List Packed) (g : Graph) (fault : OrderFault) → IsGraphOf ssa matches packs g → NameUnits ssa deps
     → Closes deps g fault → Tells deps ssa matches packs fault
@@ -144,17 +150,20 @@ graph-rises deps ssa matches packs g e is names less =
     let home : (x : ℕ) → IsInside g x → home_at g x ≡ x - g.first =
     λ x inside. (let at = is.homes x inside in
     let one : x ≡ arguments ssa + home_at g x = only-one x (arguments ssa + home_at g x) (subst (λ q. Stands x (units_at packs q)) (empty-node ssa matches packs g (home_at g x) e is at.0) at.1) in
-    omega arith) in
-    (home, omega arith, λ n x s. elim (cases_lt n (length g.nodes)) [
-      | inr past ↦ absurd (no-needs deps g n x (omega arith) s)
-      | inl h ↦
-          let depends = subst (λ q. node_depends_by deps ssa matches packs q x ≡ true) (empty-node ssa matches packs g n e is h) (needs-depend deps ssa matches packs g n x is h s) in
-          let below : x < arguments ssa + n = less (arguments ssa + n) x depends in
-          let inside = graph.units n x s in
-          let at = home x inside in
-          let low = inside.0 in
-          omega arith
-    ])
+    omega arith) in (
+      home,
+      omega arith,
+      λ n x s. elim (cases_lt n (length g.nodes)) [
+        | inr past ↦ absurd (no-needs deps g n x (omega arith) s)
+        | inl h ↦
+            let depends = subst (λ q. node_depends_by deps ssa matches packs q x ≡ true) (empty-node ssa matches packs g n e is h) (needs-depend deps ssa matches packs g n x is h s) in
+            let below : x < arguments ssa + n = less (arguments ssa + n) x depends in
+            let inside = graph.units n x s in
+            let at = home x inside in
+            let low = inside.0 in
+            omega arith
+      ],
+    )
 
 pub graph-numbers : (deps : List (ℕ × ℕ)) (ssa : Ssa) (matches : List Match) (packs : List Packed) (g : Graph) (order : List ℕ) (found : List Node) → IsGraphOf ssa matches packs g → NameUnits ssa deps
     → (IsRising deps g → order ≡ numbers_from 0 (length g.needs)) → found ≡ map (node_at g) order

@@ -45,9 +45,11 @@ follows-push needs home done [] m follows here =
     same : (x : ℕ) (done : List ℕ) → count_of (home x) (done ++ []) ≡ count_of (home x) done
     same x [] = refl
     same x (d ∷ done) = ap (λ n. one_if (home x == d) + n) (same x done)
-follows-push needs home done (n ∷ order) m follows here =
-    (follows.0, follows-push needs home (done ++ n ∷ []) order m follows.1
-    (λ x s. subst (Stands (home x)) (sym (append_assoc done (n ∷ []) order)) (here x s)))
+follows-push needs home done (n ∷ order) m follows here = (
+  follows.0,
+  follows-push needs home (done ++ n ∷ []) order m follows.1
+      (λ x s. subst (Stands (home x)) (sym (append_assoc done (n ∷ []) order)) (here x s)),
+)
 
 passes-more : (homes : List ℕ) (placed : List Bool) (m : ℕ) (xs ys : List ℕ) → m < length placed → Passes homes placed xs ys → Passes homes (slice_set placed m true) xs ys
 passes-more homes placed m xs ys h p x s = elim (p x s) [ inl t ↦ inl (flag-still placed m (slice_index homes x) h t) | inr r ↦ inr r ]
@@ -110,11 +112,12 @@ visit-looked deps g p m needs from look is read looked =
     let before : left_from (rows_of deps needs) from ≡ left_at deps g cursors m = λ i. left_from (rows i) (get_or_read cursors m from inside read.1 start i) in
     let behind : left_from (rows_of deps needs) look.cursor ≡ left_at deps g (slice_set cursors m look.cursor) m = ap (λ r. left_from r look.cursor) rows ∙ sym (left-set deps g cursors look.cursor m inside) in
     let passes : Passes g.homes p.placed.items (left_at deps g cursors m) (left_at deps g (slice_set cursors m look.cursor) m) =
-        subst (λ l. Passes g.homes p.placed.items l (left_at deps g (slice_set cursors m look.cursor) m)) before
-        (subst (Passes g.homes p.placed.items (left_from (rows_of deps needs) from)) behind looked.passes) in
-    (placed-looked (needs_at deps g) (left_at deps g cursors) (left_at deps g (slice_set cursors m look.cursor)) g.homes (length g.needs) p.order.items p.placed.items m is.0 passes
-        (λ n other. left-same deps g cursors look.cursor m n other),
-    length-set cursors m look.cursor ∙ is.1)
+    subst (λ l. Passes g.homes p.placed.items l (left_at deps g (slice_set cursors m look.cursor) m)) before
+    (subst (Passes g.homes p.placed.items (left_from (rows_of deps needs) from)) behind looked.passes) in (
+      placed-looked (needs_at deps g) (left_at deps g cursors) (left_at deps g (slice_set cursors m look.cursor)) g.homes (length g.needs) p.order.items p.placed.items m is.0 passes
+          (λ n other. left-same deps g cursors look.cursor m n other),
+      length-set cursors m look.cursor ∙ is.1,
+    )
 
 pub visit-placed : (deps : List (ℕ × ℕ)) (g : Graph) (p : Progress) (m : ℕ) (needs : Needs) (from : Cursor) (look : Look)
     → IsProgress deps g p → Reads g p.cursors.items m needs from → Looked g.homes p.placed.items (rows_of deps needs) from look

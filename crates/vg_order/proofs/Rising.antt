@@ -14,7 +14,7 @@ use Rattle.vg_order.proofs.Building.{numbers_from-more}
 use Rattle.vg_order.proofs.Looks.{left-begin}
 
 -- numbers before the first and behind the last of a run, and those of it
-count_of-before : (x first n : ℕ) → x < first → count_of x (numbers_from first n) ≡ 0
+pub count_of-before : (x first n : ℕ) → x < first → count_of x (numbers_from first n) ≡ 0
 count_of-before x first zero h = refl
 count_of-before x first (suc n) h =
     let none : one_if (x == first) ≡ 0 = ap one_if (ne_eqb x first (λ e. absurd (omega arith))) in
@@ -81,15 +81,16 @@ starts (suc n) zero = refl
 starts (suc n) (suc k) = starts n k
 
 pub fresh-progress : (deps : List (ℕ × ℕ)) (g : Graph) (p : Progress) (count : ℕ) → count ≡ length g.needs → p.order.items ≡ [] → p.placed.items ≡ replicate count false → p.cursors.items ≡ replicate count start → IsProgress deps g p
-fresh-progress deps g p count n o f c =
-    (record {
-      counts = λ k. ap (count_of k) o ∙ sym (ap one_if (ap (λ (l : List Bool). flag_at l k) f ∙ flags-off count k));
-      follows = subst (FollowsHomes (needs_at deps g) (slice_index g.homes) []) (sym o) tt;
-      long = ap length f ∙ length-replicate count false ∙ n;
-      known = λ k h x s. inr (subst (Stands x) (sym (
-          ap (left_from (rows_at deps g k)) (ap (λ (l : List Cursor). slice_index_or l k start) c ∙ starts count k) ∙ left-begin (rows_at deps g k) 0)) s);
-    },
-    ap length c ∙ length-replicate count start ∙ n)
+fresh-progress deps g p count n o f c = (
+  record {
+    counts = λ k. ap (count_of k) o ∙ sym (ap one_if (ap (λ (l : List Bool). flag_at l k) f ∙ flags-off count k));
+    follows = subst (FollowsHomes (needs_at deps g) (slice_index g.homes) []) (sym o) tt;
+    long = ap length f ∙ length-replicate count false ∙ n;
+    known = λ k h x s. inr (subst (Stands x) (sym (
+        ap (left_from (rows_at deps g k)) (ap (λ (l : List Cursor). slice_index_or l k start) c ∙ starts count k) ∙ left-begin (rows_at deps g k) 0)) s);
+  },
+  ap length c ∙ length-replicate count start ∙ n,
+)
 
 pub empty-path : (g : Graph) (p : Path) (count : ℕ) → count ≡ length g.needs → p.units.items ≡ [] → p.on.items ≡ replicate count false → IsAtRest g p
 empty-path g p count n u o = (u, ap length o ∙ length-replicate count false ∙ n, λ k. ap (λ (l : List Bool). flag_at l k) o ∙ flags-off count k)

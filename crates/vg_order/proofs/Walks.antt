@@ -175,12 +175,12 @@ path-back needs homes count placed front on below top p =
       waits = λ n t. (let x = off-one on node n inside t in get_or-set_other placed node n true false x.0 ∙ p.waits n x.1);
       long = length-set on node false ∙ p.long;
       node = (
-        let m = home below in
-        let c = p.counts m in
-        let a = homes-push homes (front ++ below ∷ []) top m in
-        let b = homes-push homes front below m in
-        let one : one_if (m == m) ≡ 1 = ap one_if (eq-eqb m m refl) in
-        inside_from on m count p.long (is-true (flag_at on m) (omega arith)));
+          let m = home below in
+          let c = p.counts m in
+          let a = homes-push homes (front ++ below ∷ []) top m in
+          let b = homes-push homes front below m in
+          let one : one_if (m == m) ≡ 1 = ap one_if (eq-eqb m m refl) in
+          inside_from on m count p.long (is-true (flag_at on m) (omega arith)));
       size = (let a = length_push front below in let b = count_true-clear on node inside (on-top needs homes count placed (front ++ below ∷ []) on top p) in let z = p.size in omega arith);
     }
 
@@ -188,11 +188,14 @@ path-back needs homes count placed front on below top p =
 path-off : (needs : ℕ → List ℕ) (homes : List ℕ) (count : ℕ) (placed : List Bool) (on : List Bool) (top : ℕ) → OnPath needs homes count placed [] on top → IsOff count [] (slice_set on (slice_index homes top) false)
 path-off needs homes count placed on top p =
     let node = slice_index homes top in
-    let inside : node < length on = (let l = p.long in let n = p.node in omega arith) in
-    (refl, length-set on node false ∙ p.long, λ n. elim (cases_eq n node) [
-      | inl same ↦ ap (flag_at (slice_set on node false)) same ∙ get_or-set_same on node false false inside
-      | inr other ↦ get_or-set_other on node n false false other ∙ is-false (flag_at on n) (let c = p.counts n in let none : one_if (n == node) ≡ 0 = ap one_if (ne_eqb n node other) in omega arith)
-    ])
+    let inside : node < length on = (let l = p.long in let n = p.node in omega arith) in (
+      refl,
+      length-set on node false ∙ p.long,
+      λ n. elim (cases_eq n node) [
+        | inl same ↦ ap (flag_at (slice_set on node false)) same ∙ get_or-set_same on node false false inside
+        | inr other ↦ get_or-set_other on node n false false other ∙ is-false (flag_at on n) (let c = p.counts n in let none : one_if (n == node) ≡ 0 = ap one_if (ne_eqb n node other) in omega arith)
+      ],
+    )
 
 pub path-start : (needs : ℕ → List ℕ) (homes : List ℕ) (count : ℕ) (placed : List Bool) (path : List ℕ) (on : List Bool) (unit : ℕ) → IsOff count path on → slice_index homes unit < count → flag_at placed (slice_index homes unit) ≡ false
     → OnPath needs homes count placed path (slice_set on (slice_index homes unit) true) unit
@@ -229,11 +232,15 @@ steps-back deps g before after was path top (Some below) p e o m =
     let back = path-back needs g.homes count before.placed.items front was.on.items below top longer in
     let size : length front + 1 ≡ length was.units.items = sym (ap length m ∙ length_push front below) in
     let same : slice_index (front ++ below ∷ []) 0 ≡ slice_index (was.units.items ++ top ∷ []) 0 =
-    ap (λ (l : List ℕ). slice_index l 0) (sym m) ∙ sym (get_or_append_left was.units.items (top ∷ []) 0 0 (omega arith)) in
-    ((subst (λ (q : List Bool). OnPath needs g.homes count q front path.on.items below) (sym e)
-    (subst (λ (q : List Bool). OnPath needs g.homes count (slice_set before.placed.items (home_at g top) true) front q below) (sym o) back),
-    subst (AllByRecursion (IsInside g)) m (all-front (IsInside g) was.units.items top p.1)),
-    same, inr (e, size))
+    ap (λ (l : List ℕ). slice_index l 0) (sym m) ∙ sym (get_or_append_left was.units.items (top ∷ []) 0 0 (omega arith)) in (
+      (
+        subst (λ (q : List Bool). OnPath needs g.homes count q front path.on.items below) (sym e)
+            (subst (λ (q : List Bool). OnPath needs g.homes count (slice_set before.placed.items (home_at g top) true) front q below) (sym o) back),
+        subst (AllByRecursion (IsInside g)) m (all-front (IsInside g) was.units.items top p.1),
+      ),
+      same,
+      inr (e, size),
+    )
 
 pub steps-up : (deps : List (ℕ × ℕ)) (g : Graph) (before after : Progress) (was path : Path) (top next : ℕ) → StandsOn deps g before was top
     → home_at g next < length g.needs → Stands next (needs_at deps g (home_at g top)) → flag_at was.on.items (home_at g next) ≡ false → flag_at before.placed.items (home_at g next) ≡ false
@@ -245,12 +252,16 @@ steps-up deps g before after was path top next p h s off waits e u o inside =
     let up = path-up needs g.homes count before.placed.items was.units.items was.on.items top next p.0 h s off waits in
     let size = length_push was.units.items top in
     let same : slice_index (path.units.items ++ next ∷ []) 0 ≡ slice_index (was.units.items ++ top ∷ []) 0 =
-    ap (λ (l : List ℕ). slice_index (l ++ next ∷ []) 0) u ∙ get_or_append_left (was.units.items ++ top ∷ []) (next ∷ []) 0 0 (omega arith) in
-    ((subst (λ (q : List Bool). OnPath needs g.homes count q path.units.items path.on.items next) (sym e)
-    (subst (λ (q : List ℕ). OnPath needs g.homes count before.placed.items q path.on.items next) (sym u)
-    (subst (λ (q : List Bool). OnPath needs g.homes count before.placed.items (was.units.items ++ top ∷ []) q next) (sym o) up)),
-    subst (λ (l : List ℕ). AllByRecursion (IsInside g) (l ++ next ∷ [])) (sym u) (all-push (IsInside g) (was.units.items ++ top ∷ []) next p.1 inside)),
-    same, inl (e, ap length u ∙ size))
+    ap (λ (l : List ℕ). slice_index (l ++ next ∷ []) 0) u ∙ get_or_append_left (was.units.items ++ top ∷ []) (next ∷ []) 0 0 (omega arith) in (
+      (
+        subst (λ (q : List Bool). OnPath needs g.homes count q path.units.items path.on.items next) (sym e)
+            (subst (λ (q : List ℕ). OnPath needs g.homes count before.placed.items q path.on.items next) (sym u)
+            (subst (λ (q : List Bool). OnPath needs g.homes count before.placed.items (was.units.items ++ top ∷ []) q next) (sym o) up)),
+        subst (λ (l : List ℕ). AllByRecursion (IsInside g) (l ++ next ∷ [])) (sym u) (all-push (IsInside g) (was.units.items ++ top ∷ []) next p.1 inside),
+      ),
+      same,
+      inl (e, ap length u ∙ size),
+    )
 
 -- ---- the whole climb
 
@@ -266,8 +277,8 @@ path-shorter deps g before after was path top next stands l m s =
     let c = p.size in
     let d = q.size in
     elim s.2 [
-    | inl up ↦ (let e = ap count_true up.0 in let f = up.1 in omega arith)
-    | inr back ↦ (let n = p.node in
-        let e = ap count_true back.0 ∙ count_true-set before.placed.items node (omega arith) (top-waits (needs_at deps g) g.homes (length g.needs) before.placed.items was.units.items was.on.items top p) in
-        let f = back.1 in omega arith)
+      | inl up ↦ (let e = ap count_true up.0 in let f = up.1 in omega arith)
+      | inr back ↦ (let n = p.node in
+          let e = ap count_true back.0 ∙ count_true-set before.placed.items node (omega arith) (top-waits (needs_at deps g) g.homes (length g.needs) before.placed.items was.units.items was.on.items top p) in
+          let f = back.1 in omega arith)
     ]

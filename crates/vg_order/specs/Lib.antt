@@ -1,5 +1,6 @@
 pub mod ByList
 pub mod Faults
 pub mod Graphs
+pub mod Laws
 pub mod Needs
 pub mod Paths

@@ -5,10 +5,14 @@
 
 pub mod fault;
 mod graph;
+pub mod law;
 mod needs;
 mod paths;
 mod progress;
 pub mod scheduling;
 
 pub use fault::OrderFault;
+pub use law::{
+    dependences_give_orders, dependences_name_units, numbers_are_an_order, orders_have_no_cycle,
+};
 pub use scheduling::schedule;

@@ -71,13 +71,7 @@ impl Needs {
     }
 
     /// The first unit from a place on whose node is not placed.
-    pub(crate) fn look(
-        &self,
-        deps: &DepList,
-        homes: &[u32],
-        placed: &[bool],
-        from: Cursor,
-    ) -> Look
+    pub(crate) fn look(&self, deps: &DepList, homes: &[u32], placed: &[bool], from: Cursor) -> Look
         ensures { Looked homes.now placed.now (rows_of deps.now self.now) from result }
     {
         let count = self.row_count(deps);
@@ -94,7 +88,10 @@ impl Needs {
             index = 0;
         }
         Look {
-            cursor: Cursor { row: count, index: 0 },
+            cursor: Cursor {
+                row: count,
+                index: 0,
+            },
             open: None,
         }
     }

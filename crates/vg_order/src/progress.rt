@@ -36,7 +36,12 @@ pub(crate) fn visit(
 {
     let from = progress.cursors[node as usize];
     let needs = &graph.needs.as_slice()[node as usize];
-    let look = needs.look(deps, graph.homes.as_slice(), progress.placed.as_slice(), from);
+    let look = needs.look(
+        deps,
+        graph.homes.as_slice(),
+        progress.placed.as_slice(),
+        from,
+    );
     progress.cursors[node as usize] = look.cursor;
     if let Some(unit) = look.open {
         return Ok(Some(unit));

@@ -130,11 +130,12 @@ count_of-unit ssa x e = elim (cases_Bool (nat_lt x (arguments ssa))) [
     not-less : (a b : ℕ) → nat_lt a b ≡ false → b ≤ a
     not-less a b f = ltb-false a b f
 
-orders-have_units : (ssa : Ssa) (matches : List Match) (packs : List Packed) (order : List Node) → ArePacks ssa packs → IsOrder ssa matches packs order → AreUnits ssa (all_units (units_at packs) order)
-orders-have_units ssa matches packs order good legal x =
+-- whatever order the nodes are in
+pub nodes-have_units : (ssa : Ssa) (packs : List Packed) (order : List Node) → ArePacks ssa packs → IsPermutation (nodes ssa packs) order → AreUnits ssa (all_units (units_at packs) order)
+nodes-have_units ssa packs order good same x =
     let outside = filter (λ v. not (is_packed packs v)) (unit_numbers ssa) in
     let all : count_of x (all_units (units_at packs) order) ≡ count_of x (packed packs) + count_of x outside =
-    count_of-permuted (units_at packs) x (nodes ssa packs) order legal.once ∙ ap (count_of x) (node-units ssa packs) ∙ count_of-append x (packed packs) outside in
+    count_of-permuted (units_at packs) x (nodes ssa packs) order same ∙ ap (count_of x) (node-units ssa packs) ∙ count_of-append x (packed packs) outside in
     let kept : count_of x outside ≡ (if not (is_packed packs x) then count_of x (unit_numbers ssa) else 0) = count_of-kept (λ v. not (is_packed packs v)) x (unit_numbers ssa) in
     let most = good.once x in
     elim (cases_Bool (is_packed packs x)) [
@@ -226,4 +227,4 @@ nodes-see ssa matches packs good (PackAt k) x e = by (slice_get packs k) refl e
 pub plan-orders-run : PlanOrdersRun
 plan-orders-run ssa places numbers matches packs order respects good legal =
     legal-order-runs ssa places numbers (units_at packs) (node_depends ssa matches packs) order respects
-    (nodes-see ssa matches packs good) legal.follows (orders-have_units ssa matches packs order good legal)
+    (nodes-see ssa matches packs good) legal.follows (nodes-have_units ssa packs order good legal.once)

@@ -14,9 +14,11 @@ path-init c =
     let node : c.home_of-node.result ≡ home_at g c.args.unit = c.home_of-node.ensures ∙ ap (λ (l : List ℕ). slice_index l c.args.unit) c.as_slice.ensures in
     record {
       valid = c.requires.valid;
-      on_path = (subst (λ n. OnPath needs g.homes (length g.needs) placed path.units.items (slice_set path.on.items n true) c.args.unit) (sym node)
-          (path-start needs g.homes (length g.needs) placed path.units.items path.on.items c.args.unit c.requires.rest (c.requires.graph.homes c.args.unit c.requires.unit) c.requires.waits),
-          subst (λ (l : List ℕ). AllByRecursion (IsInside g) (l ++ c.args.unit ∷ [])) (sym c.requires.rest.0) (c.requires.unit, tt));
+      on_path = (
+        subst (λ n. OnPath needs g.homes (length g.needs) placed path.units.items (slice_set path.on.items n true) c.args.unit) (sym node)
+            (path-start needs g.homes (length g.needs) placed path.units.items path.on.items c.args.unit c.requires.rest (c.requires.graph.homes c.args.unit c.requires.unit) c.requires.waits),
+        subst (λ (l : List ℕ). AllByRecursion (IsInside g) (l ++ c.args.unit ∷ [])) (sym c.requires.rest.0) (c.requires.unit, tt),
+      );
       stays = λ n t. t;
       starts = ap (λ (l : List ℕ). slice_index (l ++ c.args.unit ∷ []) 0) c.requires.rest.0;
     }

@@ -35,14 +35,15 @@ returns-then-flag_at-clause-cycle c =
     let next = c.in-Some.next in
     let above = c.home_of-above.result in
     let node : c.home_of-node.result ≡ home_at g c.args.top = c.home_of-node.ensures ∙ ap (λ (l : List ℕ). slice_index l c.args.top) c.as_slice-homes.ensures in
-    let visits = subst (λ (o : Option ℕ). Visits deps g before c.visit.new.progress c.home_of-node.result o) c.in-Some.is c.in_ok-next.ensures.visits in
-    (closes-path (needs_at deps g) g.homes (length g.needs) before.placed.items was.units.items was.on.items c.args.top next above c.in_ok-units.units.items c.requires.on_path.0
-    (subst (λ n. Stands next (needs_at deps g n)) node visits.2)
-    (sym (c.home_of-above.ensures ∙ ap (λ (l : List ℕ). slice_index l next) c.as_slice-homes.ensures))
-    (sym (c.flag_at.ensures ∙ ap (λ l. flag_at l above) c.as_slice.ensures.value) ∙ c.if-flag_at.true)
-    (subst (λ (l : List ℕ). IsClosing l was.units.items c.args.top above c.in_ok-units.units.items) c.as_slice-homes.ensures c.in_ok-units.ensures),
-    (let closing = c.in_ok-units.ensures in
-    subst (AllByRecursion (IsInside g)) (sym closing.1) (all-drop (IsInside g) closing.0 (was.units.items ++ c.args.top ∷ []) c.requires.on_path.1)))
+    let visits = subst (λ (o : Option ℕ). Visits deps g before c.visit.new.progress c.home_of-node.result o) c.in-Some.is c.in_ok-next.ensures.visits in (
+      closes-path (needs_at deps g) g.homes (length g.needs) before.placed.items was.units.items was.on.items c.args.top next above c.in_ok-units.units.items c.requires.on_path.0
+          (subst (λ n. Stands next (needs_at deps g n)) node visits.2)
+          (sym (c.home_of-above.ensures ∙ ap (λ (l : List ℕ). slice_index l next) c.as_slice-homes.ensures))
+          (sym (c.flag_at.ensures ∙ ap (λ l. flag_at l above) c.as_slice.ensures.value) ∙ c.if-flag_at.true)
+          (subst (λ (l : List ℕ). IsClosing l was.units.items c.args.top above c.in_ok-units.units.items) c.as_slice-homes.ensures c.in_ok-units.ensures),
+      (let closing = c.in_ok-units.ensures in
+          subst (AllByRecursion (IsInside g)) (sym closing.1) (all-drop (IsInside g) closing.0 (was.units.items ++ c.args.top ∷ []) c.requires.on_path.1)),
+    )
 
 pub returns-clause-steps : goal.returns-clause-steps
 returns-clause-steps c =

@@ -18,8 +18,8 @@ returns-clause-valid c =
     let now = slice_set p.cursors.items m look.cursor in
     let read : needs ≡ slice_index_or g.needs m needs = c.index-as_slice-node.is ∙ ap (λ (l : List Needs). slice_index_or l m needs) c.as_slice.ensures in
     let looked : Looked g.homes p.placed.items (rows_of deps needs) from look =
-        subst (λ (h : List ℕ). Looked h p.placed.items (rows_of deps needs) from look) c.as_slice-2.ensures
-        (subst (λ q. Looked c.as_slice-2.result.now q (rows_of deps needs) from look) c.as_slice-3.ensures.value c.look-look.ensures) in
+    subst (λ (h : List ℕ). Looked h p.placed.items (rows_of deps needs) from look) c.as_slice-2.ensures
+    (subst (λ q. Looked c.as_slice-2.result.now q (rows_of deps needs) from look) c.as_slice-3.ensures.value c.look-look.ensures) in
     subst (λ (o : List ℕ). IsPlaced (needs_at deps g) (left_at deps g now) g.homes (length g.needs) o (slice_set p.placed.items m true) × (length now ≡ length g.needs))
     (sym c.in_ok-push.ensures.items)
     (visit-placed deps g p m needs from look c.requires.valid (read, c.index-from.ensures, c.requires.node, c.requires.valid.1) looked c.requires.waits c.in_default.is)

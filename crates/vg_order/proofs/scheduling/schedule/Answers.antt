@@ -31,8 +31,8 @@ returns-clause-order c =
     let order = c.in_ok-numbers.numbers.items in
     let is : IsGraphOf ssa table packs g = subst (λ (l : List Packed). IsGraphOf ssa table l g) c.as_slice.ensures c.in_ok-graph.ensures in
     let found : c.from_vec.result ≡ map (λ n. slice_index_or g.nodes n (UnitAt 0)) order =
-        c.from_vec.ensures ∙ c.in_ok-nodes.ensures
-        ∙ (λ i. map (λ n. slice_index_or (c.as_slice-2.ensures i) n (UnitAt 0)) (c.as_slice-3.ensures.value i)) in
+    c.from_vec.ensures ∙ c.in_ok-nodes.ensures
+    ∙ (λ i. map (λ n. slice_index_or (c.as_slice-2.ensures i) n (UnitAt 0)) (c.as_slice-3.ensures.value i)) in
     subst (λ (l : List Node). IsOrderBy deps ssa table packs l) (sym found) (graph-order deps ssa table packs g order is c.requires.units c.in_ok-numbers.ensures.order)
 
 pub returns-clause-numbers : goal.returns-clause-numbers
@@ -45,6 +45,6 @@ returns-clause-numbers c =
     let order = c.in_ok-numbers.numbers.items in
     let is : IsGraphOf ssa table packs g = subst (λ (l : List Packed). IsGraphOf ssa table l g) c.as_slice.ensures c.in_ok-graph.ensures in
     let found : c.from_vec.result ≡ map (λ n. slice_index_or g.nodes n (UnitAt 0)) order =
-        c.from_vec.ensures ∙ c.in_ok-nodes.ensures
-        ∙ (λ i. map (λ n. slice_index_or (c.as_slice-2.ensures i) n (UnitAt 0)) (c.as_slice-3.ensures.value i)) in
+    c.from_vec.ensures ∙ c.in_ok-nodes.ensures
+    ∙ (λ i. map (λ n. slice_index_or (c.as_slice-2.ensures i) n (UnitAt 0)) (c.as_slice-3.ensures.value i)) in
     graph-numbers deps ssa table packs g order c.from_vec.result is c.requires.units c.in_ok-numbers.ensures.rising found
