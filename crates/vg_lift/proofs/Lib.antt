@@ -12,3 +12,5 @@ pub mod StateSteps
 pub mod Constants
 pub mod Puts
 pub mod Begins
+pub mod Taking
+pub mod Sizes

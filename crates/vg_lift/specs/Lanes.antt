@@ -1,5 +1,5 @@
 -- The lane of a term.
-use Rattle.std.specs.Prelude.{◌≡◌, ℕ, ◌<◌, ◌≤◌}
+use Rattle.std.specs.Prelude.{◌≡◌, ◌<◌, ◌≤◌}
 use Rattle.vg_terms.specs.Term.{Tree, node_count, tree}
 use Rattle.vg_shapes.specs.declared.lane.Lane.{Lane}
 use Rattle.vg_shapes.specs.declared.lane.Lane.TheVariants as shape

@@ -7,3 +7,4 @@ pub mod Steps
 pub mod States
 pub mod Lanes
 pub mod Passed
+pub mod Turns

@@ -15,6 +15,8 @@ pub mod law;
 pub mod passed;
 pub mod putting;
 pub mod run;
+pub mod scripts;
 pub mod state;
+pub mod turn;
 
 pub use law::{lane_terms_mean_their_lanes, leaves_are_parameters};
