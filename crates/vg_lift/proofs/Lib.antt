@@ -14,3 +14,6 @@ pub mod Puts
 pub mod Begins
 pub mod Taking
 pub mod Sizes
+pub mod Starting
+pub mod Lining
+pub mod StaticOnce

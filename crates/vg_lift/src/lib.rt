@@ -12,6 +12,8 @@ pub mod join;
 pub mod join_states;
 pub mod lane;
 pub mod law;
+pub mod lifted;
+mod listed;
 pub mod passed;
 pub mod putting;
 pub mod run;
