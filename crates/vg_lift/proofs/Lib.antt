@@ -17,3 +17,5 @@ pub mod Sizes
 pub mod Starting
 pub mod Lining
 pub mod StaticOnce
+pub mod Entries
+pub mod InstanceLanes

@@ -8,3 +8,5 @@ pub mod States
 pub mod Lanes
 pub mod Passed
 pub mod Turns
+pub mod Instances
+pub mod Lifts
