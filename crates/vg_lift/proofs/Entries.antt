@@ -1,6 +1,6 @@
 -- The instances of accepted entries: the widths of their registers, and what the terms of their
 -- lanes mean.
-use Rattle.std.proofs.Common.{◌≡◌, ℕ, zero, suc, ◌+◌, ◌*◌, ◌<◌, ◌≤◌, refl, sym, ap, ◌∙◌, subst, arith, Bool, true, false, List, [], ◌∷◌, ◌++◌, length, get_or, take}
+use Rattle.std.proofs.Common.{◌≡◌, ℕ, zero, suc, ◌+◌, ◌*◌, ◌<◌, ◌≤◌, refl, sym, ap, ◌∙◌, subst, arith, true, false, List, [], ◌∷◌, ◌++◌, length, get_or, take}
 use Rattle.std.specs.Prelude.{map, Option, Some, None, Result, Ok, Err}
 use Rattle.std.proofs.Math.Logic.{∥∥₁_elim}
 use Rattle.std.proofs.Props.{props}
@@ -13,7 +13,6 @@ use Rattle.vg_bits.specs.Range.{range}
 use Rattle.vg_terms.specs.Order.{is_same_term}
 use Rattle.vg_terms.proofs.Orders.{same_term, same_term-means}
 use Rattle.vg_terms.specs.Term.{Tree}
-use Rattle.vg_shapes.specs.Description.{IsLane}
 use Rattle.vg_shapes.specs.Registers.{AllBits, LeavesInside}
 use Rattle.vg_pseudo.specs.declared.header.Header.{Header}
 use Rattle.vg_pseudo.specs.declared.header.Param.{Param}
@@ -31,7 +30,7 @@ use Rattle.vg_range.specs.Unrolled.{IsGiven, left_by, meant, unrolled, whole_fro
 use Rattle.vg_range.specs.Walk.{Stand, instance_at}
 use Rattle.vg_range_laws.specs.Static.{IsStatic}
 use Rattle.vg_range_laws.proofs.Instances.{instances-are-static}
-use Rattle.vg_lift.specs.Instances.{InResult, IsLaneOf, IsMeant, is_dynamic_in, registers, term_in}
+use Rattle.vg_lift.specs.Instances.{InResult, IsLaneOf, is_dynamic_in, registers, term_in}
 use Rattle.vg_lift.specs.LaneTerm.{lane_term}
 use Rattle.vg_lift.specs.Means.{AreParameters}
 use Rattle.vg_lift.specs.Means as law

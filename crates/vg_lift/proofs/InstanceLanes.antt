@@ -1,5 +1,5 @@
 -- The lanes of an instance, as calls answer them.
-use Rattle.std.proofs.Common.{Vec, Global, ◌≡◌, ℕ, zero, suc, ◌+◌, ◌*◌, ◌/◌, ◌%◌, ◌<◌, ◌≤◌, refl, sym, ap, ◌∙◌, subst, arith, inl, inr, Bool, true, false, List, [], ◌∷◌, length, get_or}
+use Rattle.std.proofs.Common.{Vec, Global, ◌≡◌, ℕ, zero, suc, ◌+◌, ◌*◌, ◌/◌, ◌<◌, refl, sym, ap, ◌∙◌, subst, arith, inl, inr, true, false, List, ◌∷◌, length, get_or}
 use Rattle.std.specs.Prelude.{map, nat_le, Option, Result, Ok, Err, IfOk}
 use Rattle.std.specs.declared.alloc.AllocError.{AllocError}
 use Rattle.std.proofs.lemmas.Bool.{cases_Bool, cond-true, cond-false}
@@ -11,7 +11,6 @@ use Rattle.vg_shapes.specs.declared.lane.Lane as shape
 use Rattle.vg_pool.specs.declared.content.Content.{Content}
 use Rattle.vg_pseudo.specs.declared.header.Header.{Header}
 use Rattle.vg_pseudo.specs.Tree.{Operation}
-use Rattle.vg_script.specs.Formed.{ScriptFormed}
 use Rattle.vg_script.specs.Views.{Whole}
 use Rattle.vg_names.specs.Written.{IsWritten}
 use Rattle.vg_range.specs.Immediates.{immediate_of}

@@ -1,10 +1,10 @@
 -- Lanes one after the other.
-use Rattle.std.proofs.Common.{◌≡◌, ℕ, zero, suc, append_assoc, append-nil, ◌++◌, ◌+◌, ◌-◌, ◌*◌, ◌/◌, ◌%◌, ◌<◌, ◌≤◌, refl, sym, ap, ◌∙◌, subst, arith, Bool, true, false, List, [], ◌∷◌, length, min}
+use Rattle.std.proofs.Common.{◌≡◌, ℕ, suc, append_assoc, append-nil, ◌++◌, ◌+◌, ◌-◌, ◌*◌, ◌<◌, ◌≤◌, sym, ap, ◌∙◌, arith, List, [], ◌∷◌, min}
 use Rattle.std.specs.Prelude.{map}
 use Rattle.std.proofs.lemmas.Bool.{cond-true, cond-false, le-leb, lt-leb}
 use Rattle.std.proofs.lemmas.List.{map-append}
 use Rattle.std.proofs.lemmas.Nat.{row_fits}
-use Rattle.vg_terms.specs.Term.{Tree, node_count, tree}
+use Rattle.vg_terms.specs.Term.{Tree, node_count}
 use Rattle.vg_shapes.specs.Lane.{Lane, known, big, lane_of}
 use Rattle.vg_shapes.specs.declared.lane.Lane as shape
 use Rattle.vg_lift.specs.Lanes.{lanes_from, sized}

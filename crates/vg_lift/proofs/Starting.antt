@@ -2,14 +2,12 @@
 use Rattle.std.proofs.Common.{◌≡◌, ℕ, zero, suc, add-one, append_assoc, append-nil, ◌++◌, ◌+◌, ◌-◌, ◌<◌, ◌≤◌, refl, sym, ap, ◌∙◌, subst, arith, List, [], ◌∷◌, length, get_or, take}
 use Rattle.std.specs.Prelude.{map}
 use Rattle.vg_pool.specs.declared.content.Content.{Content}
-use Rattle.vg_pool.specs.Pool.{Keeps}
 use Rattle.vg_script.specs.Script.{Script}
 use Rattle.vg_lift.specs.LaneTerm as lane
 use Rattle.vg_lift.specs.LaneTerm.{begun, lifted, of_number, of_parameter, parameters_from}
-use Rattle.vg_lift.specs.Passed.{AllPassedFit, PassedFits, all_passed, passed_of}
-use Rattle.vg_lift.specs.States.{Begins, Leaves, state_of, widths_in}
+use Rattle.vg_lift.specs.Passed.{AllPassedFit, all_passed, passed_of}
+use Rattle.vg_lift.specs.States.{Begins, Leaves, state_of}
 use Rattle.vg_lift.specs.Views.{BitsFit, bits_of}
-use Rattle.vg_lift.specs.Gather as pure
 use Rattle.vg_lift.specs.declared.bit.Bit.{Bit}
 use Rattle.vg_lift.specs.declared.passed.Passed.{Passed}
 use Rattle.vg_lift.specs.declared.passed.Passed.TheVariants.{Number, Parameter}

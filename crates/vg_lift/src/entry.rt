@@ -90,8 +90,8 @@ pub fn lane_node(
     requires lane { InResult (header_in checked.now) lane }
     ensures node { IfOk result (λ n. StandsFor pool.new n
         (instance_term (header_in checked.now) (operation_in checked.now) imm lane)) }
-    ensures means { IfOk result (λ n. IsLaneOf (header_in checked.now) (operation_in checked.now) imm lane
-        (tree_at pool.new n)) }
+    ensures means { IfOk result (λ n.
+        IsLaneOf (header_in checked.now) (operation_in checked.now) imm lane (tree_at pool.new n)) }
     ensures keeps { Keeps pool.old pool.new }
 {
     match lift_entry(pool, alloc, checked, imm)? {
@@ -107,8 +107,10 @@ pub fn lane_term(alloc: Global, checked: &Checked, imm: u8, lane: u32) -> Result
     requires written { IsWritten (header_in checked.now) (operation_in checked.now) }
     requires range { HasInstance (header_in checked.now) imm }
     requires lane { InResult (header_in checked.now) lane }
-    ensures is { IfOk result (λ l. lane_of l ≡ instance_lane (header_in checked.now) (operation_in checked.now) imm lane) }
-    ensures means { IfOk result (λ l. MeansLane (header_in checked.now) (operation_in checked.now) imm lane (lane_of l)) }
+    ensures is { IfOk result (λ l.
+        lane_of l ≡ instance_lane (header_in checked.now) (operation_in checked.now) imm lane) }
+    ensures means { IfOk result (λ l.
+        MeansLane (header_in checked.now) (operation_in checked.now) imm lane (lane_of l)) }
 {
     let mut pool = Pool::new(alloc);
     match lift_entry(&mut pool, alloc, checked, imm)? {
@@ -128,9 +130,12 @@ pub fn lanes_of(
     requires written { IsWritten (header_in checked.now) (operation_in checked.now) }
     requires range { HasInstance (header_in checked.now) imm }
     requires lanes { HasLanes (header_in checked.now) }
-    ensures is { IfOk result (λ ls. map lane_of ls.items ≡ instance_lanes (header_in checked.now) (operation_in checked.now) imm) }
-    ensures means { IfOk result (λ ls. MeanLanes (header_in checked.now) (operation_in checked.now) imm 0 (map lane_of ls.items)) }
-    ensures fill { IfOk result (λ ls. length ls.items * (header_in checked.now).lane_width ≡ (header_in checked.now).register) }
+    ensures is { IfOk result (λ ls. map lane_of ls.items ≡
+        instance_lanes (header_in checked.now) (operation_in checked.now) imm) }
+    ensures means { IfOk result (λ ls.
+        MeanLanes (header_in checked.now) (operation_in checked.now) imm 0 (map lane_of ls.items)) }
+    ensures fill { IfOk result (λ ls.
+        length ls.items * (header_in checked.now).lane_width ≡ (header_in checked.now).register) }
     ensures keeps { Keeps pool.old pool.new }
 {
     let header = checked.header();

@@ -87,9 +87,11 @@ pub fn lift_instance(
 ) -> Result<Lifted, AllocError>
     requires formed { ScriptFormed instance.now.widths (script_of instance.now.script) }
     requires is_static { IsStatic (script_of instance.now.script) }
-    ensures is { IfOk result (λ l. bits_of pool.new l.bits ≡ lifted_dst (whole_of instance.now) parameters imm) }
+    ensures is { IfOk result (λ l.
+        bits_of pool.new l.bits ≡ lifted_dst (whole_of instance.now) parameters imm) }
     ensures fit { IfOk result (λ l. BitsFit pool.new l.bits) }
-    ensures width { IfOk result (λ l. length l.bits ≡ get_or instance.now.widths instance.now.result 0) }
+    ensures width { IfOk result (λ l.
+        length l.bits ≡ get_or instance.now.widths instance.now.result 0) }
     ensures keeps { Keeps pool.old pool.new }
 {
     let given = given_first(pool, alloc, instance.parameters, parameters, imm)?;

@@ -1,4 +1,4 @@
-use Rattle.std.proofs.Common.{◌≡◌, ◌/◌, subst, ap}
+use Rattle.std.proofs.Common.{◌/◌, subst, ap}
 use Rattle.std.specs.Prelude.{Ok}
 use Rattle.vg_range.specs.Checks.{header_in, operation_in}
 use Rattle.vg_shapes.specs.Lane.{dynamic}

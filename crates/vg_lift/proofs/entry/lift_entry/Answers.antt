@@ -1,4 +1,4 @@
-use Rattle.std.proofs.Common.{◌≡◌, sym, subst, ap, ◌∙◌, length}
+use Rattle.std.proofs.Common.{subst, ap, ◌∙◌, length}
 use Rattle.std.specs.Prelude.{Ok}
 use Rattle.vg_range.specs.Checks.{header_in, operation_in}
 use Rattle.vg_range.specs.Immediates.{immediate_of}

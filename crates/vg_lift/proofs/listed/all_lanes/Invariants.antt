@@ -4,7 +4,7 @@ use Rattle.vg_pool.specs.Pool.{Keeps}
 use Rattle.vg_shapes.specs.Lane.{lane_of}
 use Rattle.vg_lift.specs.Lanes.{lanes_from, sized}
 use Rattle.vg_lift.specs.LaneTerm as terms
-use Rattle.vg_lift.specs.Views.{BitsFit, bits_of}
+use Rattle.vg_lift.specs.Views.{bits_of}
 use Rattle.vg_lift.proofs.listed.all_lanes.Given as goal
 
 abbrev pub invariant-lanes : goal.invariant-lanes
