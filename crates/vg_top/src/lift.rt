@@ -31,16 +31,18 @@ fn lines_of_text(alloc: Global, text: &[u8]) -> Result<Vec<u8>, Ending>
 }
 
 /// The lines on all instances of the entries in a file: their lanes, and why packs cannot call them.
-pub fn lift<S: Shelf>(
-    alloc: Global,
-    shelf: &mut S,
-    instructions: &str,
-) -> Result<Vec<u8>, Ending>
+pub fn lift<S: Shelf>(alloc: Global, shelf: &mut S, instructions: &str) -> Result<Vec<u8>, Ending>
     ensures told { IfSome (S.holds shelf.old) (λ held.
         Tells AreLines result (listed held instructions.now)) }
     ensures shelf { Works S.Shelf (Some (lift_asked instructions.now))
         shelf.old shelf.new (ending_of result) }
 {
-    let file = fetch(alloc, shelf, FileNumber(1), instructions, INSTRUCTIONS_LIMIT)?;
+    let file = fetch(
+        alloc,
+        shelf,
+        FileNumber(1),
+        instructions,
+        INSTRUCTIONS_LIMIT,
+    )?;
     lines_of_text(alloc, file.as_slice())
 }

@@ -30,7 +30,9 @@ pub enum Request<'a> {
         bindings: &'a [Bytes],
     },
     /// The lines on all instances of the entries in a file.
-    Lift { instructions: &'a str },
+    Lift {
+        instructions: &'a str,
+    },
 }
 
 impl<'a> Request<'a> {
