@@ -1,12 +1,11 @@
 -- Registers and variables as a body begins.
 use Rattle.std.proofs.Common.{◌≡◌, ℕ, zero, suc, add-one, append_assoc, append-nil, ◌++◌, ◌+◌, ◌-◌, ◌<◌, ◌≤◌, refl, sym, ap, ◌∙◌, subst, arith, List, [], ◌∷◌, length, get_or, take, drop, replicate}
 use Rattle.std.specs.Prelude.{map}
-use Rattle.std.proofs.lemmas.List.{map-append, length-map}
-use Rattle.vg_terms.specs.Term.{Tree, constant}
+use Rattle.std.proofs.lemmas.List.{map-append}
+use Rattle.vg_terms.specs.Term.{constant}
 use Rattle.vg_pool.specs.declared.content.Content.{Content}
 use Rattle.vg_pool.specs.Pool.{Keeps, StandsFor, tree_at}
 use Rattle.vg_lift.specs.Gather.{clear, inputs_from, input}
-use Rattle.vg_lift.specs.Gather as pure
 use Rattle.vg_lift.specs.LaneTerm as lane
 use Rattle.vg_lift.specs.LaneTerm.{entered, bits_passed, begun}
 use Rattle.vg_lift.specs.declared.bit.Bit.{Bit}
@@ -19,7 +18,7 @@ use Rattle.vg_lift.specs.States.{AllFit, AreNodes, Begins}
 use Rattle.vg_lift.specs.Views.{BitsFit, IsNode, bits_of}
 use Rattle.vg_lift.proofs.Nodes.{append_of, append_fit, bits_kept, bits_fit, length_bits_of}
 use Rattle.vg_lift.proofs.JoinSteps.{drop_first, drop_end}
-use Rattle.vg_lift.proofs.StateSteps.{all_kept, registers_kept, register_behind, state_at, take_of, take_fits}
+use Rattle.vg_lift.proofs.StateSteps.{all_kept, registers_kept, state_at, take_of, take_fits}
 use Rattle.vg_lift.proofs.Entering.{passed-long, length-clears}
 
 -- ---- zeros

@@ -1,6 +1,6 @@
 -- The pieces of constants.
-use Rattle.std.proofs.Common.{◌≡◌, ℕ, zero, suc, add-one, append_assoc, append-nil, ◌+◌, ◌-◌, ◌*◌, ◌/◌, ◌%◌, ◌^◌, ◌<◌, ◌≤◌, ◌++◌, refl, sym, ap, ◌∙◌, subst, arith, lit<, List, [], ◌∷◌, length, inl, inr}
-use Rattle.std.specs.Prelude.{ℤ, pos, negsuc, min, if◌then◌else◌}
+use Rattle.std.proofs.Common.{◌≡◌, ℕ, zero, suc, append_assoc, append-nil, ◌+◌, ◌-◌, ◌*◌, ◌/◌, ◌%◌, ◌^◌, ◌<◌, ◌≤◌, ◌++◌, refl, sym, ap, ◌∙◌, subst, arith, List, [], ◌∷◌, length}
+use Rattle.std.specs.Prelude.{pos, negsuc, min}
 use Rattle.std.proofs.lemmas.Nat.{pow_pos, mod_below, field_of, div-mul-add, mod-mul-add, shr_below, div-add-mod', pow-add}
 use Rattle.vg_base.specs.Number.{residue}
 use Rattle.vg_base.proofs.LowBits.{low-low, pow-le}

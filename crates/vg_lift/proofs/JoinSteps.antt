@@ -1,20 +1,19 @@
 -- Joining two lists of bits, place by place.
-use Rattle.std.proofs.Common.{◌≡◌, ℕ, zero, suc, add-one, append_assoc, append-nil, ◌++◌, ◌+◌, ◌<◌, ◌≤◌, refl, sym, ap, ◌∙◌, subst, arith, inl, inr, Bool, true, false, List, [], ◌∷◌, length, get_or, take, drop, ◌-◌}
-use Rattle.std.specs.Prelude.{if◌then◌else◌}
+use Rattle.std.proofs.Common.{◌≡◌, ℕ, zero, suc, add-one, append_assoc, ◌++◌, ◌+◌, ◌<◌, ◌≤◌, refl, sym, ap, ◌∙◌, arith, inl, inr, List, [], ◌∷◌, length, get_or, drop}
 use Rattle.std.proofs.lemmas.Bool.{cases_Bool}
-use Rattle.vg_terms.specs.Term.{Tree, width_of}
+use Rattle.vg_terms.specs.Term.{Tree}
 use Rattle.vg_pool.specs.declared.content.Content.{Content}
 use Rattle.vg_pool.specs.Pool.{Keeps, tree_at}
 use Rattle.vg_lift.specs.Gather.{start}
 use Rattle.vg_lift.specs.Gather as pure
 use Rattle.vg_lift.specs.Join.{shut, differ, closed, goes_on, opened, is_same_bit, join_from}
 use Rattle.vg_lift.specs.Join as pure_join
-use Rattle.vg_lift.specs.Steps.{Joining, joining, joined_bit, ended}
+use Rattle.vg_lift.specs.Steps.{Joining, joining, joined_bit}
 use Rattle.vg_lift.specs.declared.bit.Bit.{Bit}
 use Rattle.vg_lift.specs.declared.bit.Bit.TheVariants.{Clear}
 use Rattle.vg_lift.specs.declared.join.Open.{Open}
 use Rattle.vg_lift.specs.Views.{bit_of, bits_of, IsNode, BitFits, BitsFit, open_of}
-use Rattle.vg_lift.proofs.Nodes.{bit_kept, bits_kept}
+use Rattle.vg_lift.proofs.Nodes.{bit_kept}
 
 -- one place of two lists
 pure_step : (c : Tree) (i : ℕ) (x y : pure.Bit) (xs ys : List pure.Bit) (j : Joining)

@@ -12,3 +12,10 @@ pub mod StateSteps
 pub mod Constants
 pub mod Puts
 pub mod Begins
+pub mod Taking
+pub mod Sizes
+pub mod Starting
+pub mod Lining
+pub mod StaticOnce
+pub mod Entries
+pub mod InstanceLanes

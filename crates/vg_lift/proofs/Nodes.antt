@@ -1,9 +1,9 @@
 -- Nodes of a pool: equal terms are one node, and what a pool keeps.
 use Rattle.std.proofs.Common.{◌≡◌, ℕ, zero, suc, add-one, append_assoc, append-nil, ◌++◌, ◌+◌, ◌<◌, ◌≤◌, refl, sym, ap, ◌∙◌, subst, arith, inl, inr, Bool, true, false, List, [], ◌∷◌, length, get_or, take, drop, ◌-◌}
 use Rattle.std.specs.Prelude.{nat_eq, ◌&&◌, Result, Ok, Err, OnOk}
-use Rattle.std.proofs.lemmas.Bool.{cases_Bool, eqb-true, eq-eqb, eqb-false, ne_eqb, and_parts, cond-false}
+use Rattle.std.proofs.lemmas.Bool.{cases_Bool, eqb-true, eqb-false, and_parts, cond-false}
 use Rattle.std.proofs.lemmas.List.{take_all}
-use Rattle.vg_terms.specs.Term.{Tree, WellFormed, two, sel, width_of}
+use Rattle.vg_terms.specs.Term.{two, sel, width_of}
 use Rattle.vg_terms.specs.declared.term.TwoOp.TheVariants.{Cat}
 use Rattle.vg_terms.specs.Order.{is_same_term}
 use Rattle.vg_terms.proofs.Orders.{same_term, same_term-means}
@@ -16,8 +16,7 @@ use Rattle.vg_lift.specs.declared.bit.Bit.TheVariants.{Clear, Input, OfTerm}
 use Rattle.vg_lift.specs.declared.run.Run.{Run}
 use Rattle.vg_lift.specs.declared.run.Run.TheVariants.{Zeros, Inputs, Terms}
 use Rattle.vg_lift.specs.Views.{bit_of, bits_of, run_of, IsNode, BitFits, BitsFit, RunFits, run_size, node_bits, OpenFits, open_of}
-use Rattle.vg_lift.specs.declared.join.Open.{Open}
-use Rattle.vg_lift.specs.declared.join.Open.TheVariants.{Shut, Differ}
+use Rattle.vg_lift.specs.declared.join.Open.TheVariants.{Differ}
 use Rattle.vg_lift.proofs.Gathering.{whole-width, gather_from-width}
 
 false-or : (b : Bool) → (b ≡ true → ⊥) → b ≡ false

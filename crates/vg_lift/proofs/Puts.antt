@@ -1,13 +1,14 @@
 -- What is put into a state.
-use Rattle.std.proofs.Common.{◌≡◌, ℕ, zero, suc, ◌++◌, ◌+◌, ◌-◌, ◌<◌, ◌≤◌, refl, sym, ap, ◌∙◌, subst, arith, List, [], ◌∷◌, length, get_or, set, take, drop, length-append, length-take, length-drop}
-use Rattle.std.specs.Prelude.{map, slice_index_or}
-use Rattle.std.proofs.lemmas.List.{map-set, length-set, length-map}
+use Rattle.std.proofs.Common.{◌≡◌, ℕ, zero, suc, ◌++◌, ◌+◌, ◌<◌, ◌≤◌, refl, sym, ap, ◌∙◌, subst, arith, inl, inr, List, [], ◌∷◌, length, get_or, set, take, drop, length-append, length-take, length-drop}
+use Rattle.std.specs.Prelude.{map, slice_get, Some, None}
+use Rattle.std.proofs.lemmas.Bool.{cases_lt}
+use Rattle.std.proofs.lemmas.Option.{slice_get_within, slice_get-get_or, get_or_from_slice_get}
+use Rattle.std.proofs.lemmas.List.{map-set, length-set}
 use Rattle.vg_bits.specs.Range.{range, replaced}
-use Rattle.vg_terms.specs.Term.{Tree, constant, width_of}
+use Rattle.vg_terms.specs.Term.{constant, width_of}
 use Rattle.vg_pool.specs.declared.content.Content.{Content}
 use Rattle.vg_pool.specs.Pool.{Keeps, StandsFor, tree_at}
 use Rattle.vg_lift.specs.Gather.{bits_from, gather}
-use Rattle.vg_lift.specs.LaneTerm as lane
 use Rattle.vg_lift.specs.LaneTerm.{with_bits}
 use Rattle.vg_lift.specs.declared.bit.Bit.{Bit}
 use Rattle.vg_lift.specs.declared.state.State.{State}
@@ -15,7 +16,7 @@ use Rattle.vg_lift.specs.States.{AllFit, AreNodes, Leaves, StateFits, state_of, 
 use Rattle.vg_lift.specs.Views.{BitsFit, IsNode, bits_of, node_bits}
 use Rattle.vg_lift.proofs.Nodes.{append_of, append_fit, node_bits-of, node_bits-fit, length_bits_of}
 use Rattle.vg_lift.proofs.Gathering.{gather-width}
-use Rattle.vg_lift.proofs.StateSteps.{listed_node, all_kept, trees_kept, registers_kept, nodes_kept, state_at, register_at, range_of, range_fits, range_length, take_of, drop_of, take_fits, drop_fits}
+use Rattle.vg_lift.proofs.StateSteps.{node_at, all_kept, trees_kept, registers_kept, nodes_kept, state_at, register_at, range_of, range_fits, range_length, take_of, drop_of, take_fits, drop_fits}
 
 -- ---- a state over a pool that has grown
 
@@ -184,12 +185,26 @@ kept_twice old now new k l = record {
   trees = λ n h. l.trees n (omega (arith, h, k.nodes)) ∙ k.trees n h;
 }
 
-pub variable_stands : (pool : List Content) (s : State) (k : ℕ) → StateFits pool s → k < length s.variables.items
-    → StandsFor pool (slice_index_or s.variables.items k 0) (get_or (state_of pool s).variables k (constant 128 0))
-variable_stands pool s k h inside = record {
-  within = (listed_node pool s.variables.items k inside h.variables).within;
-  is = sym (variable_is pool s k inside);
-}
+pub some_variable : (pool : List Content) (s : State) (k n : ℕ) → StateFits pool s → slice_get s.variables.items k ≡ Some n
+    → StandsFor pool n (get_or (state_of pool s).variables k (constant 128 0))
+some_variable pool s k n h e =
+    let inside = slice_get_within s.variables.items k n e in
+    let same : get_or s.variables.items k 0 ≡ n = get_or_from_slice_get s.variables.items k n 0 e in
+    record {
+      within = subst (λ m. m < length pool) same (node_at pool s.variables.items k inside h.variables).within;
+      is = ap (tree_at pool) (sym same) ∙ sym (variable_is pool s k inside);
+    }
 
-pub variable_wide : (pool : List Content) (s : State) (k : ℕ) → StateFits pool s → k < length s.variables.items → IsNode pool (slice_index_or s.variables.items k 0) 128
-variable_wide pool s k h inside = listed_node pool s.variables.items k inside h.variables
+pub some_wide : (pool : List Content) (s : State) (k n : ℕ) → StateFits pool s → slice_get s.variables.items k ≡ Some n → IsNode pool n 128
+some_wide pool s k n h e =
+    let inside = slice_get_within s.variables.items k n e in
+    subst (λ m. IsNode pool m 128) (get_or_from_slice_get s.variables.items k n 0 e) (node_at pool s.variables.items k inside h.variables)
+
+pub none_there : (pool : List Content) (s : State) (k : ℕ) → slice_get s.variables.items k ≡ None → get_or (state_of pool s).variables k (constant 128 0) ≡ constant 128 0
+none_there pool s k e = elim (cases_lt k (length s.variables.items)) [
+  | inl inside ↦ absurd (apart (sym (slice_get-get_or s.variables.items k 0 inside) ∙ e))
+  | inr past ↦ no_variable pool s k past
+]
+  where
+    apart : {n : ℕ} → Some n ≡ None → ⊥
+    apart h = cc

@@ -1,6 +1,6 @@
 -- Joining registers and variables, one after the other.
-use Rattle.std.proofs.Common.{◌≡◌, ℕ, zero, suc, add-one, append_assoc, append-nil, ◌++◌, ◌+◌, ◌<◌, ◌≤◌, refl, sym, ap, ◌∙◌, subst, arith, inl, inr, Bool, true, false, List, [], ◌∷◌, length, get_or, take, drop, ◌-◌, length-append, length-take, length-drop}
-use Rattle.std.specs.Prelude.{if◌then◌else◌, map, slice_index_or}
+use Rattle.std.proofs.Common.{◌≡◌, ℕ, zero, suc, append_assoc, append-nil, ◌++◌, ◌+◌, ◌<◌, ◌≤◌, refl, sym, ap, ◌∙◌, arith, inl, inr, true, false, List, [], ◌∷◌, length, get_or, take, drop, length-append, length-take, length-drop}
+use Rattle.std.specs.Prelude.{map, slice_index_or}
 use Rattle.std.proofs.lemmas.Bool.{cases_Bool, eq-eqb, ne_eqb, cond-true, cond-false}
 use Rattle.std.proofs.lemmas.List.{map-append, length-map}
 use Rattle.vg_terms.specs.Term.{Tree, sel, width_of}
@@ -14,7 +14,7 @@ use Rattle.vg_lift.specs.Gather.{size, start, longer, bits_from}
 use Rattle.vg_lift.specs.Join.{Open, shut, differ, closed, goes_on, opened, is_same_bit, join_from, join, join_registers, join_variables}
 use Rattle.vg_lift.specs.States.{AllFit, AreNodes, joined_node}
 use Rattle.vg_lift.specs.declared.bit.Bit.{Bit}
-use Rattle.vg_lift.specs.Views.{bit_of, bits_of, IsNode, BitFits, BitsFit}
+use Rattle.vg_lift.specs.Views.{bit_of, bits_of, IsNode, BitsFit}
 use Rattle.vg_lift.proofs.Gathering.{start-size, longer-size}
 use Rattle.vg_lift.proofs.Joining.{length-bits_from}
 use Rattle.vg_lift.proofs.Nodes.{node_same, node_kept, bits_kept, bits_fit, length_bits_of}

@@ -7,3 +7,6 @@ pub mod Steps
 pub mod States
 pub mod Lanes
 pub mod Passed
+pub mod Turns
+pub mod Instances
+pub mod Lifts

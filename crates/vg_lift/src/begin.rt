@@ -18,6 +18,21 @@ use vg_base::Items;
 use vg_pool::Pool;
 use vg_terms::make_const;
 
+/// The greatest number of bits of all registers of a body.
+const MAX_BITS: u128 = 2_097_152;
+
+/// Whether registers of these widths have few bits together.
+fn are_few(widths: &[u128]) -> bool {
+    let mut left = MAX_BITS;
+    for width in widths {
+        if *width > left {
+            return false;
+        }
+        left -= *width;
+    }
+    true
+}
+
 /// So many bits that are 0.
 #[tactic(auto, using(crate::proofs::Begins::clears_of, crate::proofs::Begins::cleared_fit))]
 fn cleared(_pool: &Pool, alloc: Global, width: u32) -> Result<Items<Bit>, AllocError>
@@ -87,7 +102,8 @@ fn zeros(pool: &mut Pool, alloc: Global, count: usize) -> Result<Vec<usize>, All
 }
 
 /// Registers of these widths and so many variables as a body begins. The first registers are given
-/// these, the others and the variables are zeros.
+/// these, the others and the variables are zeros. Fails for want of memory, also past 2^21 bits of
+/// all registers.
 pub(crate) fn begin(
     pool: &mut Pool,
     alloc: Global,
@@ -100,6 +116,9 @@ pub(crate) fn begin(
         (begun widths.now variables (all_passed pool.old given.now))) }
     ensures keeps { Keeps pool.old pool.new }
 {
+    if !are_few(widths) {
+        return Err(AllocError);
+    }
     let registers = entered(pool, alloc, widths, given)?;
     let variables = zeros(pool, alloc, variables)?;
     Ok(State {

@@ -1,3 +1,4 @@
+pub mod Listings
 pub mod Answers
 pub mod CallsNothing
 pub mod Bindings

@@ -196,6 +196,12 @@ pub kernel_last : {S X : Type 0} (g : shelf.Ghosts S) (asked : Asked) (number : 
 kernel_last g asked number before now (Ok x) low all reads h is = ends g asked number.0 before now None h tt tt all
 kernel_last g asked number before now (Err e) low all reads h is = stops_kernel g asked number before now e low (omega (arith, all)) reads h is
 
+-- the entries of the last file are judged, and nothing else ends the work
+pub instructions_last : {S X : Type 0} (g : shelf.Ghosts S) (asked : Asked) (number : FileNumber) (before now : S) (r : Result X Ending)
+    → 1 ≤ number.0 → number.0 ≡ length (files_of asked) → reads_instructions asked ≡ true → HasRead g number.0 before now → IfErr r (IsOfInstructions number) → Works g (Some asked) before now (ending_of r)
+instructions_last g asked number before now (Ok x) low all reads h is = ends g asked number.0 before now None h tt tt all
+instructions_last g asked number before now (Err e) low all reads h is = stops_instructions g asked number before now e low (omega (arith, all)) reads h is
+
 -- something is run on the files, and nothing else ends the work
 pub run_last : {S X : Type 0} (g : shelf.Ghosts S) (asked : Asked) (before now : S) (r : Result X Ending)
     → runs asked ≡ true → HasRead g (length (files_of asked)) before now → IfErr r IsOfRun → Works g (Some asked) before now (ending_of r)

@@ -5,31 +5,35 @@ use Rattle.vg_top.specs.declared.ending.Ending.TheVariants.{Usage, WriteFault}
 use Rattle.vg_top.specs.declared.status.Status.{Status}
 use Rattle.vg_top.specs.declared.status.Status.TheVariants as status
 use Rattle.vg_top.specs.Ending.{status_of}
-use Rattle.vg_top.specs.Request.{Asked, compile, run, eval}
+use Rattle.vg_top.specs.Request.{Asked, compile, run, eval, lift}
 
 -- the commands that read a file of instructions
 abbrev pub reads_instructions : Asked → Bool
 reads_instructions (compile instructions kernel) = true
 reads_instructions (run instructions program memory bindings) = true
 reads_instructions (eval kernel memory bindings) = false
+reads_instructions (lift instructions) = true
 
 -- the commands that read a kernel
 abbrev pub reads_kernel : Asked → Bool
 reads_kernel (compile instructions kernel) = true
 reads_kernel (run instructions program memory bindings) = false
 reads_kernel (eval kernel memory bindings) = true
+reads_kernel (lift instructions) = false
 
 -- the commands that read a program
 abbrev pub reads_program : Asked → Bool
 reads_program (compile instructions kernel) = false
 reads_program (run instructions program memory bindings) = true
 reads_program (eval kernel memory bindings) = false
+reads_program (lift instructions) = false
 
 -- the commands that bind parameters and run something on a memory
 abbrev pub runs : Asked → Bool
 runs (compile instructions kernel) = false
 runs (run instructions program memory bindings) = true
 runs (eval kernel memory bindings) = true
+runs (lift instructions) = false
 
 -- A request may end so: its instructions, its kernel, its program are refused only where it reads
 -- them, and bindings are refused and runs trap only where it runs something. Words that are no

@@ -15,3 +15,4 @@ pub mod Run
 pub mod Status
 pub mod Verdict
 pub mod Works
+pub mod Lift

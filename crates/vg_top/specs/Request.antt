@@ -4,7 +4,7 @@ use Rattle.std.specs.Str.{bytes_eq, is_utf8}
 use Rattle.std.specs.List.{list_all}
 use Rattle.std.specs.Option.{option_and_then, option_map}
 use Rattle.vg_top.specs.declared.request.Request.{Request}
-use Rattle.vg_top.specs.declared.request.Request.TheVariants.{Compile, Run, Eval}
+use Rattle.vg_top.specs.declared.request.Request.TheVariants.{Compile, Run, Eval, Lift}
 use Rattle.vg_top.specs.Binding.{Binding, is_binding, bindings_in}
 
 -- what is asked for, each file by its name
@@ -12,12 +12,14 @@ pub data Asked : Type 0 where
   compile : List ℕ → List ℕ → Asked
   run : List ℕ → List ℕ → List ℕ → List Binding → Asked
   eval : List ℕ → List ℕ → List Binding → Asked
+  lift : List ℕ → Asked
 
 -- the names of its files, in the order in which they are read
 abbrev pub files_of : Asked → List (List ℕ)
 files_of (compile instructions kernel) = instructions ∷ kernel ∷ []
 files_of (run instructions program memory bindings) = instructions ∷ program ∷ memory ∷ []
 files_of (eval kernel memory bindings) = kernel ∷ memory ∷ []
+files_of (lift instructions) = instructions ∷ []
 
 -- words that are no request name no file
 abbrev pub files_in : Option Asked → List (List ℕ)
@@ -73,6 +75,11 @@ abbrev pub eval_words : List (List ℕ) → Option Asked
 eval_words (a ∷ b ∷ words) = eval_of a b words
 eval_words _ = None
 
+-- the words behind `lift INSTRUCTIONS`
+abbrev pub lift_words : List (List ℕ) → Option Asked
+lift_words (a ∷ []) = option_map (λ instructions. lift instructions) (file_word a)
+lift_words _ = None
+
 -- the command, and what stands behind it; all other words are no request
 abbrev pub request_of : List (List ℕ) → Option Asked
 request_of [] = None
@@ -80,6 +87,7 @@ request_of (command ∷ words) =
     if bytes_eq command (codes "compile") then compile_words words
     else if bytes_eq command (codes "run") then run_words words
     else if bytes_eq command (codes "eval") then eval_words words
+    else if bytes_eq command (codes "lift") then lift_words words
     else None
 
 -- what a request of the code asks for
@@ -87,3 +95,4 @@ abbrev pub asked_of : Request → Asked
 asked_of (Compile a b) = compile a.now b.now
 asked_of (Run a b c words) = run a.now b.now c.now (bindings_in words.now)
 asked_of (Eval a b words) = eval a.now b.now (bindings_in words.now)
+asked_of (Lift a) = lift a.now

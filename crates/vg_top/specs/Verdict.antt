@@ -8,9 +8,10 @@ use Rattle.vg_top.specs.declared.ending.Ending.TheVariants.{Usage}
 use Rattle.vg_top.specs.declared.status.Status.{Status}
 use Rattle.vg_top.specs.declared.status.Status.TheVariants as status
 use Rattle.vg_top.specs.Ending.{status_of}
-use Rattle.vg_top.specs.Request.{Asked, compile, run, eval, request_of}
+use Rattle.vg_top.specs.Request.{Asked, compile, run, eval, lift, request_of}
 use Rattle.vg_top.specs.Compile.{compiled}
 use Rattle.vg_top.specs.Eval.{evaluated}
+use Rattle.vg_top.specs.Lift.{listed}
 use Rattle.vg_top.specs.Run.{ran}
 use Rattle.vg_top.specs.Answer.{Source, Answer}
 use Rattle.vg_top.specs.Files.{Tells}
@@ -20,11 +21,13 @@ use Rattle.vg_top.specs.Line.{line_of}
 pub data Outcome : Type 0 where
   program_for : Source → Outcome
   memory_left : List ℕ → Outcome
+  listing : List ℕ → Outcome
 
--- the text of a program that means the kernel, or the memory
+-- the text of a program that means the kernel, or the memory, or the lines on instances
 abbrev pub IsAnswer : Outcome → List ℕ → Type 0
 IsAnswer (program_for s) bytes = Answer s bytes
 IsAnswer (memory_left memory) bytes = bytes ≡ memory
+IsAnswer (listing lines) bytes = bytes ≡ lines
 
 abbrev pub outcome_of : Held → Asked → Result Outcome Ending
 outcome_of held (compile instructions kernel) =
@@ -33,6 +36,7 @@ outcome_of held (run instructions program memory bindings) =
     ran held instructions program memory bindings >>= λ left. Ok (memory_left left)
 outcome_of held (eval kernel memory bindings) =
     evaluated held kernel memory bindings >>= λ left. Ok (memory_left left)
+outcome_of held (lift instructions) = listed held instructions >>= λ lines. Ok (listing lines)
 
 -- what is to be written, or the first refusal: of the words, and then of the files in their order
 abbrev pub asked_outcome : Held → Option Asked → Result Outcome Ending

@@ -10,6 +10,7 @@ pub mod eval;
 pub mod files;
 pub mod instruction_file;
 pub mod kernel_file;
+pub mod lift;
 pub mod message;
 pub mod request;
 pub mod run;

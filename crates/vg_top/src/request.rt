@@ -2,7 +2,7 @@
 
 ghost use Rattle.std.specs.Prelude.{◌≡◌, option_map, drop};
 ghost use Rattle.vg_top.specs.Line.{file_name};
-ghost use Rattle.vg_top.specs.Request.{text_word, file_word, compile_words, run_words, eval_words, request_of, files_of, asked_of};
+ghost use Rattle.vg_top.specs.Request.{text_word, file_word, compile_words, run_words, eval_words, lift_words, request_of, files_of, asked_of};
 
 use crate::binding::are_bindings;
 use crate::ending::FileNumber;
@@ -29,6 +29,10 @@ pub enum Request<'a> {
         memory: &'a str,
         bindings: &'a [Bytes],
     },
+    /// The lines on all instances of the entries in a file.
+    Lift {
+        instructions: &'a str,
+    },
 }
 
 impl<'a> Request<'a> {
@@ -44,6 +48,7 @@ impl<'a> Request<'a> {
             (Request::Run { memory, .. }, 3) => memory,
             (Request::Eval { kernel, .. }, 0..=1) => kernel,
             (Request::Eval { memory, .. }, 2) => memory,
+            (Request::Lift { instructions }, 0..=1) => instructions,
             _ => "",
         }
     }
@@ -84,6 +89,9 @@ pub fn request_of(words: &Words) -> Option<Request<'_>>
     }
     if command == b"eval".as_slice() {
         return eval_words(words);
+    }
+    if command == b"lift".as_slice() {
+        return lift_words(words);
     }
     None
 }
@@ -140,4 +148,14 @@ fn eval_words(words: &Words) -> Option<Request<'_>>
         memory,
         bindings,
     })
+}
+
+fn lift_words(words: &Words) -> Option<Request<'_>>
+    ensures { option_map asked_of result ≡ lift_words (drop 1 words.now) }
+{
+    if words.len() != 2 {
+        return None;
+    }
+    let instructions = file_word(words.get(1))?;
+    Some(Request::Lift { instructions })
 }

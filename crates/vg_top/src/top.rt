@@ -14,6 +14,7 @@ ghost use Rattle.vg_top.specs.Works.{Works, Reads, ending_of};
 use crate::compile::compile;
 use crate::ending::Ending;
 use crate::eval::eval;
+use crate::lift::lift;
 use crate::message::say;
 use crate::request::{Request, request_of};
 use crate::run::run;
@@ -54,6 +55,7 @@ fn answer<S: Shelf>(
                 bindings,
             },
         ) => eval(alloc, shelf, kernel, memory, bindings),
+        Some(Request::Lift { instructions }) => lift(alloc, shelf, instructions),
         None => Err(Ending::Usage),
     }
 }
@@ -64,7 +66,8 @@ fn answer<S: Shelf>(
 /// to `out`: a program that means the kernel and costs no more than it.
 /// `run INSTRUCTIONS PROGRAM MEMORY name=number ..` writes the memory that the program leaves of the
 /// one in the file, with its parameters bound by the words, and `eval KERNEL MEMORY name=number ..`
-/// the memory that the kernel leaves.
+/// the memory that the kernel leaves. `lift INSTRUCTIONS` writes lines on each instance of the
+/// entries in the file: the canonical term of each lane, and why packs cannot call it.
 ///
 /// All files are read before the one write. What goes wrong is told by the status and by one line
 /// on `err`; a fault of `err` changes no status. Where `shelf` tells what it holds, the status is a

@@ -1,4 +1,4 @@
-use Rattle.std.proofs.Common.{◌+◌, ◌*◌, ◌∙◌, arith}
+use Rattle.std.proofs.Common.{◌∙◌, arith}
 use Rattle.vg_base.specs.Number.{residue}
 use Rattle.vg_script.specs.Views.{number_of}
 use Rattle.vg_lift.specs.Views.{bits_of}

@@ -1,4 +1,4 @@
-use Rattle.std.proofs.Common.{◌≡◌, ◌+◌, ◌-◌, ◌*◌, ◌++◌}
+use Rattle.std.proofs.Common.{◌≡◌, ◌-◌, ◌*◌, ◌++◌}
 use Rattle.vg_base.specs.Number.{residue}
 use Rattle.vg_pool.specs.Pool.{Keeps}
 use Rattle.vg_script.specs.Views.{number_of}

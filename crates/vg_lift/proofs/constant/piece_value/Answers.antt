@@ -1,4 +1,4 @@
-use Rattle.std.proofs.Common.{◌≡◌, ◌+◌, ◌/◌, ◌%◌, ◌^◌, ◌∙◌, sym, ap, arith}
+use Rattle.std.proofs.Common.{◌/◌, ◌%◌, ◌^◌, ◌∙◌, sym, ap}
 use Rattle.vg_base.specs.Number.{residue}
 use Rattle.vg_script.specs.Views.{number_of}
 use Rattle.vg_lift.proofs.Constants.{natural_part, negative_part, one_less}

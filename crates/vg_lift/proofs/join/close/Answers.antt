@@ -1,4 +1,4 @@
-use Rattle.std.proofs.Common.{◌≡◌, ◌+◌, ◌++◌, ◌∙◌, sym, ap, subst}
+use Rattle.std.proofs.Common.{◌++◌, ◌∙◌, sym, ap, subst}
 use Rattle.vg_lift.specs.Views.{OpenFits, BitsFit, bits_of, open_of, node_bits}
 use Rattle.vg_lift.specs.Join.{closed}
 use Rattle.vg_pool.specs.Pool.{tree_at}

@@ -1,4 +1,4 @@
-use Rattle.std.proofs.Common.{arith, ◌+◌}
+use Rattle.std.proofs.Common.{arith}
 use Rattle.vg_lift.proofs.join.opening.Goals as goal
 
 pub returns-clause-few : goal.returns-clause-few

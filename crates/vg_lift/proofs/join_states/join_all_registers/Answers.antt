@@ -1,9 +1,8 @@
-use Rattle.std.proofs.Common.{◌≡◌, ◌+◌, ◌++◌, [], ◌∷◌, List, length, map, take, drop, get_or, sym, ap, subst, ◌∙◌, arith, ℕ}
+use Rattle.std.proofs.Common.{◌≡◌, ◌+◌, ◌++◌, [], ◌∷◌, length, map, drop, get_or, sym, ap, subst, ◌∙◌, arith}
 use Rattle.vg_pool.specs.Pool.{tree_at}
 use Rattle.vg_lift.specs.Join.{join, join_registers}
 use Rattle.vg_lift.specs.Views.{bits_of}
 use Rattle.vg_lift.specs.States.{AllFit}
-use Rattle.vg_lift.specs.declared.bit.Bit.{Bit}
 use Rattle.vg_lift.proofs.StateSteps.{registers_step, registers_kept, register_behind, width_behind}
 use Rattle.vg_lift.proofs.join_states.join_all_registers.Goals as goal
 

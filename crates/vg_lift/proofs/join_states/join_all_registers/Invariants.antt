@@ -1,4 +1,4 @@
-use Rattle.std.proofs.Common.{◌≡◌, ◌++◌, ◌≤◌, length}
+use Rattle.std.proofs.Common.{◌≡◌, ◌++◌, length}
 use Rattle.std.specs.Prelude.{drop, map, take}
 use Rattle.vg_pool.specs.Pool.{Keeps, tree_at}
 use Rattle.vg_lift.specs.Join.{join_registers}

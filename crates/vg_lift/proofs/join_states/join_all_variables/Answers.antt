@@ -1,5 +1,5 @@
 use Rattle.std.proofs.Common.{arith}
-use Rattle.vg_lift.proofs.StateSteps.{node_at, nodes_kept, listed_node}
+use Rattle.vg_lift.proofs.StateSteps.{nodes_kept, listed_node}
 use Rattle.vg_lift.proofs.join_states.join_all_variables.Goals as goal
 
 pub join_variable-requires-clause-x : goal.join_variable-requires-clause-x

@@ -1,9 +1,8 @@
-use Rattle.std.proofs.Common.{◌≡◌, ◌+◌, ◌++◌, [], ◌∷◌, List, length, map, take, drop, get_or, sym, ap, subst, ◌∙◌, arith, ℕ}
+use Rattle.std.proofs.Common.{map, sym, ap, subst, ◌∙◌}
 use Rattle.vg_pool.specs.Pool.{tree_at}
 use Rattle.vg_lift.specs.Join.{join_registers, join_variables}
-use Rattle.vg_lift.specs.LaneTerm.{State}
 use Rattle.vg_lift.specs.Views.{bits_of}
-use Rattle.vg_lift.specs.States.{AllFit, AreNodes}
+use Rattle.vg_lift.specs.States.{AreNodes}
 use Rattle.vg_lift.proofs.StateSteps.{nodes_kept, trees_kept, registers_kept, all_kept, state_at}
 use Rattle.vg_lift.proofs.join_states.join_states.Goals as goal
 

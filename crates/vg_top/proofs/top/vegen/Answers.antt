@@ -1,6 +1,9 @@
-use Rattle.std.proofs.Common.{◌≡◌, ◌≢◌, ◌∙◌, sym, subst, ap, length, Option, Some, None}
+use Rattle.std.proofs.Common.{◌≡◌, ◌≢◌, ◌∙◌, ℕ, sym, subst, ap, length, Option, Some, None, Result, Ok, Err}
+use Rattle.std.specs.Prelude.{Vec}
+use Rattle.std.specs.declared.alloc.Global.{Global}
 use Rattle.std.specs.Option.{IfSome, option_map}
 use Rattle.vg_outside.specs.Shelf.{Held}
+use Rattle.vg_outside.specs.Sink.{AppendsFront}
 use Rattle.vg_top.specs.declared.ending.Ending.{Ending}
 use Rattle.vg_top.specs.declared.ending.Ending.TheVariants.{WriteFault}
 use Rattle.vg_top.specs.declared.status.Status.{Status}
@@ -10,7 +13,8 @@ use Rattle.vg_top.specs.Ending.{status_of}
 use Rattle.vg_top.specs.Line.{Says, line_of}
 use Rattle.vg_top.specs.Request.{Asked, asked_of, files_in, request_of}
 use Rattle.vg_top.specs.Works.{Reads}
-use Rattle.vg_top.specs.Verdict.{asked_outcome, status_told, EndedBy}
+use Rattle.vg_top.specs.Verdict.{asked_outcome, status_told, EndedBy, IsAnswered, Outcome, VecAnswers}
+use Rattle.vg_top.specs.Files.{Tells}
 use Rattle.vg_top.proofs.Endings.{usage_from, written_may, unwritten_may, stopped_may, status_from_verdict, not_rose, not_read_fault, not_write_fault}
 use Rattle.vg_top.proofs.top.vegen.Goals as goal
 use Rattle.vg_top.proofs.top.vegen.Goals.{in-Ok+in-Err-write, in-Err}
@@ -103,3 +107,30 @@ returns-clause-said g c =
       subst (λ (a : Option Asked). ended holds a ending) same told,
       subst (λ (a : Option Asked). Reads (length (files_in a)) (reads c.args.shelf.now) (reads c.answer.new.shelf) (Some ending)) same read,
     )
+
+-- the bytes of the code answer what was asked
+told_answered : (holds : Option Held) (a : Option Asked) (bytes : Vec ℕ Global) → IfSome holds (λ held. Tells VecAnswers (Ok bytes) (asked_outcome held a))
+    → IfSome holds (λ held. IsAnswered (asked_outcome held a) bytes.items)
+told_answered None a bytes t = tt
+told_answered (Some held) a bytes t = by (asked_outcome held a) t
+  where
+    by : (v : Result Outcome Ending) → Tells VecAnswers (Ok bytes) v → IsAnswered v bytes.items
+    by (Ok outcome) t = t
+    by (Err e) t = t
+
+pub returns-clause-cut_off : goal.returns-clause-cut_off
+returns-clause-cut_off g c = elim c.match-answer.branch [
+  | in-Ok+in-Err-write w ↦ λ _.
+      let holds = g.S.Shelf.holds c.args.shelf.now in
+      let written = g.O.Sink.written in
+      let bytes = w.in-Ok.bytes in (
+        bytes.items,
+        subst (λ now. AppendsFront (written c.args.out.now) bytes.items now) (ap written (sym w.out-is))
+            (subst (λ bs. AppendsFront (written c.args.out.now) bs (written w.write.new.self)) w.as_slice.ensures.value w.in-Err-write.ensures.front),
+        subst (λ (a : Option Asked). IfSome holds (λ held. IsAnswered (asked_outcome held a) bytes.items)) c.request_of-request.ensures
+            (told_answered holds (option_map asked_of c.request_of-request.result) bytes w.in-Ok.ensures.told),
+      )
+  | in-Err w ↦ λ is.
+      absurd (not_write_fault (option_map asked_of c.request_of-request.result) w.in-Err.ending w.in-Err.ensures.shelf.may_end
+      (ap status_of (sym w.ending-is) ∙ sym c.status.ensures ∙ is))
+]

@@ -1,0 +1,3 @@
+pub mod FileLanes
+pub mod Lanes
+pub mod Ranges

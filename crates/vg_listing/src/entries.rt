@@ -1,0 +1,95 @@
+//! The lines on the instances of entries.
+
+ghost use Rattle.std.specs.Prelude.{◌≡◌, ◌++◌, ◌<◌, ◌≤◌, ◌-◌, ℕ, IfOk, OnOk, map};
+ghost use Rattle.std.specs.List.{flat_map};
+ghost use Rattle.vg_catalog.specs.Entries.{entry_of};
+ghost use Rattle.vg_catalog.specs.Written.{AllWritten};
+ghost use Rattle.vg_lift.specs.Instances.{HasInstance, HasLanes};
+ghost use Rattle.vg_listing.specs.Listed.{HaveLanes, entries_text, entry_text, lines_of};
+ghost use Rattle.vg_names.specs.Written.{IsWritten};
+ghost use Rattle.vg_range.specs.Checks.{header_in, operation_in};
+ghost use Rattle.vg_shapes.specs.Order.{numbers_from};
+
+use std::alloc::{AllocError, Global};
+use vg_lanes::list_instance;
+use vg_lift::lanes_of;
+use vg_pool::Pool;
+use vg_range::Checked;
+
+/// Appends the lines on one instance of an entry.
+#[tactic(auto, using(crate::proofs::Lanes::are_lanes))]
+fn list_lanes(
+    pool: &mut Pool,
+    alloc: Global,
+    entry: &Checked,
+    imm: u8,
+    to: &mut Vec<u8>,
+) -> Result<(), AllocError>
+    requires written { IsWritten (header_in entry.now) (operation_in entry.now) }
+    requires range { HasInstance (header_in entry.now) imm }
+    requires lanes { HasLanes (header_in entry.now) }
+    ensures { OnOk result (to.new.items ≡ to.old.items ++ lines_of (header_in entry.now) (operation_in entry.now) imm) }
+{
+    let lanes = lanes_of(pool, alloc, entry, imm)?;
+    list_instance(alloc, entry.header(), imm, lanes, to)
+}
+
+/// Appends the lines on the instances of an entry for these immediates, the last one left out.
+fn list_range(
+    alloc: Global,
+    entry: &Checked,
+    first: u32,
+    end: u32,
+    to: &mut Vec<u8>,
+) -> Result<(), AllocError>
+    requires written { IsWritten (header_in entry.now) (operation_in entry.now) }
+    requires range { (imm : ℕ) → first ≤ imm → imm < end → HasInstance (header_in entry.now) imm }
+    requires lanes { HasLanes (header_in entry.now) }
+    requires bytes { end ≤ 256 }
+    ensures { OnOk result (to.new.items ≡ to.old.items
+        ++ flat_map (lines_of (header_in entry.now) (operation_in entry.now)) (numbers_from first (end - first))) }
+{
+    let mut pool = Pool::new(alloc);
+    'immediates: for imm in first..end {
+        list_lanes(&mut pool, alloc, entry, imm as u8, to)?;
+    }
+    Ok(())
+}
+
+/// Appends the lines on all instances of an entry, by rising immediate. They share the nodes of
+/// their terms.
+fn list_entry(alloc: Global, entry: &Checked, to: &mut Vec<u8>) -> Result<(), AllocError>
+    requires written { IsWritten (header_in entry.now) (operation_in entry.now) }
+    requires lanes { HasLanes (header_in entry.now) }
+    ensures { OnOk result (to.new.items ≡ to.old.items ++ entry_text (entry_of entry.now)) }
+{
+    match &entry.header().imm {
+        None => list_range(alloc, entry, 0, 1, to),
+        Some(range) => list_range(
+            alloc,
+            entry,
+            u32::from(range.lo),
+            u32::from(range.hi) + 1,
+            to,
+        ),
+    }
+}
+
+/// The lines on all instances of entries, one entry behind the other. Each instance has the line
+/// `instruction NAME`, with ` imm N` behind it where it has an immediate; for each lane `lane N TERM`
+/// with its canonical term, `lane N too large` or `lane N dynamic`; and `not packable CAUSE` where
+/// packs cannot call it. Want of memory is answered, too, where the script of an instance or the terms
+/// of an entry have more than 2^24 nodes.
+pub fn list_entries(alloc: Global, entries: &[Checked]) -> Result<Vec<u8>, AllocError>
+    requires written { AllWritten (map entry_of entries.now) }
+    requires lanes { HaveLanes (map entry_of entries.now) }
+    ensures { IfOk result (λ bytes. bytes.items ≡ entries_text (map entry_of entries.now)) }
+{
+    let mut to = Vec::new(alloc);
+    let mut left = entries;
+    'entries: while let [entry, behind @ ..] = left {
+        list_entry(alloc, entry, &mut to)?;
+        left = behind;
+    }
+    Ok(to)
+}
