@@ -1,0 +1,79 @@
+//! The lines on the instances of a file, by the top call.
+
+use crate::desk::Desk;
+use std::test::Fail;
+use vg_top::Status;
+
+/// A name, the text of a file, and how `lift` ends with it.
+type Case = (
+    &'static str,
+    &'static str,
+    Status,
+    &'static str,
+    &'static str,
+);
+
+const CASES: [Case; 6] = [
+    (
+        "products",
+        "INSTRUCTION _mm_mul_epi32 PARAM a 128 SI32 PARAM b 128 SI32\nRESULT dst 128 SI64 EXTENSION SSE4.1 COST 1 OPERATION\nFOR j := 0 to 1\ni := j*64\ndst[i+63:i] := SignExtend64(a[i+31:i]) * SignExtend64(b[i+31:i])\nENDFOR\nEND\n",
+        Status::Ok,
+        "instruction _mm_mul_epi32\nlane 0 (mul64 (sext64 a.0:32) (sext64 b.0:32))\nlane 1 (mul64 (sext64 a.64:32) (sext64 b.64:32))\n",
+        "",
+    ),
+    (
+        "mixed",
+        "INSTRUCTION mixed PARAM a 128 UI64 RESULT dst 128 UI64 EXTENSION SSE2 COST 1 OPERATION\ndst.qword[0] := a.word[0] dst.qword[1] := a.byte[0] END\n",
+        Status::Ok,
+        "instruction mixed\nlane 0 (zext64 a.0:16)\nlane 1 (zext64 a.0:8)\nnot packable MixedInput\n",
+        "",
+    ),
+    (
+        "two immediates and a byte by its index, one entry behind the other",
+        "INSTRUCTION moved PARAM a 128 UI64 IMM k 0 to 1 RESULT dst 128 UI64 EXTENSION SSE2 COST 1 OPERATION\ndst.qword[0] := a.qword[k] dst.qword[1] := a.qword[1] END\nINSTRUCTION taken PARAM a 128 UI64 RESULT dst 128 UI64 EXTENSION SSE2 COST 1 OPERATION\nn := a[0:0] dst[63:0] := a[n*64+63:n*64] END\n",
+        Status::Ok,
+        "instruction moved imm 0\nlane 0 a.0:64\nlane 1 a.64:64\ninstruction moved imm 1\nlane 0 a.64:64\nlane 1 a.64:64\ninstruction taken\nlane 0 dynamic\nlane 1 dynamic\nnot packable Dynamic\n",
+        "",
+    ),
+    ("no entries", "// none\n", Status::Ok, "", ""),
+    (
+        "a loop without an end",
+        "INSTRUCTION x\nPARAM a 128 SI32\nRESULT dst 128 SI32\nEXTENSION SSE2\nCOST 1\nOPERATION\nFOR j := 0 to 3\nEND\n",
+        Status::InstructionsRefused,
+        "",
+        "vegen: instructions: 2 Shape at 8:1\n",
+    ),
+    (
+        "a bit past the register",
+        "INSTRUCTION x\nPARAM a 128 SI32\nRESULT dst 128 SI32\nEXTENSION SSE2\nCOST 1\nOPERATION\ndst[159:128] := a[31:0]\nEND\n",
+        Status::InstructionsRefused,
+        "",
+        "vegen: instructions: 5 IndexOutside at 7:1\n",
+    ),
+];
+
+#[test]
+fn lines_on_instances(rt: HostRuntime) -> Result<(), Fail> {
+    for (_name, text, status, out, err) in CASES {
+        let mut desk = Desk::new(rt.alloc(), 1000)?;
+        desk.shelf.put("i", text.as_bytes())?;
+        desk.expect(&rt, &["lift", "i"], status, out.as_bytes(), err.as_bytes())?;
+    }
+    Ok(())
+}
+
+#[test]
+fn words_of_lift(rt: HostRuntime) -> Result<(), Fail> {
+    let mut desk = Desk::new(rt.alloc(), 1000)?;
+    desk.expect(
+        &rt,
+        &["lift", "i"],
+        Status::InputAbsent,
+        b"",
+        b"vegen: absent: i\n",
+    )?;
+    let mut desk = Desk::new(rt.alloc(), 1000)?;
+    desk.expect(&rt, &["lift"], Status::Usage, b"", b"vegen: usage\n")?;
+    let mut desk = Desk::new(rt.alloc(), 1000)?;
+    desk.expect(&rt, &["lift", "-i"], Status::Usage, b"", b"vegen: usage\n")
+}
