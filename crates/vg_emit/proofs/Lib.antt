@@ -1,0 +1,5 @@
+pub mod Registers
+pub mod Placing
+pub mod Memories
+pub mod Sizes
+pub mod Nodes
