@@ -3,3 +3,4 @@ pub mod Placing
 pub mod Memories
 pub mod Sizes
 pub mod Nodes
+pub mod Programs
