@@ -4,3 +4,4 @@ pub mod Memories
 pub mod Sizes
 pub mod Nodes
 pub mod Programs
+pub mod Readiness
