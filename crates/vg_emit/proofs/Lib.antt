@@ -5,3 +5,9 @@ pub mod Sizes
 pub mod Nodes
 pub mod Programs
 pub mod Readiness
+pub mod Traps
+pub mod Jobs
+pub mod Uses
+pub mod Needs
+pub mod Standing
+pub mod Orders
