@@ -11,3 +11,5 @@ pub mod Uses
 pub mod Needs
 pub mod Standing
 pub mod Orders
+pub mod Marks
+pub mod Made

@@ -1,5 +1,5 @@
 -- The program that is emitted for packs, with a recipe for each of their operands, in an order.
-use Rattle.std.specs.Prelude.{◌≡◌, ℕ, ◌+◌, ◌<◌, ◌&&◌, ◌||◌, not, Bool, List, [], ◌∷◌, ◌++◌, length, map, flat_map, sum_by, is_some, if◌then◌else◌}
+use Rattle.std.specs.Prelude.{◌≡◌, ℕ, suc, ◌+◌, ◌<◌, ◌&&◌, ◌||◌, not, Bool, List, [], ◌∷◌, ◌++◌, length, map, flat_map, sum_by, is_some, if◌then◌else◌}
 use Rattle.vg_base.specs.Trap.{◌>>=◌}
 use Rattle.vg_plans.specs.Levels.{distinct}
 use Rattle.vg_plans.specs.World.{is_in}
@@ -42,7 +42,7 @@ operands_in ds matches ssa packs = distinct same_operand (flat_map (operands_of 
 -- the number of an operand among them
 abbrev pub number_in : List Operand → Operand → ℕ
 number_in [] o = 0
-number_in (x ∷ xs) o = if same_operand x o then 0 else 1 + number_in xs o
+number_in (x ∷ xs) o = if same_operand x o then 0 else suc (number_in xs o)
 
 -- for each pack the numbers of the operands that it takes
 abbrev pub takes_in : List Description → List Match → Ssa → List Packed → List Operand → List (List ℕ)
