@@ -13,3 +13,4 @@ pub mod Standing
 pub mod Orders
 pub mod Marks
 pub mod Made
+pub mod Meanings

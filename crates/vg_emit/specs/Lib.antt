@@ -1,5 +1,7 @@
 pub mod Draft
 pub mod Emission
+pub mod Laws
 pub mod Planned
 pub mod Program
 pub mod Promises
+pub mod TwoWords

@@ -1,2 +1,9 @@
 //! Programs of plans: the lines that are emitted for the packs and units of a kernel in a legal order.
+//!
+//! `specs/Emission.antt` says which lines, `specs/Program.antt` which program they make,
+//! `specs/Promises.antt` what registers promise, and `specs/Laws.antt` what the program means.
 #![tactic(auto)]
+
+mod law;
+
+pub use law::{emitted_programs_mean_their_units, two_words_are_two_lines};

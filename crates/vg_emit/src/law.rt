@@ -1,0 +1,16 @@
+//! What emitted programs promise.
+
+ghost use Rattle.vg_emit.specs.Laws.{EmittedMeansUnits};
+ghost use Rattle.vg_emit.specs.TwoWords.{TwoLines};
+
+/// A law that costs nothing to call: the program that is emitted for the packs of a kernel in any
+/// legal order leaves the memory that the units of the kernel leave one after the other, or traps
+/// where they do, in each layout that respects noalias.
+pub fn emitted_programs_mean_their_units()
+    ensures { EmittedMeansUnits }
+{}
+
+/// A law: of two words that are copied, one vector load and one vector store are emitted.
+pub fn two_words_are_two_lines()
+    ensures { TwoLines }
+{}
