@@ -14,3 +14,4 @@ pub mod Orders
 pub mod Marks
 pub mod Made
 pub mod Meanings
+pub mod TwoWords

@@ -1,7 +1,7 @@
 //! What emitted programs promise.
 
 ghost use Rattle.vg_emit.specs.Laws.{EmittedMeansUnits};
-ghost use Rattle.vg_emit.specs.TwoWords.{TwoLines};
+ghost use Rattle.vg_emit.specs.TwoWords.{TwoLines, TwoWordsMeanUnits};
 
 /// A law that costs nothing to call: the program that is emitted for the packs of a kernel in any
 /// legal order leaves the memory that the units of the kernel leave one after the other, or traps
@@ -13,4 +13,10 @@ pub fn emitted_programs_mean_their_units()
 /// A law: of two words that are copied, one vector load and one vector store are emitted.
 pub fn two_words_are_two_lines()
     ensures { TwoLines }
+{}
+
+/// A law: these two lines mean the two loads and the two stores; they meet all that the law on emitted
+/// programs wants.
+pub fn two_words_mean_their_units()
+    ensures { TwoWordsMeanUnits }
 {}

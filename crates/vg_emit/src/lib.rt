@@ -6,4 +6,6 @@
 
 mod law;
 
-pub use law::{emitted_programs_mean_their_units, two_words_are_two_lines};
+pub use law::{
+    emitted_programs_mean_their_units, two_words_are_two_lines, two_words_mean_their_units,
+};
