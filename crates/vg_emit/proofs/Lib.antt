@@ -14,4 +14,6 @@ pub mod Orders
 pub mod Marks
 pub mod Made
 pub mod Meanings
+pub mod Costs
+pub mod Built
 pub mod TwoWords

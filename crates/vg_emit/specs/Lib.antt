@@ -1,3 +1,4 @@
+pub mod Costs
 pub mod Draft
 pub mod Emission
 pub mod Laws
