@@ -16,4 +16,7 @@ pub mod Made
 pub mod Meanings
 pub mod Costs
 pub mod Built
+pub mod Totals
+pub mod PlanCosts
+pub mod PlanPrices
 pub mod TwoWords

@@ -34,10 +34,10 @@ stands-in x ys h = elim (cases_Bool (list_any (nat_eq x) ys)) [
   | inr f ↦ absurd (let none = stands-found x ys f in omega arith)
 ]
 
-in-before : (x : ℕ) (xs ys : List ℕ) → In x xs → In x (xs ++ ys)
+pub in-before : (x : ℕ) (xs ys : List ℕ) → In x xs → In x (xs ++ ys)
 in-before x xs ys h = let split = count_of-append x xs ys in omega arith
 
-in-after : (x : ℕ) (xs ys : List ℕ) → In x ys → In x (xs ++ ys)
+pub in-after : (x : ℕ) (xs ys : List ℕ) → In x ys → In x (xs ++ ys)
 in-after x xs ys h = let split = count_of-append x xs ys in omega arith
 
 -- what an insert puts into a register is needed from the start
@@ -86,7 +86,7 @@ abbrev pub units_below : Ssa → ℕ → List ℕ
 units_below ssa n = filter (is_unit ssa) (numbers_below n)
 
 -- lesser units make no greater value needed
-needed-later : (ssa : Ssa) (packs : List Packed) (n : ℕ) (needed : List ℕ) (v : ℕ) → TakeEarlier (arguments ssa) ssa.units → n ≤ v + 1 → In v (needed_behind ssa packs needed (units_below ssa n)) → In v needed
+pub needed-later : (ssa : Ssa) (packs : List Packed) (n : ℕ) (needed : List ℕ) (v : ℕ) → TakeEarlier (arguments ssa) ssa.units → n ≤ v + 1 → In v (needed_behind ssa packs needed (units_below ssa n)) → In v needed
 needed-later ssa packs zero needed v early low h = h
 needed-later ssa packs (suc m) needed v early low h =
     let kept = units_below ssa m in

@@ -60,7 +60,7 @@ width-known ssa v w e = elim (cases_lt v (arguments ssa)) [
 abbrev pub HasBits : Ssa → Wanted → Type 0
 HasBits ssa y = (z : ℕ) → y ≡ Value z → (w : ℕ) × (value_bits ssa z ≡ Some w)
 
-number-bits : (ssa : Ssa) (w : Width) (y : Wanted) → IsNumber ssa w y → HasBits ssa y
+pub number-bits : (ssa : Ssa) (w : Width) (y : Wanted) → IsNumber ssa w y → HasBits ssa y
 number-bits ssa w (Value v) is z e = (bits_of w, (let same : v ≡ z = cc in ap (value_bits ssa) (sym same) ∙ is))
 number-bits ssa w (Constant m k) is z e = cc
 number-bits ssa w Nothing is z e = absurd is
@@ -106,12 +106,12 @@ value-used (x ∷ ys) y z (inr there) e = more x (value-used ys y z there e)
     more (Constant w n) h = h
     more Nothing h = h
 
-record OperandBits (ssa : Ssa) (xs : Operands) : Type 0 where
-  first : HasBits ssa xs.first
-  second : HasBits ssa xs.second
-  third : HasBits ssa xs.third
+pub record OperandBits (ssa : Ssa) (xs : Operands) : Type 0 where
+  pub first : HasBits ssa xs.first
+  pub second : HasBits ssa xs.second
+  pub third : HasBits ssa xs.third
 
-operation-bits : (ssa : Ssa) (op : Operator) (w : Width) (k : ℕ) (xs : Operands) → IsOperation ssa op w k xs → OperandBits ssa xs
+pub operation-bits : (ssa : Ssa) (op : Operator) (w : Width) (k : ℕ) (xs : Operands) → IsOperation ssa op w k xs → OperandBits ssa xs
 operation-bits ssa (Two op) w k xs is = record { first = number-bits ssa w xs.first is.1; second = number-bits ssa w xs.second is.2; third = no-bits ssa xs.third is.3 }
 operation-bits ssa (Shift op) w k xs is = record { first = number-bits ssa w xs.first is.1; second = no-bits ssa xs.second is.2; third = no-bits ssa xs.third is.3 }
 operation-bits ssa (Resize op v) w k xs is = record { first = number-bits ssa v xs.first is.2; second = no-bits ssa xs.second is.3; third = no-bits ssa xs.third is.4 }

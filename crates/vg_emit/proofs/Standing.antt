@@ -162,3 +162,8 @@ orders-have_units ssa matches packs order good legal x =
           let left : count_of x outside ≡ count_of x (unit_numbers ssa) = kept ∙ ap (λ b. if not b then count_of x (unit_numbers ssa) else 0) f in
           omega arith
     ]
+
+-- the units in packs and those outside are all units, each once
+pub packed-outside : (ssa : Ssa) (matches : List Match) (packs : List Packed) (order : List Node) → ArePacks ssa packs → IsOrder ssa matches packs order → (x : ℕ) → count_of x (packed packs ++ filter (λ v. not (is_packed packs v)) (unit_numbers ssa)) ≡ count_of x (unit_numbers ssa)
+packed-outside ssa matches packs order good legal x =
+    ap (count_of x) (sym (node-units ssa packs)) ∙ sym (count_of-permuted (units_at packs) x (nodes ssa packs) order legal.once) ∙ orders-have_units ssa matches packs order good legal x
