@@ -19,4 +19,5 @@ pub mod Built
 pub mod Totals
 pub mod PlanCosts
 pub mod PlanPrices
+pub mod PlanTotals
 pub mod TwoWords

@@ -82,7 +82,7 @@ values-member (y ∷ ys) x h = by y refl (values-member ys x) h
       | inr f ↦ later (rest (let none : one_if (x == v) ≡ 0 = ap one_if f in omega arith))
     ]
 
-used-valued : (ssa : Ssa) (v x : ℕ) → AllByRecursion (IsUnit ssa) ssa.units → In x (used_by (unit_at ssa v)) → UnitValued ssa x
+pub used-valued : (ssa : Ssa) (v x : ℕ) → AllByRecursion (IsUnit ssa) ssa.units → In x (used_by (unit_at ssa v)) → UnitValued ssa x
 used-valued ssa v x units h = by (unit_at ssa v) refl h
   where
     from : (y : Wanted) → HasBits ssa y → y ≡ Value x → UnitValued ssa x
@@ -110,13 +110,13 @@ slot-is ssa r low [] s are has = absurd has
 slot-is ssa r low (t ∷ ss) s are (inl e) = subst (IsSlot ssa r) e are.1
 slot-is ssa r low (t ∷ ss) s are (inr more) = slot-is ssa r (t.low + t.width) ss s are.2 more
 
-wanted-valued : (ssa : Ssa) (o : Operand) (x : ℕ) → IsOperand ssa o → In x (wanted_values o) → UnitValued ssa x
+pub wanted-valued : (ssa : Ssa) (o : Operand) (x : ℕ) → IsOperand ssa o → In x (wanted_values o) → UnitValued ssa x
 wanted-valued ssa o x is h =
     let s = wanted-slot o.slots x h in
     let slot = slot-is ssa o.register 0 o.slots s.0 is.slots s.1 in
     bits-valued ssa x s.0.width (subst (Rattle.vg_shapes.specs.Operands.MayBeWanted ssa s.0.width) s.2 slot.wanted)
 
-inserted-member : (rs : List Recipe) (os : List Operand) (x : ℕ) (d : Operand) → In x (all_inserted rs os) → (o : ℕ) × (o < length os) × (slice_index_or rs o (recipe.Constant []) ≡ recipe.Inserts) × In x (wanted_values (slice_index_or os o d))
+pub inserted-member : (rs : List Recipe) (os : List Operand) (x : ℕ) (d : Operand) → In x (all_inserted rs os) → (o : ℕ) × (o < length os) × (slice_index_or rs o (recipe.Constant []) ≡ recipe.Inserts) × In x (wanted_values (slice_index_or os o d))
 inserted-member [] os x d h = absurd (omega arith)
 inserted-member (r ∷ rs) [] x d h = absurd (omega arith)
 inserted-member (r ∷ rs) (q ∷ os) x d h = by r refl (inserted-member rs os x d) (let split = count_of-append x (inserted_by r q) (all_inserted rs os) in h)
@@ -133,7 +133,7 @@ inserted-member (r ∷ rs) (q ∷ os) x d h = by r refl (inserted-member rs os x
       | inr none ↦ later (rest (let split = count_of-append x (wanted_values q) (all_inserted rs os) in omega arith))
     ]
 
-needed-all : (P : ℕ → Type 0) (ssa : Ssa) (packs : List Packed) (needed vs : List ℕ) → ((x : ℕ) → In x needed → P x) → ((v x : ℕ) → In x (used_by (unit_at ssa v)) → P x) → (x : ℕ) → In x (needed_behind ssa packs needed vs) → P x
+pub needed-all : (P : ℕ → Type 0) (ssa : Ssa) (packs : List Packed) (needed vs : List ℕ) → ((x : ℕ) → In x needed → P x) → ((v x : ℕ) → In x (used_by (unit_at ssa v)) → P x) → (x : ℕ) → In x (needed_behind ssa packs needed vs) → P x
 needed-all P ssa packs needed [] start used x h = start x h
 needed-all P ssa packs needed (v ∷ vs) start used x h =
     let own = used_by (unit_at ssa v) in
@@ -171,7 +171,7 @@ total-none f [] none = refl
 total-none f (v ∷ vs) none = let a = none v (inl refl) in let b = total-none f vs (λ x h. none x (inr h)) in omega arith
 
 -- what is taken out of the register of a pack
-pack-price : (ds : List Description) (matches : List Match) (ssa : Ssa) (packs : List Packed) (recipes : List Recipe) (k : ℕ) → let j = job_of ds matches ssa packs recipes in
+pub pack-price : (ds : List Description) (matches : List Match) (ssa : Ssa) (packs : List Packed) (recipes : List Recipe) (k : ℕ) → let j = job_of ds matches ssa packs recipes in
     let last = needed_behind ssa packs (all_inserted recipes (operands_in ds matches ssa packs)) (falling_units ssa) in
     IsPlanned j → ((x : ℕ) → In x last → UnitValued ssa x) → k < length packs → Has (pack_at j k) packs → needed_in j (values_of (pack_at j k)) ≡ total (unit_price ssa packs last) (units_of (pack_at j k))
 pack-price ds matches ssa packs recipes k planned valued low has = by (pack_at (job_of ds matches ssa packs recipes) k) refl
@@ -201,7 +201,7 @@ pack-price ds matches ssa packs recipes k planned valued low has = by (pack_at (
     by (Call c lanes) e = same (units_of (Call c lanes)) (ap values_of e) (ap units_of e)
 
 -- a unit outside packs
-outside-price : (j : Job) (packs : List Packed) (last : List ℕ) (v : ℕ) → ((x : ℕ) → j.needed x ≡ (has_value j.ssa x && is_in x last)) → is_packed packs v ≡ false → is_unit j.ssa v ≡ true → work_cost j v (unit_at j.ssa v) ≡ unit_price j.ssa packs last v
+pub outside-price : (j : Job) (packs : List Packed) (last : List ℕ) (v : ℕ) → ((x : ℕ) → j.needed x ≡ (has_value j.ssa x && is_in x last)) → is_packed packs v ≡ false → is_unit j.ssa v ≡ true → work_cost j v (unit_at j.ssa v) ≡ unit_price j.ssa packs last v
 outside-price j packs last v marks outside unit = by (unit_at j.ssa v) refl
   where
     open_price : unit_price j.ssa packs last v ≡ one_if (is_some (access_at j.ssa v) || is_in v last)
@@ -213,3 +213,12 @@ outside-price j packs last v marks outside unit = by (unit_at j.ssa v) refl
     by (Some (Operation op w k xs)) e =
         ap one_if (marks v) ∙ value-price j.ssa last v (subst Valued (sym e) tt)
         ∙ sym (open_price ∙ ap (λ o. one_if (is_some (o >>= access_of) || is_in v last)) e)
+
+-- a number of a unit
+pub unit-of-number : (ssa : Ssa) (v : ℕ) → Has v (unit_numbers ssa) → is_unit ssa v ≡ true
+unit-of-number ssa v has = by (arguments ssa) (length ssa.units) 0 has (let e : arguments ssa ≡ arguments ssa + 0 = omega arith in e) (let e : length ssa.units ≡ 0 + length ssa.units = omega arith in e)
+  where
+    by : (first n k : ℕ) → Has v (numbers_from first n) → first ≡ arguments ssa + k → length ssa.units ≡ k + n → is_unit ssa v ≡ true
+    by first zero k h e l = absurd h
+    by first (suc n) k (inl here) e l = subst (λ x. is_unit ssa x ≡ true) (sym e ∙ here) (Rattle.vg_emit.proofs.Totals.unit-here ssa k (omega arith))
+    by first (suc n) k (inr more) e l = by (first + 1) n (k + 1) more (omega arith) (omega arith)

@@ -80,7 +80,7 @@ none-below f ssa (suc n) low =
     | inr f' ↦ ap (total f) (cond-false (is_unit ssa n) (n ∷ kept) kept f') ∙ none-below f ssa n (omega arith)
     ]
 
-unit-here : (ssa : Ssa) (n : ℕ) → n < length ssa.units → is_unit ssa (arguments ssa + n) ≡ true
+pub unit-here : (ssa : Ssa) (n : ℕ) → n < length ssa.units → is_unit ssa (arguments ssa + n) ≡ true
 unit-here ssa n low =
     let d : Rattle.vg_shapes.specs.declared.unit.Unit.Unit = Rattle.std.specs.Prelude.slice_index_or ssa.units n (Rattle.vg_shapes.specs.declared.unit.Unit.TheVariants.Load (record { pointer = 0; offset = Rattle.std.proofs.Common.pos 0 }) Rattle.vg_base.specs.declared.width.Width.TheVariants.W8) in
     let same : arguments ssa + n - arguments ssa ≡ n = omega arith in

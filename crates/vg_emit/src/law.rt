@@ -1,5 +1,6 @@
 //! What emitted programs promise.
 
+ghost use Rattle.vg_emit.specs.Costs.{EmittedCostsThePlan};
 ghost use Rattle.vg_emit.specs.Laws.{EmittedMeansUnits};
 ghost use Rattle.vg_emit.specs.TwoWords.{TwoLines, TwoWordsMeanUnits};
 
@@ -19,4 +20,10 @@ pub fn two_words_are_two_lines()
 /// programs wants.
 pub fn two_words_mean_their_units()
     ensures { TwoWordsMeanUnits }
+{}
+
+/// A law: the program that is emitted for packs costs what they cost as a plan, where each recipe
+/// costs what the plan counts for its operand.
+pub fn emitted_programs_cost_their_plans()
+    ensures { EmittedCostsThePlan }
 {}
