@@ -21,3 +21,5 @@ pub mod PlanCosts
 pub mod PlanPrices
 pub mod PlanTotals
 pub mod TwoWords
+pub mod Widths
+pub mod Validity

@@ -34,12 +34,12 @@ use Rattle.vg_emit.specs.Program.{kind_of, param_of}
 use Rattle.vg_emit.proofs.Placing.{Known}
 use Rattle.vg_emit.proofs.Registers.{found-set}
 
-get-more : {A : Type 0} (xs ys : List A) (k : ℕ) (x : A) → slice_get xs k ≡ Some x → slice_get (xs ++ ys) k ≡ Some x
+pub get-more : {A : Type 0} (xs ys : List A) (k : ℕ) (x : A) → slice_get xs k ≡ Some x → slice_get (xs ++ ys) k ≡ Some x
 get-more [] ys k x e = cc
 get-more (y ∷ xs) ys zero x e = e
 get-more (y ∷ xs) ys (suc k) x e = get-more xs ys k x e
 
-get-last : {A : Type 0} (xs : List A) (k : ℕ) (x : A) → length xs ≡ k → slice_get (xs ++ x ∷ []) k ≡ Some x
+pub get-last : {A : Type 0} (xs : List A) (k : ℕ) (x : A) → length xs ≡ k → slice_get (xs ++ x ∷ []) k ≡ Some x
 get-last [] zero x e = refl
 get-last [] (suc k) x e = absurd (omega arith)
 get-last (y ∷ xs) zero x e = absurd (omega arith)

@@ -1,6 +1,7 @@
 pub mod Costs
 pub mod Draft
 pub mod Emission
+pub mod Fit
 pub mod Laws
 pub mod Planned
 pub mod Program
