@@ -23,3 +23,4 @@ pub mod PlanTotals
 pub mod TwoWords
 pub mod Widths
 pub mod Validity
+pub mod Keeping
