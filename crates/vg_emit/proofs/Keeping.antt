@@ -74,12 +74,12 @@ pointers-long (p ∷ ps) = by p.kind refl (pointers-long ps)
     by (Pointer n) e rest = ap length (cond-true (params.is_pointer_kind (kind_of p.kind)) (param_of p ∷ tail) tail (ap (λ k. params.is_pointer_kind (kind_of k)) e)) ∙ ap suc rest ∙ ap length (sym (cond-true (not (is_integer p.kind)) (p ∷ own) own (ap (λ k. not (is_integer k)) e)))
     by (Integer w) e rest = ap length (cond-false (params.is_pointer_kind (kind_of p.kind)) (param_of p ∷ tail) tail (ap (λ k. params.is_pointer_kind (kind_of k)) e)) ∙ rest ∙ ap length (sym (cond-false (not (is_integer p.kind)) (p ∷ own) own (ap (λ k. not (is_integer k)) e)))
 
-address-fits : (j : Job) (d : Draft) (b : Before) (a : Address) → Typed j d b → IsAddress (length (pointers j.ssa)) a → IsAddress (length (params.pointers b.params)) a
+pub address-fits : (j : Job) (d : Draft) (b : Before) (a : Address) → Typed j d b → IsAddress (length (pointers j.ssa)) a → IsAddress (length (params.pointers b.params)) a
 address-fits j d b a h is = subst (λ n. IsAddress n a) (sym (ap (λ l. length (params.pointers l)) h.params ∙ pointers-long j.ssa.params)) is
 
 -- ---- units outside packs
 
-unit-width : (ssa : Ssa) (v : ℕ) (u : Work) → unit_at ssa v ≡ Some u → value_bits ssa v ≡ unit_bits u
+pub unit-width : (ssa : Ssa) (v : ℕ) (u : Work) → unit_at ssa v ≡ Some u → value_bits ssa v ≡ unit_bits u
 unit-width ssa v u e = cond-false _ _ _ (le-ltb v (arguments ssa) (unit-number ssa v u e).0) ∙ ap (λ o. o >>= unit_bits) e
 
 number-is-wide : (ssa : Ssa) (w : Width) (x : Wanted) → IsNumber ssa w x → IsWide ssa (bits_of w) x
@@ -108,7 +108,7 @@ operation-fits j d b (Compare op) w k xs h is known rest x =
 operation-fits j d b Select w k xs h is known rest x =
     ((number-wide j d b xs.first 1 h known.first (bit-is-wide j.ssa xs.first is.1), number-wide j d b xs.second (bits_of w) h known.second (number-is-wide j.ssa w xs.second is.2), number-wide j d b xs.third (bits_of w) h known.third (number-is-wide j.ssa w xs.third is.3)), x)
 
-work-types : (j : Job) (d : Draft) (b : Before) (v : ℕ) (o : Option Work) → AllByRecursion (IsUnit j.ssa) j.ssa.units → unit_at j.ssa v ≡ o → Typed j d b → UnitReady j d v o → (after : Before) × Types j b (unit_lines j d v o).lines (unit_lines j d v o).draft after
+pub work-types : (j : Job) (d : Draft) (b : Before) (v : ℕ) (o : Option Work) → AllByRecursion (IsUnit j.ssa) j.ssa.units → unit_at j.ssa v ≡ o → Typed j d b → UnitReady j d v o → (after : Before) × Types j b (unit_lines j d v o).lines (unit_lines j d v o).draft after
 work-types j d b v None units e h ready = (b, types-nothing j b d h)
 work-types j d b v (Some (Load a w)) units e h ready =
     let is = unit-is j.ssa v (Load a w) units e in
@@ -129,11 +129,11 @@ work-types j d b v (Some (Operation op w k xs)) units e h ready =
 
 -- ---- packs
 
-loads-fit : (ssa : Ssa) (w : Width) (a : Address) (us : List ℕ) → AreLoads ssa w a us → AllByRecursion (LaneFits ssa (bits_of w)) (map Some us)
+pub loads-fit : (ssa : Ssa) (w : Width) (a : Address) (us : List ℕ) → AreLoads ssa w a us → AllByRecursion (LaneFits ssa (bits_of w)) (map Some us)
 loads-fit ssa w a [] are = tt
 loads-fit ssa w a (u ∷ us) are = (unit-width ssa u (Load a w) are.0, loads-fit ssa w (Rattle.vg_shapes.specs.Pack.behind a (size_of w)) us are.1)
 
-pack-most : (n : ℕ) → is_pack_size n ≡ true → n ≤ 64
+pub pack-most : (n : ℕ) → is_pack_size n ≡ true → n ≤ 64
 pack-most n h = elim (or_cases (nat_eq n 4) _ h) [
   | inl t ↦ (let e = eqb-true n 4 t in omega arith)
   | inr a ↦ elim (or_cases (nat_eq n 8) _ a) [
@@ -151,14 +151,14 @@ pack-most n h = elim (or_cases (nat_eq n 4) _ h) [
   ]
 ]
 
-few-units : (w : Width) (n : ℕ) → n * size_of w ≤ 64 → (n ≤ 64) × (n * bits_of w ≤ 8 * (n * size_of w))
+pub few-units : (w : Width) (n : ℕ) → n * size_of w ≤ 64 → (n ≤ 64) × (n * bits_of w ≤ 8 * (n * size_of w))
 few-units W8 n h = (omega arith, omega arith)
 few-units W16 n h = (omega arith, omega arith)
 few-units W32 n h = (omega arith, omega arith)
 few-units W64 n h = (omega arith, omega arith)
 
 -- a pack that gives a register: operands, the line, and what is taken out
-holder-types : (j : Job) (d : Draft) (b b1 : Before) (k w : ℕ) (p : Packed) (l : Line) → let made = build_all j d (takes_at j k) in
+pub holder-types : (j : Job) (d : Draft) (b b1 : Before) (k w : ℕ) (p : Packed) (l : Line) → let made = build_all j d (takes_at j k) in
     AllPlaced j b (takes_at j k) made.lines made.draft made.registers b1 → ((rest : List Line) → AreLines (more_vector b1 w) rest → AreLines b1 (l ∷ rest))
     → w ≡ register_of j.descriptions j.ssa (pack_at j k) → length (lanes_of p) * bits_of (width_for (lane_width_of j.descriptions j.ssa p)) ≤ w → length (lanes_of p) ≤ 64
     → AllByRecursion (LaneFits j.ssa (bits_of (width_for (lane_width_of j.descriptions j.ssa p)))) (lanes_of p)
@@ -181,16 +181,16 @@ holder-types j d b b1 k w p l placed fit wide inside few fits =
       headers = rest.1.headers } in
     (rest.0, types-then j b b1 rest.0 made.lines (l ∷ ls) f (extracts j (with_held f k) f.vectors width 0 (lanes_of p)).draft placed.types next)
 
-taken-registers : (bounds : List Bound) (k : ℕ) (ps : List ℕ) → map (λ (o : Operand). o.register) (operands_from bounds k ps) ≡ ps
+pub taken-registers : (bounds : List Bound) (k : ℕ) (ps : List ℕ) → map (λ (o : Operand). o.register) (operands_from bounds k ps) ≡ ps
 taken-registers bounds k [] = refl
 taken-registers bounds k (p ∷ ps) = ap (λ l. p ∷ l) (taken-registers bounds (suc k) ps)
 
-params-at : (ds : List Description) (e : ℕ) → params_of ds e ≡ (slice_index_or ds e no_description).params
+pub params-at : (ds : List Description) (e : ℕ) → params_of ds e ≡ (slice_index_or ds e no_description).params
 params-at [] e = refl
 params-at (d ∷ ds) zero = refl
 params-at (d ∷ ds) (suc e) = params-at ds e
 
-register-at : (ds : List Description) (e : ℕ) → (slice_index_or ds e no_description).register ≡ option_map_or (λ (d : Description). d.register) (slice_get ds e) 0
+pub register-at : (ds : List Description) (e : ℕ) → (slice_index_or ds e no_description).register ≡ option_map_or (λ (d : Description). d.register) (slice_get ds e) 0
 register-at [] e = refl
 register-at (d ∷ ds) zero = refl
 register-at (d ∷ ds) (suc e) = register-at ds e

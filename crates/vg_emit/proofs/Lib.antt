@@ -24,3 +24,4 @@ pub mod TwoWords
 pub mod Widths
 pub mod Validity
 pub mod Keeping
+pub mod Rules

@@ -63,7 +63,7 @@ use Rattle.vg_emit.proofs.Uses.{node-uses-depend, unit-in-list}
 
 -- ---- before the first line nothing stands anywhere
 
-found-blank : (n v r : ℕ) → found (replicate n None) v ≡ Some r → ⊥
+pub found-blank : (n v r : ℕ) → found (replicate n None) v ≡ Some r → ⊥
 found-blank zero v r e = cc
 found-blank (suc n) zero r e = cc
 found-blank (suc n) (suc v) r e = found-blank n v r e

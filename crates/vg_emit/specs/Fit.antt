@@ -2,6 +2,7 @@
 use Rattle.std.specs.Prelude.{◌≡◌, ℕ, ◌*◌, ◌<◌, ◌≤◌, ◌^◌, List, length, map, slice_get, Option, Some, None, IsSomeAnd, IsTrue}
 use Rattle.std.specs.List.{AllByRecursion}
 use Rattle.vg_pseudo.specs.declared.header.Header.{Header}
+use Rattle.vg_program.specs.Cost.{cost_of}
 use Rattle.vg_program.specs.Valid.{header_of, IsConstant, IsImm, KeepsRules}
 use Rattle.vg_program.specs.Vectors.{constant_bits}
 use Rattle.vg_shapes.specs.declared.match_table.Match.{Match}
@@ -60,3 +61,13 @@ pub record AreFit (j : Job) (headers : List Header) : Type 0 where
       → LanesFit j.descriptions j.ssa e lanes
   pub recipes : (o : ℕ) → o < length j.operands
       → RecipeFits j (operand_at j o) (recipe_at j o)
+
+-- the program that is emitted for packs keeps the rules on programs, whatever its text is long
+abbrev pub EmittedKeepsRules : Type 0
+EmittedKeepsRules =
+    (headers : List Header) (ds : List Description) (matches : List Match) (ssa : Ssa)
+    (packs : List Packed) (recipes : List Recipe) (order : List Node) →
+    IsPlanned (job_of ds matches ssa packs recipes) → IsOrder ssa matches packs order →
+    AreFit (job_of ds matches ssa packs recipes) headers →
+    cost_of (program_of ds matches ssa packs recipes order) < 2 ^ 32 →
+    KeepsRules headers (program_of ds matches ssa packs recipes order)

@@ -1,6 +1,7 @@
 //! What emitted programs promise.
 
 ghost use Rattle.vg_emit.specs.Costs.{EmittedCostsThePlan};
+ghost use Rattle.vg_emit.specs.Fit.{EmittedKeepsRules};
 ghost use Rattle.vg_emit.specs.Laws.{EmittedMeansUnits};
 ghost use Rattle.vg_emit.specs.TwoWords.{TwoLines, TwoWordsMeanUnits};
 
@@ -26,4 +27,10 @@ pub fn two_words_mean_their_units()
 /// costs what the plan counts for its operand.
 pub fn emitted_programs_cost_their_plans()
     ensures { EmittedCostsThePlan }
+{}
+
+/// A law: the program that is emitted for packs keeps the rules on programs, whatever the length of its
+/// text is, where the descriptions are those of the instructions.
+pub fn emitted_programs_keep_the_rules()
+    ensures { EmittedKeepsRules }
 {}
