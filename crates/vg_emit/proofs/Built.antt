@@ -1,5 +1,5 @@
 -- Behind all nodes each operand stands in a register.
-use Rattle.std.proofs.Common.{◌≡◌, ℕ, zero, suc, ◌+◌, ◌<◌, ◌≤◌, Bool, true, false, List, [], ◌∷◌, ◌++◌, length, map, Option, Some, None, refl, sym, ap, subst, ◌∙◌, ◌⊎◌, inl, inr, arith}
+use Rattle.std.proofs.Common.{◌≡◌, ℕ, ◌+◌, ◌<◌, List, [], ◌∷◌, length, Option, Some, None, refl, sym, ap, subst, ◌∙◌, inl, inr}
 use Rattle.std.specs.Prelude.{slice_set}
 use Rattle.std.proofs.Math.ListN.{set}
 use Rattle.std.proofs.lemmas.Bool.{cases_Bool, cond-true, cond-false, cases_eq, cases_lt}
@@ -76,8 +76,8 @@ extracts-built j d r w n (None ∷ us) = extracts-built j d r w (n + 1) us
 extracts-built j d r w n (Some v ∷ us) =
     let Goal : Made → Type 0 = λ made. made.draft.built ≡ d.built in
     elim (cases_Bool (j.needed v)) [
-    | inl t ↦ subst Goal (sym (cond-true _ _ _ t)) (extracts-built j (with_name d v) r w (n + 1) us)
-    | inr f ↦ subst Goal (sym (cond-false _ _ _ f)) (extracts-built j d r w (n + 1) us)
+      | inl t ↦ subst Goal (sym (cond-true _ _ _ t)) (extracts-built j (with_name d v) r w (n + 1) us)
+      | inr f ↦ subst Goal (sym (cond-false _ _ _ f)) (extracts-built j d r w (n + 1) us)
     ]
 
 with-pack-built : (d : Draft) (k : ℕ) (p : Packed) → (with_pack d k p).built ≡ d.built
@@ -97,8 +97,8 @@ work-built j d v (Some (Store a w x)) = refl
 work-built j d v (Some (Operation op w k xs)) =
     let Goal : Made → Type 0 = λ made. made.draft.built ≡ d.built in
     elim (cases_Bool (j.needed v)) [
-    | inl t ↦ subst Goal (sym (cond-true _ _ _ t)) refl
-    | inr f ↦ subst Goal (sym (cond-false _ _ _ f)) refl
+      | inl t ↦ subst Goal (sym (cond-true _ _ _ t)) refl
+      | inr f ↦ subst Goal (sym (cond-false _ _ _ f)) refl
     ]
 
 node-built : (j : Job) (d : Draft) (n : Node) → Builds d (node_lines j d n).draft

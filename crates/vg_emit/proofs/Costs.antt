@@ -1,5 +1,5 @@
 -- The lines of an order cost what its nodes cost, and once the recipe of each operand that is brought into a register.
-use Rattle.std.proofs.Common.{◌≡◌, ℕ, zero, suc, ◌+◌, ◌<◌, ◌≤◌, Bool, true, false, List, [], ◌∷◌, ◌++◌, length, map, Option, Some, None, refl, sym, ap, subst, ◌∙◌, ◌⊎◌, inl, inr, arith}
+use Rattle.std.proofs.Common.{◌≡◌, ℕ, zero, suc, ◌+◌, ◌<◌, Bool, true, false, List, [], ◌∷◌, ◌++◌, length, Option, Some, None, refl, sym, ap, subst, ◌∙◌, inl, inr, arith}
 use Rattle.std.specs.Prelude.{filter, filter_map, slice_get, slice_index_or, slice_set, sum_by, unwrap_or}
 use Rattle.std.specs.List.{AllByRecursion, cons_option}
 use Rattle.std.specs.Option.{option_map_or}
@@ -28,10 +28,10 @@ use Rattle.vg_packing.specs.declared.recipe.Recipe.{Recipe}
 use Rattle.vg_packing.specs.declared.recipe.Recipe.TheVariants as recipe
 use Rattle.vg_packing.specs.Held.{lane_width_of}
 use Rattle.vg_packing.specs.Packing.{price_of}
-use Rattle.vg_packing.specs.Wants.{value_of, wanted_values, wants_value}
-use Rattle.vg_emit.specs.Draft.{Draft, Made, found, with_built, with_held, with_name, with_vectors}
+use Rattle.vg_packing.specs.Wants.{value_of, wants_value}
+use Rattle.vg_emit.specs.Draft.{Draft, Made, found, with_name}
 use Rattle.vg_emit.specs.Costs.{cost_of_recipe}
-use Rattle.vg_emit.specs.Emission.{Job, build, build_all, description_at, emitted, extracts, inserts, no_description, node_lines, number_for, operand_at, operation_line, pack_at, pack_line, pack_lines, place, place_once, recipe_at, takes_at, unit_lines, value_slots, width_for, with_pack}
+use Rattle.vg_emit.specs.Emission.{Job, build, build_all, emitted, extracts, inserts, no_description, node_lines, number_for, operand_at, operation_line, pack_at, pack_line, pack_lines, place, place_once, recipe_at, takes_at, unit_lines, value_slots, width_for, with_pack}
 use Rattle.vg_emit.specs.Planned.{values_of}
 
 abbrev pub lines_cost : List Line → ℕ
@@ -73,12 +73,14 @@ slots-wanted [] = refl
 slots-wanted (s ∷ ss) =
     let kept = filter (λ s. wants_value s.wanted) ss in
     by s.wanted (wants_value s.wanted) refl (slots-wanted ss)
-      (λ t. cond-true (wants_value s.wanted) (s ∷ kept) kept t) (λ f. cond-false (wants_value s.wanted) (s ∷ kept) kept f)
+    (λ t. cond-true (wants_value s.wanted) (s ∷ kept) kept t) (λ f. cond-false (wants_value s.wanted) (s ∷ kept) kept f)
   where
     rest : List Slot
     rest = filter (λ s. wants_value s.wanted) ss
+
     whole : List Slot
     whole = filter (λ s. wants_value s.wanted) (s ∷ ss)
+
     by : (y : Wanted) (b : Bool) → wants_value y ≡ b → length (filter (λ s. wants_value s.wanted) ss) ≡ length (filter_map (λ s. value_of s.wanted) ss)
         → (wants_value y ≡ true → whole ≡ s ∷ rest) → (wants_value y ≡ false → whole ≡ rest) → length whole ≡ length (cons_option (value_of y) (filter_map (λ s. value_of s.wanted) ss))
     by (Value v) b e same keep leave = ap length (keep refl) ∙ ap suc same
@@ -95,6 +97,7 @@ recipe-costs j d o way e h none = (by way e, long way)
     long (recipe.Constant bs) = length-set d.built o _
     long (recipe.Shuffle x ks) = length-set d.built o _
     long recipe.Inserts = length-set d.built o _
+
     by : (way : Recipe) → recipe_at j o ≡ way → lines_cost (place j d o way).lines + built_cost j 0 d.built ≡ built_cost j 0 (place j d o way).draft.built
     by (recipe.Reuse k) e = let s = built_cost-set j 0 d.built o (unwrap_or (found d.held k) 0) h none in let at : 0 + o ≡ o = omega arith in let same = ap (own_cost j) at ∙ ap (cost_of_recipe j.descriptions (operand_at j o)) e in omega arith
     by (recipe.Constant bs) e = let s = built_cost-set j 0 d.built o d.vectors h none in let at : 0 + o ≡ o = omega arith in let same = ap (own_cost j) at ∙ ap (cost_of_recipe j.descriptions (operand_at j o)) e in omega arith
@@ -137,8 +140,8 @@ extracts-cost j d r w n (None ∷ us) = extracts-cost j d r w (n + 1) us
 extracts-cost j d r w n (Some v ∷ us) =
     let Goal : Made → Type 0 = λ made. (lines_cost made.lines ≡ one_if (j.needed v) + needed_in j (filter_map (λ u. u) us)) × (made.draft.built ≡ d.built) in
     elim (cases_Bool (j.needed v)) [
-    | inl t ↦ subst Goal (sym (cond-true _ _ _ t)) (let rest = extracts-cost j (with_name d v) r w (n + 1) us in let a = rest.0 in let one = ap one_if t in (omega arith, rest.1))
-    | inr f ↦ subst Goal (sym (cond-false _ _ _ f)) (let rest = extracts-cost j d r w (n + 1) us in let a = rest.0 in let one = ap one_if f in (omega arith, rest.1))
+      | inl t ↦ subst Goal (sym (cond-true _ _ _ t)) (let rest = extracts-cost j (with_name d v) r w (n + 1) us in let a = rest.0 in let one = ap one_if t in (omega arith, rest.1))
+      | inr f ↦ subst Goal (sym (cond-false _ _ _ f)) (let rest = extracts-cost j d r w (n + 1) us in let a = rest.0 in let one = ap one_if f in (omega arith, rest.1))
     ]
 
 -- a unit outside packs
@@ -162,8 +165,8 @@ work-costs j d v (Some (Store a w x)) = (refl, refl)
 work-costs j d v (Some (Operation op w k xs)) =
     let Goal : Made → Type 0 = λ made. (lines_cost made.lines ≡ one_if (j.needed v)) × (made.draft.built ≡ d.built) in
     elim (cases_Bool (j.needed v)) [
-    | inl t ↦ subst Goal (sym (cond-true _ _ _ t)) (let one = ap one_if t in let c = operation-cost op w k (number_for j d xs.first) (number_for j d xs.second) (number_for j d xs.third) in omega arith, refl)
-    | inr f ↦ subst Goal (sym (cond-false _ _ _ f)) (sym (ap one_if f), refl)
+      | inl t ↦ subst Goal (sym (cond-true _ _ _ t)) (let one = ap one_if t in let c = operation-cost op w k (number_for j d xs.first) (number_for j d xs.second) (number_for j d xs.third) in omega arith, refl)
+      | inr f ↦ subst Goal (sym (cond-false _ _ _ f)) (sym (ap one_if f), refl)
     ]
 
 call-price : (ds : List Description) (e : ℕ) → (slice_index_or ds e no_description).cost ≡ option_map_or (λ (d : Description). d.cost) (slice_get ds e) 0

@@ -1,8 +1,7 @@
 -- What follows from packs of a kernel, whatever the numbers and the order are.
-use Rattle.std.proofs.Common.{◌≡◌, ℕ, zero, suc, ◌+◌, ◌-◌, ◌*◌, ◌<◌, ◌≤◌, Bool, true, false, List, [], ◌∷◌, ◌++◌, length, map, Option, Some, None, refl, sym, ap, subst, ◌∙◌, ◌⊎◌, inl, inr, arith}
-use Rattle.std.specs.Prelude.{filter, filter_map, nat_eq, nat_lt, not, slice_get, slice_index_or, ◌==◌, ◌||◌}
-use Rattle.std.specs.List.{AllByRecursion, flat_map, list_any}
-use Rattle.std.specs.List.Sorted.{IsPermutation}
+use Rattle.std.proofs.Common.{◌≡◌, ℕ, zero, suc, ◌+◌, ◌-◌, ◌<◌, ◌≤◌, Bool, true, false, List, [], ◌∷◌, ◌++◌, length, map, Option, Some, None, refl, sym, ap, subst, ◌∙◌, inl, inr, arith}
+use Rattle.std.specs.Prelude.{filter, nat_eq, not, slice_get, slice_index_or, ◌==◌, ◌||◌}
+use Rattle.std.specs.List.{AllByRecursion, list_any}
 use Rattle.std.specs.Option.{is_some, option_map_or}
 use Rattle.std.proofs.lemmas.Bool.{cases_Bool, cases_lt, cond-false, cond-true, eqb-true, eqb-false, true≢false}
 use Rattle.std.proofs.lemmas.List.Elements.{All-from_recursion, recursion_from_All}
@@ -10,7 +9,7 @@ use Rattle.std.proofs.lemmas.List.Sorted.{All-permutation}
 use Rattle.vg_base.specs.declared.address.Address.{Address}
 use Rattle.vg_base.specs.declared.width.Width.{Width}
 use Rattle.vg_base.specs.Trap.{◌>>=◌}
-use Rattle.vg_base.specs.Width.{bits_of, size_of}
+use Rattle.vg_base.specs.Width.{size_of}
 use Rattle.vg_shapes.specs.declared.match_table.Match.{Match}
 use Rattle.vg_shapes.specs.declared.order.Node.{Node}
 use Rattle.vg_shapes.specs.declared.order.Node.TheVariants.{PackAt, UnitAt}
@@ -27,11 +26,9 @@ use Rattle.vg_shapes.specs.Order.{all_units, count_of, Follows, numbers_from, on
 use Rattle.vg_shapes.specs.Pack.{AreLoads, AreStores, units_of}
 use Rattle.vg_shapes.specs.Sound.{unit_bits}
 use Rattle.vg_shapes.specs.Units.{arguments, is_unit, unit_at}
-use Rattle.vg_packing.specs.Held.{lane_width_of}
 use Rattle.vg_order_laws.proofs.Sequences.{count_of-append}
 use Rattle.vg_emit.specs.Emission.{Job, pack_at}
 use Rattle.vg_emit.specs.Planned.{IsPack, values_of}
-use Rattle.vg_emit.specs.Program.{has_value}
 use Rattle.vg_emit.proofs.Programs.{node_units}
 use Rattle.vg_emit.proofs.Readiness.{IsHolder, OnlyIn, Valued, values-loads}
 use Rattle.vg_emit.proofs.Traps.{PackSides}
@@ -167,8 +164,8 @@ unit-nodes j (v ∷ vs) =
     let rest = unit-nodes j vs in
     let kept = filter (λ v. not (is_packed j.packs v)) vs in
     elim (cases_Bool (not (is_packed j.packs v))) [
-    | inl t ↦ subst Goal (sym (cond-true _ (v ∷ kept) kept t)) (not-not (is_packed j.packs v) t, rest)
-    | inr f ↦ subst Goal (sym (cond-false _ (v ∷ kept) kept f)) rest
+      | inl t ↦ subst Goal (sym (cond-true _ (v ∷ kept) kept t)) (not-not (is_packed j.packs v) t, rest)
+      | inr f ↦ subst Goal (sym (cond-false _ (v ∷ kept) kept f)) rest
     ]
 
 all-joined : {A : Type 0} (P : A → Type 0) (xs ys : List A) → AllByRecursion P xs → AllByRecursion P ys → AllByRecursion P (xs ++ ys)

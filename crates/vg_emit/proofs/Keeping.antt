@@ -1,33 +1,25 @@
 -- Emitted programs keep the rules on programs.
-use Rattle.std.proofs.Common.{◌≡◌, ℕ, zero, suc, ◌+◌, ◌*◌, ◌/◌, ◌^◌, ◌<◌, ◌≤◌, Bool, true, false, List, [], ◌∷◌, ◌++◌, length, map, Option, Some, None, refl, sym, ap, subst, ◌∙◌, ◌⊎◌, inl, inr, arith, append-nil}
-use Rattle.std.specs.Prelude.{filter, nat_eq, not, slice_get, slice_index, slice_index_or, ◌==◌, ◌||◌}
-use Rattle.std.specs.List.{AllByRecursion, IsDistinct}
+use Rattle.std.proofs.Common.{◌≡◌, ℕ, zero, suc, ◌+◌, ◌*◌, ◌^◌, ◌<◌, ◌≤◌, true, List, [], ◌∷◌, ◌++◌, length, map, Option, Some, None, refl, sym, ap, subst, ◌∙◌, inl, inr, arith}
+use Rattle.std.specs.Prelude.{filter, nat_eq, not, slice_get, slice_index_or}
+use Rattle.std.specs.List.{AllByRecursion}
 use Rattle.std.specs.Option.{option_map_or}
 use Rattle.std.proofs.lemmas.Bool.{cases_Bool, cond-true, cond-false, eqb-true, le-ltb, or_cases}
-use Rattle.std.proofs.lemmas.List.{length-map}
 use Rattle.vg_base.specs.declared.address.Address.{Address}
 use Rattle.vg_base.specs.declared.width.Width.{Width}
 use Rattle.vg_base.specs.declared.width.Width.TheVariants.{W8, W16, W32, W64}
 use Rattle.vg_base.specs.Offset.{IsAddress}
 use Rattle.vg_base.specs.Trap.{◌>>=◌}
 use Rattle.vg_base.specs.Width.{bits_of, size_of}
-use Rattle.vg_pseudo.specs.declared.header.Header.{Header}
 use Rattle.vg_scalar.specs.declared.resize.Resize.{Resize as Change}
 use Rattle.vg_scalar.specs.declared.resize.Resize.TheVariants.{Sext, Zext, Trunc}
 use Rattle.vg_program.specs.declared.line.Line.{Line}
-use Rattle.vg_program.specs.declared.line.Line.TheVariants as line
 use Rattle.vg_program.specs.declared.param.Param.{Param}
-use Rattle.vg_program.specs.Before.{Before, nothing_before}
+use Rattle.vg_program.specs.Before.{Before}
 use Rattle.vg_program.specs.Params as params
-use Rattle.vg_program.specs.Valid.{AreLines, HasBits, IsLine, Resizes}
-use Rattle.vg_program.specs.Vectors as vectors
+use Rattle.vg_program.specs.Valid.{AreLines, Resizes}
 use Rattle.vg_shapes.specs.declared.match_table.Bound.{Bound}
-use Rattle.vg_shapes.specs.declared.match_table.Match.{Match}
 use Rattle.vg_shapes.specs.declared.operand.Operand.{Operand}
-use Rattle.vg_shapes.specs.declared.order.Node.{Node}
-use Rattle.vg_shapes.specs.declared.order.Node.TheVariants.{PackAt, UnitAt}
 use Rattle.vg_shapes.specs.declared.pack.Pack.{Pack as Packed}
-use Rattle.vg_shapes.specs.declared.pack.Pack.TheVariants.{Stores, Loads, Call}
 use Rattle.vg_shapes.specs.declared.ssa.Ssa.{Ssa}
 use Rattle.vg_shapes.specs.declared.ssa.SsaParam.{SsaParam}
 use Rattle.vg_shapes.specs.declared.ssa.SsaParamKind.{SsaParamKind}
@@ -42,22 +34,20 @@ use Rattle.vg_shapes.specs.declared.wanted.Wanted.TheVariants.{Value, Constant, 
 use Rattle.vg_shapes.specs.Description.{Description}
 use Rattle.vg_shapes.specs.Operands.{lanes_of}
 use Rattle.vg_shapes.specs.Pack.{AreLoads, AreStores, is_pack_size}
-use Rattle.vg_shapes.specs.Sound.{IsBit, IsChange, IsNumber, IsOperation, IsSound, IsUnit, pointers, result_bits, unit_bits, value_bits}
+use Rattle.vg_shapes.specs.Sound.{IsBit, IsChange, IsNumber, IsOperation, IsUnit, pointers, result_bits, unit_bits, value_bits}
 use Rattle.vg_shapes.specs.Units.{arguments, is_integer, unit_at}
 use Rattle.vg_packing.specs.Held.{lane_width_of, register_of}
-use Rattle.vg_packing.specs.Taken.{group_operand, operands_from, operands_of, params_of, slots_of}
-use Rattle.vg_emit.specs.Draft.{Draft, Made, with_held, with_name}
-use Rattle.vg_emit.specs.Emission.{Job, build_all, call_of, description_at, emitted, extracts, first_address, joint_size, no_description, node_lines, number_for, operand_at, operation_line, pack_at, pack_line, pack_lines, takes_at, unit_lines, width_for}
-use Rattle.vg_emit.specs.Fit.{AreFit, LaneFits}
-use Rattle.vg_emit.specs.Planned.{IsPack, IsPlanned}
+use Rattle.vg_packing.specs.Taken.{operands_from, params_of}
+use Rattle.vg_emit.specs.Draft.{Draft, Made, with_held}
+use Rattle.vg_emit.specs.Emission.{Job, build_all, extracts, no_description, number_for, operation_line, pack_at, takes_at, unit_lines, width_for}
+use Rattle.vg_emit.specs.Fit.{LaneFits}
 use Rattle.vg_emit.specs.Program.{kind_of, param_of}
-use Rattle.vg_emit.proofs.Jobs.{get-there, kind-at, listed, unit-number}
-use Rattle.vg_emit.proofs.Needs.{IsJob, lane-width, unit-is}
+use Rattle.vg_emit.proofs.Jobs.{unit-number}
+use Rattle.vg_emit.proofs.Needs.{unit-is}
 use Rattle.vg_emit.proofs.Nodes.{WorkReady}
-use Rattle.vg_emit.proofs.Placing.{AllReady}
-use Rattle.vg_emit.proofs.Programs.{NodeReady, NodesReady, UnitReady}
-use Rattle.vg_emit.proofs.Sizes.{HasSize, loads-address, loads-size, loads-width, register-bytes, stores-address, stores-size, stores-width, width-again}
-use Rattle.vg_emit.proofs.Validity.{AllPlaced, builds-types, call-fits}
+use Rattle.vg_emit.proofs.Programs.{UnitReady}
+use Rattle.vg_emit.proofs.Sizes.{width-again}
+use Rattle.vg_emit.proofs.Validity.{AllPlaced}
 use Rattle.vg_emit.proofs.Widths.{extracts-types, get-more, IsWide, more_scalar, more_vector, number-wide, Typed, typed-held, typed-name, Types, types-nothing, types-then}
 
 -- ---- the parameters of the program
@@ -68,8 +58,10 @@ pointers-long (p ∷ ps) = by p.kind refl (pointers-long ps)
   where
     tail : List Param
     tail = params.pointers (map param_of ps)
+
     own : List SsaParam
     own = filter (λ (p : SsaParam). not (is_integer p.kind)) ps
+
     by : (k : SsaParamKind) → p.kind ≡ k → length (params.pointers (map param_of ps)) ≡ length (filter (λ (p : SsaParam). not (is_integer p.kind)) ps) → length (params.pointers (map param_of (p ∷ ps))) ≡ length (filter (λ (p : SsaParam). not (is_integer p.kind)) (p ∷ ps))
     by (Pointer n) e rest = ap length (cond-true (params.is_pointer_kind (kind_of p.kind)) (param_of p ∷ tail) tail (ap (λ k. params.is_pointer_kind (kind_of k)) e)) ∙ ap suc rest ∙ ap length (sym (cond-true (not (is_integer p.kind)) (p ∷ own) own (ap (λ k. not (is_integer k)) e)))
     by (Integer w) e rest = ap length (cond-false (params.is_pointer_kind (kind_of p.kind)) (param_of p ∷ tail) tail (ap (λ k. params.is_pointer_kind (kind_of k)) e)) ∙ rest ∙ ap length (sym (cond-false (not (is_integer p.kind)) (p ∷ own) own (ap (λ k. not (is_integer k)) e)))
@@ -121,10 +113,10 @@ work-types j d b v (Some (Operation op w k xs)) units e h ready =
     let is = unit-is j.ssa v (Operation op w k xs) units e in
     let Goal : Made → Type 0 = λ made. (after : Before) × Types j b made.lines made.draft after in
     elim (cases_Bool (j.needed v)) [
-    | inr f ↦ subst Goal (sym (cond-false _ _ _ f)) (b, types-nothing j b d h)
-    | inl t ↦ subst Goal (sym (cond-true _ _ _ t))
-        (let c = more_scalar b (result_bits op w) in
-        (c, record { fit = λ rest x. operation-fits j d b op w k xs h is (ready t) rest x; typed = typed-name j d b v (result_bits op w) h (unit-width j.ssa v (Operation op w k xs) e); grown = λ k x g. g; headers = refl }))
+      | inr f ↦ subst Goal (sym (cond-false _ _ _ f)) (b, types-nothing j b d h)
+      | inl t ↦ subst Goal (sym (cond-true _ _ _ t))
+          (let c = more_scalar b (result_bits op w) in
+          (c, record { fit = λ rest x. operation-fits j d b op w k xs h is (ready t) rest x; typed = typed-name j d b v (result_bits op w) h (unit-width j.ssa v (Operation op w k xs) e); grown = λ k x g. g; headers = refl }))
     ]
 
 -- ---- packs
@@ -163,7 +155,7 @@ pub holder-types : (j : Job) (d : Draft) (b b1 : Before) (k w : ℕ) (p : Packed
     → w ≡ register_of j.descriptions j.ssa (pack_at j k) → length (lanes_of p) * bits_of (width_for (lane_width_of j.descriptions j.ssa p)) ≤ w → length (lanes_of p) ≤ 64
     → AllByRecursion (LaneFits j.ssa (bits_of (width_for (lane_width_of j.descriptions j.ssa p)))) (lanes_of p)
     → let rest = extracts j (with_held made.draft k) made.draft.vectors (width_for (lane_width_of j.descriptions j.ssa p)) 0 (lanes_of p) in
-      (after : Before) × Types j b (made.lines ++ l ∷ rest.lines) rest.draft after
+    (after : Before) × Types j b (made.lines ++ l ∷ rest.lines) rest.draft after
 holder-types j d b b1 k w p l placed fit wide inside few fits =
     let made = build_all j d (takes_at j k) in
     let f = made.draft in
@@ -178,7 +170,8 @@ holder-types j d b b1 k w p l placed fit wide inside few fits =
       fit = λ others x. fit (ls ++ others) (rest.1.fit others x);
       typed = rest.1.typed;
       grown = λ m x g. rest.1.grown m x (get-more b1.vectors (w ∷ []) m x g);
-      headers = rest.1.headers } in
+      headers = rest.1.headers;
+    } in
     (rest.0, types-then j b b1 rest.0 made.lines (l ∷ ls) f (extracts j (with_held f k) f.vectors width 0 (lanes_of p)).draft placed.types next)
 
 pub taken-registers : (bounds : List Bound) (k : ℕ) (ps : List ℕ) → map (λ (o : Operand). o.register) (operands_from bounds k ps) ≡ ps

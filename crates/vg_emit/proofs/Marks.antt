@@ -1,6 +1,6 @@
 -- What is needed as scalars: what inserts put into registers, and what units use that are emitted as scalars.
-use Rattle.std.proofs.Common.{◌≡◌, ℕ, zero, suc, ◌+◌, ◌<◌, ◌≤◌, Bool, true, false, List, [], ◌∷◌, ◌++◌, length, Option, Some, None, refl, sym, ap, subst, ◌∙◌, ◌⊎◌, inl, inr, arith}
-use Rattle.std.specs.Prelude.{filter, filter_map, nat_eq, not, slice_index_or, ◌==◌, ◌||◌, ◌&&◌}
+use Rattle.std.proofs.Common.{◌≡◌, ℕ, zero, suc, ◌+◌, ◌<◌, ◌≤◌, true, false, List, [], ◌∷◌, ◌++◌, length, Option, Some, None, refl, sym, ap, subst, ◌∙◌, ◌⊎◌, inl, inr, arith}
+use Rattle.std.specs.Prelude.{filter, filter_map, nat_eq, not, slice_index_or, ◌==◌}
 use Rattle.std.specs.List.{AllByRecursion, cons_option, list_any}
 use Rattle.std.specs.Option.{is_some}
 use Rattle.std.proofs.lemmas.Bool.{and_from, cases_Bool, cases_lt, cond-false, cond-true, eqb-true, eqb-false, or_left, or_right}
@@ -25,7 +25,6 @@ use Rattle.vg_packing.specs.Wants.{value_of, wanted_values}
 use Rattle.vg_order_laws.proofs.Sequences.{count_of-append}
 use Rattle.vg_emit.specs.Program.{all_inserted, inserted_by, is_scalar, needed_behind}
 use Rattle.vg_emit.proofs.Jobs.{stands-found}
-use Rattle.vg_emit.proofs.Standing.{found-stands}
 use Rattle.vg_emit.proofs.Uses.{takes-earlier}
 
 pub stands-in : (x : ℕ) (ys : List ℕ) → In x ys → is_in x ys ≡ true
@@ -53,8 +52,8 @@ needed-keeps ssa packs needed [] x h = h
 needed-keeps ssa packs needed (v ∷ vs) x h =
     let Goal : List ℕ → Type 0 = λ l. In x (needed_behind ssa packs l vs) in
     elim (cases_Bool (is_scalar ssa packs needed v)) [
-    | inl t ↦ subst Goal (sym (cond-true _ _ needed t)) (needed-keeps ssa packs (used_by (unit_at ssa v) ++ needed) vs x (in-after x (used_by (unit_at ssa v)) needed h))
-    | inr f ↦ subst Goal (sym (cond-false _ (used_by (unit_at ssa v) ++ needed) _ f)) (needed-keeps ssa packs needed vs x h)
+      | inl t ↦ subst Goal (sym (cond-true _ _ needed t)) (needed-keeps ssa packs (used_by (unit_at ssa v) ++ needed) vs x (in-after x (used_by (unit_at ssa v)) needed h))
+      | inr f ↦ subst Goal (sym (cond-false _ (used_by (unit_at ssa v) ++ needed) _ f)) (needed-keeps ssa packs needed vs x h)
     ]
 
 -- a unit uses lesser values
@@ -93,18 +92,18 @@ needed-later ssa packs (suc m) needed v early low h =
     let own = used_by (unit_at ssa m) in
     let Goal : List ℕ → Type 0 = λ l. In v (needed_behind ssa packs needed l) → In v needed in
     let step : In v (needed_behind ssa packs needed (m ∷ kept)) → In v needed = λ g.
-      elim (cases_Bool (is_scalar ssa packs needed m)) [
+    elim (cases_Bool (is_scalar ssa packs needed m)) [
       | inl t ↦
           let after : In v (own ++ needed) = needed-later ssa packs m (own ++ needed) v early (omega arith) (subst (λ l. In v (needed_behind ssa packs l kept)) (cond-true _ (own ++ needed) needed t) g) in
           elim (cases_lt 0 (count_of v own)) [
-          | inl u ↦ absurd (let less = used-low ssa m v early u in omega arith)
-          | inr z ↦ (let split = count_of-append v own needed in omega arith)
+            | inl u ↦ absurd (let less = used-low ssa m v early u in omega arith)
+            | inr z ↦ (let split = count_of-append v own needed in omega arith)
           ]
       | inr f ↦ needed-later ssa packs m needed v early (omega arith) (subst (λ l. In v (needed_behind ssa packs l kept)) (cond-false _ (own ++ needed) needed f) g)
-      ] in
+    ] in
     elim (cases_Bool (is_unit ssa m)) [
-    | inr f ↦ needed-later ssa packs m needed v early (omega arith) (subst (λ l. In v (needed_behind ssa packs needed l)) (cond-false (is_unit ssa m) (m ∷ kept) kept f) h)
-    | inl t ↦ step (subst (λ l. In v (needed_behind ssa packs needed l)) (cond-true (is_unit ssa m) (m ∷ kept) kept t) h)
+      | inr f ↦ needed-later ssa packs m needed v early (omega arith) (subst (λ l. In v (needed_behind ssa packs needed l)) (cond-false (is_unit ssa m) (m ∷ kept) kept f) h)
+      | inl t ↦ step (subst (λ l. In v (needed_behind ssa packs needed l)) (cond-true (is_unit ssa m) (m ∷ kept) kept t) h)
     ]
 
 scalar-from : (ssa : Ssa) (packs : List Packed) (needed : List ℕ) (v : ℕ) → is_packed packs v ≡ false → (is_some (access_at ssa v) ≡ true) ⊎ In v needed → is_scalar ssa packs needed v ≡ true
@@ -121,27 +120,27 @@ used-needed ssa packs (suc m) needed v x early low unit outside emitted used =
     let Claim : List ℕ → Type 0 = λ l. (is_some (access_at ssa v) ≡ true) ⊎ In v (needed_behind ssa packs needed l) → In x (needed_behind ssa packs needed l) in
     let Behind : List ℕ → Type 0 = λ l. (is_some (access_at ssa v) ≡ true) ⊎ In v (needed_behind ssa packs l kept) → In x (needed_behind ssa packs l kept) in
     elim (cases_Bool (m == v)) [
-    | inl t ↦
-        let same = eqb-true m v t in
-        let here : is_unit ssa m ≡ true = ap (is_unit ssa) same ∙ unit in
-        let mine : In x own = subst (λ k. In x (used_by (unit_at ssa k))) (sym same) used in
-        let first : Claim (m ∷ kept) = λ e.
+      | inl t ↦
+          let same = eqb-true m v t in
+          let here : is_unit ssa m ≡ true = ap (is_unit ssa) same ∙ unit in
+          let mine : In x own = subst (λ k. In x (used_by (unit_at ssa k))) (sym same) used in
+          let first : Claim (m ∷ kept) = λ e.
           let now : (is_some (access_at ssa v) ≡ true) ⊎ In v needed = elim e [
             | inl a ↦ inl a
             | inr g ↦ inr (needed-later ssa packs (suc m) needed v early (omega arith) (subst (λ l. In v (needed_behind ssa packs needed l)) (sym (cond-true (is_unit ssa m) (m ∷ kept) kept here)) g))
           ] in
           let scalar : is_scalar ssa packs needed m ≡ true = ap (is_scalar ssa packs needed) same ∙ scalar-from ssa packs needed v outside now in
           subst (λ l. In x (needed_behind ssa packs l kept)) (sym (cond-true _ (own ++ needed) needed scalar)) (needed-keeps ssa packs (own ++ needed) kept x (in-before x own needed mine)) in
-        subst Claim (sym (cond-true (is_unit ssa m) (m ∷ kept) kept here)) first emitted
-    | inr f ↦
-        let other = eqb-false m v f in
-        let below : v < m = omega arith in
-        elim (cases_Bool (is_unit ssa m)) [
-        | inr g ↦ subst Claim (sym (cond-false (is_unit ssa m) (m ∷ kept) kept g)) (λ e. used-needed ssa packs m needed v x early below unit outside e used) emitted
-        | inl g ↦ subst Claim (sym (cond-true (is_unit ssa m) (m ∷ kept) kept g))
-            (elim (cases_Bool (is_scalar ssa packs needed m)) [
-              | inl s ↦ subst Behind (sym (cond-true _ (own ++ needed) needed s)) (λ e. used-needed ssa packs m (own ++ needed) v x early below unit outside e used)
-              | inr s ↦ subst Behind (sym (cond-false _ (own ++ needed) needed s)) (λ e. used-needed ssa packs m needed v x early below unit outside e used)
-            ]) emitted
-        ]
+          subst Claim (sym (cond-true (is_unit ssa m) (m ∷ kept) kept here)) first emitted
+      | inr f ↦
+          let other = eqb-false m v f in
+          let below : v < m = omega arith in
+          elim (cases_Bool (is_unit ssa m)) [
+            | inr g ↦ subst Claim (sym (cond-false (is_unit ssa m) (m ∷ kept) kept g)) (λ e. used-needed ssa packs m needed v x early below unit outside e used) emitted
+            | inl g ↦ subst Claim (sym (cond-true (is_unit ssa m) (m ∷ kept) kept g))
+                (elim (cases_Bool (is_scalar ssa packs needed m)) [
+                  | inl s ↦ subst Behind (sym (cond-true _ (own ++ needed) needed s)) (λ e. used-needed ssa packs m (own ++ needed) v x early below unit outside e used)
+                  | inr s ↦ subst Behind (sym (cond-false _ (own ++ needed) needed s)) (λ e. used-needed ssa packs m needed v x early below unit outside e used)
+                ]) emitted
+          ]
     ]

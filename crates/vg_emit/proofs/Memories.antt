@@ -1,5 +1,5 @@
 -- A vector load is its loads one after the other, a vector store its stores.
-use Rattle.std.proofs.Common.{◌≡◌, ℕ, zero, suc, ◌+◌, ◌*◌, ◌/◌, ◌%◌, ◌<◌, ◌≤◌, pos, Bool, true, false, cond, List, [], ◌∷◌, ◌++◌, length, take, drop, Option, Some, None, refl, sym, ap, subst, ◌∙◌, inl, inr, arith, length-append}
+use Rattle.std.proofs.Common.{◌≡◌, ℕ, zero, suc, ◌+◌, ◌*◌, ◌≤◌, pos, cond, List, [], ◌∷◌, ◌++◌, length, take, drop, Some, None, sym, ap, subst, ◌∙◌, inl, inr, arith, length-append}
 use Rattle.std.specs.Prelude.{map, nat_le, nat_eq}
 use Rattle.std.specs.List.{flat_map}
 use Rattle.std.proofs.lemmas.Int.{ints}
@@ -59,8 +59,8 @@ seen-some m a n v after e = elim (cases_Bool (nat_le (a + n) (length m))) [
       let h = leb-true _ _ t in
       let now : cond (nat_eq (number (range a n m)) v) (Some m) None ≡ Some after = sym (seen-inside m a n v h) ∙ e in
       elim (cases_Bool (nat_eq (number (range a n m)) v)) [
-      | inl u ↦ (let kept : Some m ≡ Some after = sym (cond-true _ _ _ u) ∙ now in cc, h, eqb-true _ _ u)
-      | inr g ↦ absurd (let none : None ≡ Some after = sym (cond-false _ _ _ g) ∙ now in cc)
+        | inl u ↦ (let kept : Some m ≡ Some after = sym (cond-true _ _ _ u) ∙ now in cc, h, eqb-true _ _ u)
+        | inr g ↦ absurd (let none : None ≡ Some after = sym (cond-false _ _ _ g) ∙ now in cc)
       ]
 ]
 
@@ -93,14 +93,15 @@ stand-lanes m a n skip count (v ∷ vs) zeros are inside fits s =
     let long : length read ≡ count = length-range a count m inside in
     let some : skip + n ≤ count = omega arith in
     let lane : range (8 * skip) (8 * n) (bits_of_bytes read ++ zeros) ≡ bits_of_bytes (range (a + skip) n m) =
-      range-append_left (8 * skip) (8 * n) (bits_of_bytes read) zeros (let l = length-bits_of_bytes read in omega arith)
-      ∙ range-bits_of_bytes skip n read (omega arith)
-      ∙ ap bits_of_bytes (range-range skip n a count m some) in
+    range-append_left (8 * skip) (8 * n) (bits_of_bytes read) zeros (let l = length-bits_of_bytes read in omega arith)
+    ∙ range-bits_of_bytes skip n read (omega arith)
+    ∙ ap bits_of_bytes (range-range skip n a count m some) in
     let next : 8 * (skip + n) ≡ 8 * skip + 8 * n = omega arith in
-    let there : a + (skip + n) ≡ a + skip + n = omega arith in
-    (ap num lane ∙ num-bits_of_bytes (range (a + skip) n m) (IsBytes-range (a + skip) n m are) ∙ s.1,
-    subst (λ low. Lanes (bits_of_bytes read ++ zeros) low (8 * n) vs) next
-      (stand-lanes m a n (skip + n) count vs zeros are inside (omega arith) (subst (λ b. StandAt m b n vs) (sym there) s.2)))
+    let there : a + (skip + n) ≡ a + skip + n = omega arith in (
+      ap num lane ∙ num-bits_of_bytes (range (a + skip) n m) (IsBytes-range (a + skip) n m are) ∙ s.1,
+      subst (λ low. Lanes (bits_of_bytes read ++ zeros) low (8 * n) vs) next
+          (stand-lanes m a n (skip + n) count vs zeros are inside (omega arith) (subst (λ b. StandAt m b n vs) (sym there) s.2)),
+    )
 
 -- ---- stores
 
@@ -135,9 +136,10 @@ stores-run ssa places numbers w a at (u ∷ us) (x ∷ xs) m after stores place 
     let more = stores-run ssa places numbers w (behind a (size_of w)) (at + size_of w) us xs next after stores.1 (place_behind places a at (size_of w) place) (omega arith) went.2 in
     let rest : at + size_of w + length others ≤ length next = more.0 in
     let both = length-append one others in
-    let fits : at + length one + length others ≤ length m = omega arith in
-    (omega arith,
-    more.1 ∙ ap (replaced (at + size_of w) others) wrote.1 ∙ ap (λ k. replaced (at + k) others (replaced at one m)) (sym l) ∙ sym (replaced-append at one others m fits))
+    let fits : at + length one + length others ≤ length m = omega arith in (
+      omega arith,
+      more.1 ∙ ap (replaced (at + size_of w) others) wrote.1 ∙ ap (λ k. replaced (at + k) others (replaced at one m)) (sym l) ∙ sym (replaced-append at one others m fits),
+    )
 
 -- the low bits of a register with these lanes
 pub lanes-range : (register : List ℕ) (low size : ℕ) (ns : List ℕ) → IsBits register → low + 8 * size * length ns ≤ length register → Lanes register low (8 * size) ns

@@ -1,15 +1,14 @@
 -- What nodes of a plan need stands in registers, where what is needed is marked.
-use Rattle.std.proofs.Common.{◌≡◌, ℕ, zero, suc, ◌+◌, ◌-◌, ◌*◌, ◌/◌, ◌%◌, ◌<◌, ◌≤◌, Bool, true, false, List, [], ◌∷◌, ◌++◌, length, map, Option, Some, None, refl, sym, ap, subst, ◌∙◌, ◌⊎◌, inl, inr, arith, lit<}
-use Rattle.std.specs.Prelude.{filter, filter_map, nat_eq, nat_lt, slice_get, ◌==◌, ◌||◌}
+use Rattle.std.proofs.Common.{◌≡◌, ℕ, zero, suc, ◌+◌, ◌-◌, ◌<◌, ◌≤◌, true, false, List, [], ◌∷◌, length, map, Option, Some, None, refl, sym, ap, subst, ◌∙◌, ◌⊎◌, inl, inr, arith, lit<}
+use Rattle.std.specs.Prelude.{filter, filter_map, nat_eq, slice_get, ◌==◌}
 use Rattle.std.specs.List.{AllByRecursion, cons_option, list_any}
-use Rattle.std.specs.Option.{is_some, option_map}
+use Rattle.std.specs.Option.{is_some}
 use Rattle.std.proofs.lemmas.Bool.{cases_Bool, cases_lt, cond-false, cond-true, eqb-true, eq-eqb, le-ltb, or_cases}
 use Rattle.vg_base.specs.declared.width.Width.{Width}
 use Rattle.vg_base.specs.Trap.{◌>>=◌}
 use Rattle.vg_base.specs.Width.{bits_of}
 use Rattle.vg_plans.specs.Members.{Has}
 use Rattle.vg_shapes.specs.declared.match_table.Match.{Match}
-use Rattle.vg_shapes.specs.declared.operand.Operand.{Operand}
 use Rattle.vg_shapes.specs.declared.operand.Slot.{Slot}
 use Rattle.vg_shapes.specs.declared.order.Node.{Node}
 use Rattle.vg_shapes.specs.declared.order.Node.TheVariants.{PackAt, UnitAt}
@@ -23,21 +22,21 @@ use Rattle.vg_shapes.specs.declared.wanted.Wanted.{Wanted}
 use Rattle.vg_shapes.specs.declared.wanted.Wanted.TheVariants.{Value, Constant, Nothing}
 use Rattle.vg_shapes.specs.Layout.{access_at, access_of}
 use Rattle.vg_shapes.specs.Nodes.{is_packed}
-use Rattle.vg_shapes.specs.Operands.{AreSlots, IsOperand, IsSlot, MayBeWanted}
-use Rattle.vg_shapes.specs.Order.{count_of, one_if, Stands as In}
-use Rattle.vg_shapes.specs.Sound.{IsBit, IsNumber, IsOperation, IsUnit, kind_bits, unit_bits, value_bits}
-use Rattle.vg_shapes.specs.Units.{arguments, integers, unit_at}
+use Rattle.vg_shapes.specs.Operands.{AreSlots, IsSlot, MayBeWanted}
+use Rattle.vg_shapes.specs.Order.{one_if, Stands as In}
+use Rattle.vg_shapes.specs.Sound.{IsBit, IsNumber, IsOperation, IsUnit, value_bits}
+use Rattle.vg_shapes.specs.Units.{arguments, unit_at}
 use Rattle.vg_packing.specs.declared.recipe.Recipe.{Recipe}
 use Rattle.vg_packing.specs.declared.recipe.Recipe.TheVariants as recipe
 use Rattle.vg_packing.specs.Packing.{used_by}
 use Rattle.vg_packing.specs.Taken.{operands_of}
 use Rattle.vg_packing.specs.Wants.{value_of, wanted_values, wants_value}
-use Rattle.vg_emit.specs.Emission.{Job, operand_at, pack_at, recipe_at, takes_at, value_slots, width_for}
-use Rattle.vg_emit.specs.Planned.{IsLaneWidth, IsPlanned, TakesGiven}
+use Rattle.vg_emit.specs.Emission.{Job, operand_at, pack_at, recipe_at, takes_at, width_for}
+use Rattle.vg_emit.specs.Planned.{IsPlanned, TakesGiven}
 use Rattle.vg_emit.specs.Program.{has_value}
-use Rattle.vg_emit.proofs.Jobs.{IsNode, valued-some}
+use Rattle.vg_emit.proofs.Jobs.{IsNode}
 use Rattle.vg_emit.proofs.Placing.{IsLaneSlot}
-use Rattle.vg_emit.proofs.Readiness.{Is, NodeNeeds, OperandNeeds, RecipeNeeds, SlotsNeeded, TakenNeeded, Valued, WorkNeeds}
+use Rattle.vg_emit.proofs.Readiness.{Is, NodeNeeds, OperandNeeds, RecipeNeeds, SlotsNeeded, TakenNeeded, WorkNeeds}
 use Rattle.vg_emit.proofs.Uses.{unit-in-list}
 
 -- The parts of a job go together: packs name their operands, and what is needed is what inserts and scalars use.
@@ -123,6 +122,7 @@ unit-needs j matches v units job outside = by (unit_at j.ssa v) refl
   where
     marked : (o : Option Work) (ys : List Wanted) (y : Wanted) → unit_at j.ssa v ≡ o → used_by o ≡ filter_map value_of ys → Has y ys → (is_some (access_at j.ssa v) ≡ true) ⊎ (j.needed v ≡ true) → (z : ℕ) → y ≡ Value z → has_value j.ssa z ≡ true → j.needed z ≡ true
     marked o ys y e same has emitted z is value = job.used v z outside emitted (subst (In z) (sym (ap used_by e ∙ same)) (value-used ys y z has is)) value
+
     by : (o : Option Work) → unit_at j.ssa v ≡ o → WorkNeeds j v o
     by None e = tt
     by (Some (Load a w)) e = tt
@@ -131,10 +131,11 @@ unit-needs j matches v units job outside = by (unit_at j.ssa v) refl
         needed-where j x (number-bits j.ssa w x is.1) (marked (Some (Store a w x)) (x ∷ []) x e refl (inl refl) (inl (ap (λ o. is_some (o >>= access_of)) e)))
     by (Some (Operation op w k xs)) e = λ n.
         let bits = operation-bits j.ssa op w k xs (unit-is j.ssa v (Operation op w k xs) units e) in
-        let ys = xs.first ∷ (xs.second ∷ (xs.third ∷ [])) in
-        (needed-where j xs.first bits.first (marked (Some (Operation op w k xs)) ys xs.first e refl (inl refl) (inr n)),
-        needed-where j xs.second bits.second (marked (Some (Operation op w k xs)) ys xs.second e refl (inr (inl refl)) (inr n)),
-        needed-where j xs.third bits.third (marked (Some (Operation op w k xs)) ys xs.third e refl (inr (inr (inl refl))) (inr n)))
+        let ys = xs.first ∷ (xs.second ∷ (xs.third ∷ [])) in (
+          needed-where j xs.first bits.first (marked (Some (Operation op w k xs)) ys xs.first e refl (inl refl) (inr n)),
+          needed-where j xs.second bits.second (marked (Some (Operation op w k xs)) ys xs.second e refl (inr (inl refl)) (inr n)),
+          needed-where j xs.third bits.third (marked (Some (Operation op w k xs)) ys xs.third e refl (inr (inr (inl refl))) (inr n)),
+        )
 
 -- ---- operands of packs
 
@@ -175,15 +176,16 @@ slots-needed j wants register low (s ∷ ss) are inside marked =
     let rest = slots-needed j wants register (s.low + s.width) ss are.2 (λ x h. inside x (later s.wanted x h)) marked in
     let here : (x : ℕ) → s.wanted ≡ Value x → In x wants = λ x e. inside x (first s.wanted x e) in
     elim (cases_Bool (wants_value s.wanted)) [
-    | inr f ↦ subst Goal (sym (cond-false _ (s ∷ kept) kept f)) rest
-    | inl t ↦ subst Goal (sym (cond-true _ (s ∷ kept) kept t))
-        ((needed-where j s.wanted (wanted-bits j.ssa s.width s.wanted are.1.wanted) (λ z e value. marked z (here z e) value), (λ x i. here x (is-value s.wanted x i)), lane-slot j.ssa register s are.1), rest)
+      | inr f ↦ subst Goal (sym (cond-false _ (s ∷ kept) kept f)) rest
+      | inl t ↦ subst Goal (sym (cond-true _ (s ∷ kept) kept t))
+          ((needed-where j s.wanted (wanted-bits j.ssa s.width s.wanted are.1.wanted) (λ z e value. marked z (here z e) value), (λ x i. here x (is-value s.wanted x i)), lane-slot j.ssa register s are.1), rest)
     ]
   where
     later : (y : Wanted) (x : ℕ) → In x (filter_map (λ t. value_of t.wanted) ss) → In x (cons_option (value_of y) (filter_map (λ t. value_of t.wanted) ss))
     later (Value v) x h = omega arith
     later (Constant w n) x h = h
     later Nothing x h = h
+
     first : (y : Wanted) (x : ℕ) → y ≡ Value x → In x (cons_option (value_of y) (filter_map (λ t. value_of t.wanted) ss))
     first y x e = subst (λ q. In x (cons_option (value_of q) (filter_map (λ t. value_of t.wanted) ss))) (sym e) (let one : one_if (x == x) ≡ 1 = ap one_if (eq-eqb x x refl) in omega arith)
 

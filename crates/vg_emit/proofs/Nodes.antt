@@ -1,7 +1,6 @@
 -- The lines of a node do to memory what its units do one after the other, where the loads of these read their numbers.
-use Rattle.std.proofs.Common.{◌≡◌, ℕ, zero, suc, ◌+◌, ◌-◌, ◌*◌, ◌/◌, ◌<◌, ◌≤◌, ℤ, pos, negsuc, Bool, true, false, cond, List, [], ◌∷◌, ◌++◌, length, map, take, drop, replicate, Option, Some, None, refl, sym, ap, subst, ◌∙◌, inl, inr, arith, length-append, get_or}
-use Rattle.std.specs.Prelude.{nat_eq, slice_get, slice_index}
-use Rattle.std.specs.List.{AllByRecursion}
+use Rattle.std.proofs.Common.{◌≡◌, ℕ, zero, suc, ◌+◌, ◌-◌, ◌*◌, ◌≤◌, ℤ, pos, negsuc, true, cond, List, [], ◌∷◌, ◌++◌, length, map, take, replicate, Option, Some, None, refl, sym, ap, subst, ◌∙◌, inl, inr, arith, length-append}
+use Rattle.std.specs.Prelude.{nat_eq, slice_index}
 use Rattle.std.proofs.lemmas.Bool.{cases_Bool, cond-true, cond-false, eqb-true}
 use Rattle.std.proofs.lemmas.List.{length-map, length-replicate}
 use Rattle.vg_bits.proofs.Ranges.{length-range}
@@ -12,7 +11,6 @@ use Rattle.vg_base.specs.declared.address.Address.{Address}
 use Rattle.vg_base.specs.Address.{place_of}
 use Rattle.vg_base.specs.declared.width.Width.{Width}
 use Rattle.vg_base.specs.Width.{bits_of, size_of}
-use Rattle.vg_scalar.specs.Scalar.{two_result, shift_result, resize_result, comparison_result, select_result}
 use Rattle.vg_bits.specs.BitList.{IsBits, IsBytes}
 use Rattle.vg_bits.specs.Range.{range}
 use Rattle.vg_bits.proofs.ByteLists.{IsBits-bits_of_bytes, length-bits_of_bytes}
@@ -20,7 +18,6 @@ use Rattle.vg_bits.proofs.BitLists.{IsBits-append}
 use Rattle.vg_program.specs.declared.line.Line.{Line}
 use Rattle.vg_program.specs.declared.line.Line.TheVariants as line
 use Rattle.vg_program.specs.declared.operand.Operand.{Operand as Number}
-use Rattle.vg_program.specs.declared.vector_size.VectorSize.{VectorSize}
 use Rattle.vg_program.specs.Meaning.{State, Instructions, Inputs, operand_number, with_scalar, with_vector, with_memory, register_bits, widened, step, run}
 use Rattle.vg_program.specs.Vectors as vectors
 use Rattle.vg_shapes.specs.declared.pack.Pack.{Pack as Packed}
@@ -34,20 +31,19 @@ use Rattle.vg_shapes.specs.declared.unit.Unit.TheVariants.{Load, Store, Operatio
 use Rattle.vg_shapes.specs.declared.wanted.Wanted.{Wanted}
 use Rattle.vg_shapes.specs.Operands.{lanes_of}
 use Rattle.vg_shapes.specs.Pack.{AreLoads, AreStores, is_pack_size}
-use Rattle.vg_shapes.specs.RunUnits.{number_of, operation_result, result_of}
-use Rattle.vg_shapes.specs.Units.{unit_at}
-use Rattle.vg_packing.specs.Held.{lane_width_of, register_of}
+use Rattle.vg_shapes.specs.RunUnits.{number_of, operation_result}
+use Rattle.vg_packing.specs.Held.{lane_width_of}
 use Rattle.vg_order_laws.specs.Sequence.{run_steps}
 use Rattle.vg_order_laws.specs.Steps.{HasNumber, seen, step_of, unit_step, work_step}
 use Rattle.vg_order_laws.proofs.Accesses.{loaded-inside, stored-inside}
 use Rattle.vg_order_laws.proofs.Runs.{went_well}
 use Rattle.vg_emit.specs.Draft.{Draft, Made, with_name, with_held}
-use Rattle.vg_emit.specs.Emission.{Job, AllPlaced, build_all, description_at, extracts, first_address, joint_size, number_for, operand_at, operation_line, pack_at, pack_line, pack_lines, takes_at, unit_lines, width_for}
+use Rattle.vg_emit.specs.Emission.{Job, build_all, description_at, extracts, first_address, joint_size, number_for, operand_at, operation_line, pack_at, pack_line, pack_lines, takes_at, unit_lines, width_for}
 use Rattle.vg_emit.specs.Promises.{AllFill, answer, CallHolds, Fills, Holds, LanesHave}
-use Rattle.vg_emit.proofs.Memories.{joined, Lanes, lanes-bytes, length-joined, loads-run, stand_within, stand-lanes, StandAt, stored-some, stores-run}
+use Rattle.vg_emit.proofs.Memories.{joined, Lanes, lanes-bytes, loads-run, stand_within, stand-lanes, StandAt, stored-some, stores-run}
 use Rattle.vg_emit.proofs.Placing.{AllBuilt, all-have_bits, AllHave, AllReady, AllRight, ArgumentsHave, builds-run, extracts-run, Known, number-has, run-joined}
-use Rattle.vg_emit.proofs.Registers.{Has, Has-last, HoldsPack, Stands, Stands-held, Stands-memory, Stands-name}
-use Rattle.vg_emit.proofs.Sizes.{eight, HasSize, loads-address, loads-size, loads-width, register-bytes, stores-address, stores-size, width-again}
+use Rattle.vg_emit.proofs.Registers.{Has, Has-last, Stands, Stands-held, Stands-memory, Stands-name}
+use Rattle.vg_emit.proofs.Sizes.{eight, loads-address, loads-size, loads-width, register-bytes, stores-address, stores-size, width-again}
 
 -- the lines lead to a state that has what the draft says, with this memory
 pub record Moves (j : Job) (numbers : ℕ → ℕ) (c : Instructions) (i : Inputs) (s : State) (ls : List Line) (d : Draft) (m : List ℕ) (t : State) : Type 0 where
@@ -81,8 +77,8 @@ pub seen-loaded : (m : List ℕ) (z : ℤ) (n v : ℕ) (after : List ℕ) → se
 seen-loaded m z n v after e =
     let went = went_well (loaded m z n) (λ read. cond (nat_eq (number read) v) (Some m) None) e in
     elim (cases_Bool (nat_eq (number went.0) v)) [
-    | inl t ↦ (went.0, went.1, eqb-true _ _ t, (let kept : Some m ≡ Some after = sym (cond-true _ _ _ t) ∙ went.2 in cc))
-    | inr f ↦ absurd (let none : None ≡ Some after = sym (cond-false _ _ _ f) ∙ went.2 in cc)
+      | inl t ↦ (went.0, went.1, eqb-true _ _ t, (let kept : Some m ≡ Some after = sym (cond-true _ _ _ t) ∙ went.2 in cc))
+      | inr f ↦ absurd (let none : None ≡ Some after = sym (cond-false _ _ _ f) ∙ went.2 in cc)
     ]
 
 -- the line of an operation makes what the operation makes
@@ -105,26 +101,26 @@ work-runs j numbers c i d s v (Load a w) after args h right ready e =
 work-runs j numbers c i d s v (Store a w x) after args h right ready e =
     let t = with_memory s after in
     let first : step c i (line.Store w a (number_for j d x)) s ≡ Some t =
-      ap (λ n. stored s.memory (place_of i.places a) (bytes (size_of w) n) >>= λ m. Some (with_memory s m)) (number-has j numbers i d s x args h ready) ∙ ap (λ o. o >>= λ m. Some (with_memory s m)) e in
+    ap (λ n. stored s.memory (place_of i.places a) (bytes (size_of w) n) >>= λ m. Some (with_memory s m)) (number-has j numbers i d s x args h ready) ∙ ap (λ o. o >>= λ m. Some (with_memory s m)) e in
     (t, one-line j numbers c i d s t (line.Store w a (number_for j d x)) first (Stands-memory j numbers d s after h))
 work-runs j numbers c i d s v (Operation op w k xs) after args h right ready e =
     let same : s.memory ≡ after = (let g : Some s.memory ≡ Some after = e in cc) in
     let Goal : Made → Type 0 = λ made. (t : State) × Moves j numbers c i s made.lines made.draft after t in
     elim (cases_Bool (j.needed v)) [
-    | inr f ↦ subst Goal (sym (cond-false _ _ _ f)) (s, moves-nowhere j numbers c i d s after h same)
-    | inl b ↦ subst Goal (sym (cond-true _ _ _ b))
-        (let known = ready b in
-        let t = with_scalar s (numbers v) in
-        let x = number-has j numbers i d s xs.first args h known.first in
-        let y = number-has j numbers i d s xs.second args h known.second in
-        let z = number-has j numbers i d s xs.third args h known.third in
-        let l = operation_line op w k (number_for j d xs.first) (number_for j d xs.second) (number_for j d xs.third) in
-        let first : step c i l s ≡ Some t =
+      | inr f ↦ subst Goal (sym (cond-false _ _ _ f)) (s, moves-nowhere j numbers c i d s after h same)
+      | inl b ↦ subst Goal (sym (cond-true _ _ _ b))
+          (let known = ready b in
+          let t = with_scalar s (numbers v) in
+          let x = number-has j numbers i d s xs.first args h known.first in
+          let y = number-has j numbers i d s xs.second args h known.second in
+          let z = number-has j numbers i d s xs.third args h known.third in
+          let l = operation_line op w k (number_for j d xs.first) (number_for j d xs.second) (number_for j d xs.third) in
+          let first : step c i l s ≡ Some t =
           operation-step c i s op w k (number_for j d xs.first) (number_for j d xs.second) (number_for j d xs.third)
           ∙ (λ q. Some (with_scalar s (operation_result op (bits_of w) k (x q) (y q) (z q))))
           ∙ ap (λ n. Some (with_scalar s n)) (sym right) in
-        let moved = one-line j numbers c i (with_name d v) s t l first (Stands-name j numbers d s v h) in
-        (t, record { runs = moved.runs; stands = moved.stands; memory = same }))
+          let moved = one-line j numbers c i (with_name d v) s t l first (Stands-name j numbers d s v h) in
+          (t, record { runs = moved.runs; stands = moved.stands; memory = same }))
     ]
 
 -- ---- packs that give a register
@@ -134,8 +130,8 @@ pub holder-runs : (j : Job) (numbers : ℕ → ℕ) (c : Instructions) (i : Inpu
     → AllBuilt j numbers c i s (takes_at j k) (build_all j d (takes_at j k)) s1 → step c i l s1 ≡ Some (with_vector s1 reg)
     → Holds j.descriptions j.ssa numbers p reg → bits_of (width_for (lane_width_of j.descriptions j.ssa p)) ≡ lane_width_of j.descriptions j.ssa p
     → let made = build_all j d (takes_at j k) in
-      let rest = extracts j (with_held made.draft k) made.draft.vectors (width_for (lane_width_of j.descriptions j.ssa p)) 0 (lanes_of p) in
-      (t : State) × Moves j numbers c i s (made.lines ++ l ∷ rest.lines) rest.draft s.memory t
+    let rest = extracts j (with_held made.draft k) made.draft.vectors (width_for (lane_width_of j.descriptions j.ssa p)) 0 (lanes_of p) in
+    (t : State) × Moves j numbers c i s (made.lines ++ l ∷ rest.lines) rest.draft s.memory t
 unfolding run
 holder-runs j numbers c i d s s1 k p l reg here b steps holds wide =
     let made = build_all j d (takes_at j k) in
@@ -144,13 +140,15 @@ holder-runs j numbers c i d s s1 k p l reg here b steps holds wide =
     let t1 = with_vector s1 reg in
     let stands = Stands-held j numbers d1 s1 k reg b.leads.stands (subst (λ q. Holds j.descriptions j.ssa numbers q reg) (sym here) holds) in
     let rest = extracts-run j numbers c i (with_held d1 k) t1 d1.vectors reg w 0 (lanes_of p) stands (Has-last s1.vectors d1.vectors reg b.leads.stands.vectors)
-      (subst (λ n. LanesHave numbers n 0 (lanes_of p) reg) (sym wide) holds.lanes) in
-    let ls = (extracts j (with_held d1 k) d1.vectors w 0 (lanes_of p)).lines in
-    (rest.0, record {
-      runs = run-joined c i made.lines (l ∷ ls) s s1 rest.0 b.leads.runs (ap (λ o. o >>= run c i ls) steps ∙ rest.1.runs);
-      stands = rest.1.stands;
-      memory = rest.1.memory ∙ b.leads.memory;
-    })
+    (subst (λ n. LanesHave numbers n 0 (lanes_of p) reg) (sym wide) holds.lanes) in
+    let ls = (extracts j (with_held d1 k) d1.vectors w 0 (lanes_of p)).lines in (
+      rest.0,
+      record {
+        runs = run-joined c i made.lines (l ∷ ls) s s1 rest.0 b.leads.runs (ap (λ o. o >>= run c i ls) steps ∙ rest.1.runs);
+        stands = rest.1.stands;
+        memory = rest.1.memory ∙ b.leads.memory;
+      },
+    )
 
 -- lanes from a bit on as lanes by their numbers
 lanes-by-number : (numbers : ℕ → ℕ) (reg : List ℕ) (w n : ℕ) (us : List ℕ) → Lanes reg (n * w) w (map numbers us) → LanesHave numbers w n (map Some us) reg
@@ -230,13 +228,14 @@ loads-pack-runs j numbers c i d s k w a u us after args h are here side size rig
     let got = loads-joined j.ssa i.places numbers w a (vectors.bytes_of z) r u us s.memory after are has.bytes room side e in
     let reg = widened r got.read in
     let first : step c i (line.VectorLoad z (first_address j.ssa all)) s1 ≡ Some (with_vector s1 reg) =
-      ap (λ q. loaded s1.memory (place_of i.places q) (vectors.bytes_of z) >>= λ read. Some (with_vector s1 (widened r read))) (loads-address j.ssa w a u us side)
-      ∙ ap (λ q. loaded q (place_of i.places a) (vectors.bytes_of z) >>= λ read. Some (with_vector s1 (widened r read))) b.leads.memory
-      ∙ ap (λ o. o >>= λ read. Some (with_vector s1 (widened r read))) got.loads in
+    ap (λ q. loaded s1.memory (place_of i.places q) (vectors.bytes_of z) >>= λ read. Some (with_vector s1 (widened r read))) (loads-address j.ssa w a u us side)
+    ∙ ap (λ q. loaded q (place_of i.places a) (vectors.bytes_of z) >>= λ read. Some (with_vector s1 (widened r read))) b.leads.memory
+    ∙ ap (λ o. o >>= λ read. Some (with_vector s1 (widened r read))) got.loads in
     let holds : Holds j.descriptions j.ssa numbers (Loads all) reg = record {
       long = got.long ∙ has.register ∙ sym (register-bytes j.ssa w all wide);
       bits = got.bits;
-      lanes = subst (λ n. LanesHave numbers n 0 (map Some all) reg) (sym wide) got.lanes } in
+      lanes = subst (λ n. LanesHave numbers n 0 (map Some all) reg) (sym wide) got.lanes;
+    } in
     let ran = holder-runs j numbers c i d s s1 k (Loads all) (line.VectorLoad z (first_address j.ssa all)) reg here b first holds (ap (λ n. bits_of (width_for n)) wide ∙ ap bits_of (width-again w) ∙ sym wide) in
     (ran.0, record { runs = ran.1.runs; stands = ran.1.stands; memory = ran.1.memory ∙ sym got.memory })
 
@@ -264,6 +263,7 @@ first-register j numbers c i d s s1 os o e b = by (subst (λ q. AllBuilt j numbe
     after : (rs : List (List ℕ)) (k : ℕ) → AllHave s1.vectors (k ∷ []) rs → AllFill j numbers (o ∷ []) rs → (reg : List ℕ) × Has s1.vectors k reg × Fills numbers (operand_at j o) reg
     after [] k have fill = absurd have
     after (r ∷ rs) k have fill = (r, have.0, fill.0)
+
     by : AllBuilt j numbers c i s (o ∷ []) (build_all j d (o ∷ [])) s1 → (reg : List ℕ) × Has s1.vectors (slice_index (build_all j d os).registers 0) reg × Fills numbers (operand_at j o) reg
     by g = subst (λ q. (reg : List ℕ) × Has s1.vectors (slice_index (build_all j d q).registers 0) reg × Fills numbers (operand_at j o) reg) (sym e) (after g.regs _ g.have g.fill)
 
@@ -303,10 +303,10 @@ stores-pack-runs j numbers c i d s k w a u us o x xs after args h side size same
     let inside = stored-inside m at (joined (size_of w) values_of) ran.0 ∙ ap Some (sym ran.1) in
     let l = line.VectorStore z (first_address j.ssa all) r in
     let step_is : step c i l s1 ≡ Some t =
-      ap (λ q. stored s1.memory (place_of i.places q) (bytes n (num (take (8 * n) (register_bits s1.vectors r)))) >>= λ q. Some (with_memory s1 q)) (stores-address j.ssa w a u us x xs side)
-      ∙ ap (λ v. stored s1.memory (place_of i.places a) (bytes n (num (take (8 * n) v))) >>= λ q. Some (with_memory s1 q)) (found.1.1 [])
-      ∙ ap (λ q. stored s1.memory (place_of i.places a) q >>= λ q. Some (with_memory s1 q)) bytes_are
-      ∙ ap (λ z. stored s1.memory z (joined (size_of w) values_of) >>= λ q. Some (with_memory s1 q)) place.1
-      ∙ ap (λ q. stored q (pos at) (joined (size_of w) values_of) >>= λ q. Some (with_memory s1 q)) b.leads.memory
-      ∙ ap (λ q. q >>= λ q. Some (with_memory s1 q)) inside in
+    ap (λ q. stored s1.memory (place_of i.places q) (bytes n (num (take (8 * n) (register_bits s1.vectors r)))) >>= λ q. Some (with_memory s1 q)) (stores-address j.ssa w a u us x xs side)
+    ∙ ap (λ v. stored s1.memory (place_of i.places a) (bytes n (num (take (8 * n) v))) >>= λ q. Some (with_memory s1 q)) (found.1.1 [])
+    ∙ ap (λ q. stored s1.memory (place_of i.places a) q >>= λ q. Some (with_memory s1 q)) bytes_are
+    ∙ ap (λ z. stored s1.memory z (joined (size_of w) values_of) >>= λ q. Some (with_memory s1 q)) place.1
+    ∙ ap (λ q. stored q (pos at) (joined (size_of w) values_of) >>= λ q. Some (with_memory s1 q)) b.leads.memory
+    ∙ ap (λ q. q >>= λ q. Some (with_memory s1 q)) inside in
     (t, record { runs = run-joined c i built.lines (l ∷ []) s s1 t b.leads.runs (ap (λ q. q >>= run c i []) step_is); stands = Stands-memory j numbers built.draft s1 after b.leads.stands; memory = refl })

@@ -1,9 +1,9 @@
 -- The lines of any legal order leave the memory that the units leave in the order of their numbers, or trap where they do.
 use Rattle.std.proofs.Common.{◌≡◌, ℕ, zero, suc, ◌+◌, ◌-◌, ◌*◌, ◌/◌, ◌<◌, ◌≤◌, Bool, true, false, List, [], ◌∷◌, ◌++◌, length, map, replicate, Option, Some, None, refl, sym, ap, subst, ◌∙◌, ◌⊎◌, inl, inr, arith, get_or}
-use Rattle.std.specs.Prelude.{nat_lt, slice_get, slice_index, slice_index_or, ◌&&◌, ◌==◌}
+use Rattle.std.specs.Prelude.{slice_get, slice_index, ◌&&◌, ◌==◌}
 use Rattle.std.specs.List.{AllByRecursion, flat_map, list_all}
 use Rattle.std.specs.Option.{is_some}
-use Rattle.std.proofs.lemmas.Bool.{cases_Bool, cond-false, eq-eqb, le-ltb, true≢false}
+use Rattle.std.proofs.lemmas.Bool.{cases_Bool, eq-eqb}
 use Rattle.std.proofs.lemmas.List.{get_or_append_left, length-replicate}
 use Rattle.vg_base.specs.declared.address.Address.{Address}
 use Rattle.vg_base.specs.declared.width.Width.{Width}
@@ -18,9 +18,7 @@ use Rattle.vg_program.specs.Meaning.{begun, Inputs, Instructions, meaning, run, 
 use Rattle.vg_program.proofs.TrapLaws.{traps_outside}
 use Rattle.vg_shapes.specs.declared.match_table.Match.{Match}
 use Rattle.vg_shapes.specs.declared.operand.Operand.{Operand}
-use Rattle.vg_shapes.specs.declared.operand.Slot.{Slot}
 use Rattle.vg_shapes.specs.declared.order.Node.{Node}
-use Rattle.vg_shapes.specs.declared.order.Node.TheVariants.{PackAt, UnitAt}
 use Rattle.vg_shapes.specs.declared.pack.Pack.{Pack as Packed}
 use Rattle.vg_shapes.specs.declared.pack.Pack.TheVariants.{Stores, Loads, Call}
 use Rattle.vg_shapes.specs.declared.ssa.Ssa.{Ssa}
@@ -30,33 +28,32 @@ use Rattle.vg_shapes.specs.declared.unit.Unit.TheVariants.{Store}
 use Rattle.vg_shapes.specs.declared.wanted.Wanted.{Wanted}
 use Rattle.vg_shapes.specs.declared.wanted.Wanted.TheVariants.{Value, Constant, Nothing}
 use Rattle.vg_shapes.specs.Layout.{Respects}
-use Rattle.vg_shapes.specs.Nodes.{ArePacks, CallsOperations, IsOrder, node_depends, units_at}
-use Rattle.vg_shapes.specs.Order.{all_units, count_of, numbers_from, one_if, Stands as In}
+use Rattle.vg_shapes.specs.Nodes.{CallsOperations, IsOrder, node_depends}
+use Rattle.vg_shapes.specs.Order.{numbers_from, one_if, Stands as In}
 use Rattle.vg_shapes.specs.Pack.{AreStores}
 use Rattle.vg_shapes.specs.RunUnits.{number_of, Reached, run_units, start_of}
-use Rattle.vg_shapes.specs.Sound.{AreArguments, IsNumber, IsUnit, kind_bits}
+use Rattle.vg_shapes.specs.Sound.{AreArguments, IsNumber, IsUnit}
 use Rattle.vg_shapes.specs.Units.{arguments, integers, unit_at}
-use Rattle.vg_packing.specs.Taken.{first_width, group_operand, operands_of, register_for, register_of_bytes, slots_from, stored}
+use Rattle.vg_packing.specs.Taken.{first_width, group_operand, operands_of, slots_from, stored}
 use Rattle.vg_packing.specs.Wants.{slot}
-use Rattle.vg_order_laws.specs.Laws.{AreUnits}
 use Rattle.vg_order_laws.specs.Sequence.{run_steps}
 use Rattle.vg_order_laws.specs.Steps.{HasNumber, HaveNumbers, stays_inside, unit_numbers, unit_step}
 use Rattle.vg_order_laws.proofs.Plans.{plan-orders-run}
 use Rattle.vg_order_laws.proofs.Runs.{more-numbers, runs-are-steps, unit-there}
 use Rattle.vg_order_laws.proofs.Traps.{runs-trap-outside}
-use Rattle.vg_emit.specs.Draft.{Draft, blank, found}
-use Rattle.vg_emit.specs.Emission.{Job, emitted, operand_at, pack_at, recipe_at, takes_at, width_for}
+use Rattle.vg_emit.specs.Draft.{found}
+use Rattle.vg_emit.specs.Emission.{Job, emitted, operand_at, pack_at, takes_at}
 use Rattle.vg_emit.specs.Planned.{IsPack, IsPlanned}
 use Rattle.vg_emit.specs.Program.{begin}
-use Rattle.vg_emit.specs.Promises.{CallHolds, Fills, KeepPromises, SlotHas}
+use Rattle.vg_emit.specs.Promises.{Fills, KeepPromises, SlotHas}
 use Rattle.vg_emit.proofs.Jobs.{all-units-same, calls-at, each, follows-same, get-there, given-valued, holder-low, IsNode, kind-at, only-in, order-nodes, pack-sides, units-given, unit-number, valued-some, valued-unit}
 use Rattle.vg_emit.proofs.Memories.{Lanes}
 use Rattle.vg_emit.proofs.Needs.{IsJob, lane-width, node-needs, unit-is}
 use Rattle.vg_emit.proofs.Placing.{AllRight, ArgumentsHave}
-use Rattle.vg_emit.proofs.Programs.{CallRight, IsFounded, KindRight, LoadsRight, node_units, nodes-run, NodesReady, StoresRight}
+use Rattle.vg_emit.proofs.Programs.{IsFounded, KindRight, node_units, nodes-run, NodesReady, StoresRight}
 use Rattle.vg_emit.proofs.Readiness.{AreValued, Needs, NodeNeeds, nodes-ready, Ran, Valued}
-use Rattle.vg_emit.proofs.Registers.{Has, Stands}
-use Rattle.vg_emit.proofs.Sizes.{eight, HasSize, register-bytes, size-is, stores-width}
+use Rattle.vg_emit.proofs.Registers.{Stands}
+use Rattle.vg_emit.proofs.Sizes.{eight, register-bytes, size-is, stores-width}
 use Rattle.vg_emit.proofs.Standing.{stands-in-order}
 use Rattle.vg_emit.proofs.Traps.{emitted-outside}
 use Rattle.vg_emit.proofs.Uses.{node-uses-depend, unit-in-list}
@@ -87,17 +84,19 @@ order-ready j matches order job planned is =
     let packs = length-replicate (length j.packs) none in
     let valued : AreValued j = record {
       needed = λ v h. valued-some (unit_at j.ssa v) (job.valued v h);
-      given = λ k x h. given-valued j k x planned.packs planned.kinds h } in
+      given = λ k x h. given-valued j k x planned.packs planned.kinds h;
+    } in
     let needs : Needs j (length (begin j).names) (length (begin j).held) = record {
       values = λ v h. let own = valued.needed v h in let u = valued-unit (unit_at j.ssa v) own in let number = unit-number j.ssa v u.0 u.1 in (own, omega arith);
       packs = λ k h. let low = holder-low j k h in omega arith;
-      units = λ k v valued h. units-given j k v planned.kinds valued h } in
+      units = λ k v valued h. units-given j k v planned.kinds valued h;
+    } in
     let ran : Ran j (begin j) [] = record { named = λ v h n. absurd (omega arith); held = λ k h g. absurd h } in
     nodes-ready j (node_depends j.ssa matches j.packs) (begin j) [] order valued
-      (λ n x need own uses. node-uses-depend j matches n x planned.sound.earlier (λ k e. let low = (subst (NodeNeeds j) e need).0 in (low, job.takes k low)) own uses)
-      (follows-same j (node_depends j.ssa matches j.packs) [] order is.follows) needs
-      (each (IsNode j) (NodeNeeds j) order (λ n h. node-needs j matches n job planned h) nodes) tt
-      (each (IsNode j) (Rattle.vg_emit.proofs.Readiness.OnlyIn j) order (λ n h. only-in j n planned.packs h) nodes) ran
+    (λ n x need own uses. node-uses-depend j matches n x planned.sound.earlier (λ k e. let low = (subst (NodeNeeds j) e need).0 in (low, job.takes k low)) own uses)
+    (follows-same j (node_depends j.ssa matches j.packs) [] order is.follows) needs
+    (each (IsNode j) (NodeNeeds j) order (λ n h. node-needs j matches n job planned h) nodes) tt
+    (each (IsNode j) (Rattle.vg_emit.proofs.Readiness.OnlyIn j) order (λ n h. only-in j n planned.packs h) nodes) ran
 
 -- ---- store groups
 
@@ -154,13 +153,13 @@ stores-right j matches numbers k (u ∷ us) job units low here is =
       same = stores-long j.ssa w is.1 all xs is.4;
       takes = taken.1;
       lanes = λ reg fills.
-        let own : Fills numbers (group_operand j.ssa all) reg = subst (λ o. Fills numbers o reg) taken.2 fills in
-        let a = own.long in
-        let b = sized.room in
-        let slots : AllByRecursion (SlotHas numbers reg) (slots_from 0 (8 * size_of w) xs) =
+          let own : Fills numbers (group_operand j.ssa all) reg = subst (λ o. Fills numbers o reg) taken.2 fills in
+          let a = own.long in
+          let b = sized.room in
+          let slots : AllByRecursion (SlotHas numbers reg) (slots_from 0 (8 * size_of w) xs) =
           subst (λ z. AllByRecursion (SlotHas numbers reg) (slots_from 0 z xs)) (wide ∙ eight w)
-            (subst (λ l. AllByRecursion (SlotHas numbers reg) (slots_from 0 (first_width j.ssa all) l)) store own.slots) in
-        (omega arith, slots-lanes j.ssa w numbers reg 0 (8 * size_of w) xs (stores-numbers j.ssa w is.1 all xs units is.4) slots);
+          (subst (λ l. AllByRecursion (SlotHas numbers reg) (slots_from 0 (first_width j.ssa all) l)) store own.slots) in
+          (omega arith, slots-lanes j.ssa w numbers reg 0 (8 * size_of w) xs (stores-numbers j.ssa w is.1 all xs units is.4) slots);
     }
   where
     stores-first : (ssa : Ssa) (w : Width) (a : Address) (u : ℕ) (us : List ℕ) (xs : List Wanted) → AreStores ssa w a (u ∷ us) xs → first_width ssa (u ∷ us) ≡ bits_of w
@@ -221,9 +220,13 @@ some-outside ssa places long done (u ∷ us) e h = elim (cases_Bool (stays_insid
   | inr f ↦ (0, u, omega arith, unit-there ssa done u us (arguments ssa + length done + 0) e (omega arith), f)
   | inl t ↦
       let later : list_all (stays_inside places long) us ≡ false = sym (ap (λ b. b && list_all (stays_inside places long) us) t) ∙ h in
-      let x = some-outside ssa places long (done ++ u ∷ []) us (e ∙ sym (Rattle.std.proofs.Common.append_assoc done (u ∷ []) us)) later in
-      (suc x.0, x.1, (let below = x.2 in omega arith),
-        (let same : arguments ssa + length (done ++ u ∷ []) + x.0 ≡ arguments ssa + length done + suc x.0 = (let l = Rattle.std.proofs.lemmas.List.length_push done u in omega arith) in subst (λ n. unit_at ssa n ≡ Some x.1) same x.3), x.4)
+      let x = some-outside ssa places long (done ++ u ∷ []) us (e ∙ sym (Rattle.std.proofs.Common.append_assoc done (u ∷ []) us)) later in (
+        suc x.0,
+        x.1,
+        (let below = x.2 in omega arith),
+        (let same : arguments ssa + length (done ++ u ∷ []) + x.0 ≡ arguments ssa + length done + suc x.0 = (let l = Rattle.std.proofs.lemmas.List.length_push done u in omega arith) in subst (λ n. unit_at ssa n ≡ Some x.1) same x.3),
+        x.4,
+      )
 ]
 
 -- a number of a range stands in it
@@ -262,8 +265,10 @@ order-means j matches c p order memory places args lines job planned is keeps re
   where
     i : Inputs
     i = record { places = places; args = args }
+
     long : length args ≡ arguments j.ssa
     long = arguments-long (integers j.ssa) args arguments_are
+
     by : (o : Option Reached) → run_units places j.ssa.units (start_of memory args) ≡ o → meaning c p memory places args ≡ (o >>= reached_left)
     by (Some r) e =
         let numbers : ℕ → ℕ = slice_index r.numbers in
@@ -271,9 +276,9 @@ order-means j matches c p order memory places args lines job planned is keeps re
         let known = runs-are-steps j.ssa places (start_of memory args) r long planned.sound.earlier e in
         let in_order = plan-orders-run j.ssa places numbers matches j.packs order respects planned.packs is memory ∙ known.0 in
         let by_nodes : run_steps (unit_step j.ssa places numbers) (flat_map (node_units j) order) memory ≡ Some r.memory =
-          ap (λ l. run_steps (unit_step j.ssa places numbers) l memory) (sym (all-units-same j order)) ∙ in_order in
+        ap (λ l. run_steps (unit_step j.ssa places numbers) l memory) (sym (all-units-same j order)) ∙ in_order in
         let have : (v : ℕ) → v < arguments j.ssa → slice_index args v ≡ numbers v =
-          λ v low. sym (ap (λ (l : List ℕ). get_or l v 0) more.1 ∙ get_or_append_left args more.0 0 v (omega (arith, long))) in
+        λ v low. sym (ap (λ (l : List ℕ). get_or l v 0) more.1 ∙ get_or_append_left args more.0 0 v (omega (arith, long))) in
         let inputs : Inputs = record { places = places; args = args } in
         let all = founded j matches c numbers inputs job planned (keeps r e) have known.1 in
         let ran = nodes-run j numbers c inputs (begin j) (begun memory) order r.memory all are (stands-begin j numbers memory) (order-ready j matches order job planned is) by_nodes in
@@ -286,6 +291,6 @@ order-means j matches c p order memory places args lines job planned is keeps re
         let there : In v (unit_numbers j.ssa) = subst (λ n. In n (unit_numbers j.ssa)) same (stands-in-numbers (arguments j.ssa) (length j.ssa.units) x.0 x.2) in
         let stands = stands-in-order j.ssa matches j.packs order v is there in
         let leaves = emitted-outside j places (length memory) (begin j) order v x.1
-          (λ k low. pack-sides j.descriptions j.ssa (pack_at j k) (kind-at j k planned.kinds low) (calls-at j k planned.packs low))
-          (subst (In v) (all-units-same j order) stands) x.3 x.4 in
+        (λ k low. pack-sides j.descriptions j.ssa (pack_at j k) (kind-at j k planned.kinds low) (calls-at j k planned.packs low))
+        (subst (In v) (all-units-same j order) stands) x.3 x.4 in
         lines-trap c p memory places args (ap (list_all (program.stays_inside places (length memory))) lines ∙ leaves)

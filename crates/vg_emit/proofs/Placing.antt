@@ -1,13 +1,12 @@
 -- Lines that bring numbers and operands into registers. They leave memory alone.
-use Rattle.std.proofs.Common.{◌≡◌, ℕ, zero, suc, ◌+◌, ◌*◌, ◌/◌, ◌<◌, ◌≤◌, Bool, true, false, List, [], ◌∷◌, ◌++◌, length, map, Option, Some, None, refl, sym, ap, subst, ◌∙◌, ◌⊎◌, inl, inr, arith, get_or}
+use Rattle.std.proofs.Common.{◌≡◌, ℕ, suc, ◌+◌, ◌*◌, ◌/◌, ◌<◌, ◌≤◌, List, [], ◌∷◌, ◌++◌, length, map, Option, Some, None, refl, sym, ap, subst, ◌∙◌, ◌⊎◌, inl, inr, arith}
 use Rattle.std.specs.Prelude.{slice_index, unwrap_or}
 use Rattle.std.proofs.lemmas.Bool.{cases_Bool, cond-true, cond-false, lt-ltb, le-ltb}
 use Rattle.vg_base.specs.Trap.{◌>>=◌}
-use Rattle.vg_base.specs.Bits.{bits, num, bits_of_bytes}
+use Rattle.vg_base.specs.Bits.{bits, bits_of_bytes}
 use Rattle.vg_base.specs.declared.width.Width.{Width}
 use Rattle.vg_base.specs.Width.{bits_of}
-use Rattle.vg_bits.specs.BitList.{IsBits}
-use Rattle.vg_bits.specs.Range.{range, replaced}
+use Rattle.vg_bits.specs.Range.{replaced}
 use Rattle.vg_program.specs.declared.line.Line.{Line}
 use Rattle.vg_program.specs.declared.line.Line.TheVariants as line
 use Rattle.vg_program.specs.declared.operand.Operand.TheVariants.{Register}
@@ -21,10 +20,10 @@ use Rattle.vg_shapes.specs.Units.{arguments}
 use Rattle.vg_packing.specs.declared.recipe.Recipe.{Recipe}
 use Rattle.vg_packing.specs.declared.recipe.Recipe.TheVariants as recipe
 use Rattle.vg_order_laws.proofs.Sequences.{bind_same, bind_twice}
-use Rattle.vg_emit.specs.Draft.{Draft, Made, found, with_name, with_held, with_vectors, with_built}
-use Rattle.vg_emit.specs.Emission.{Job, AllPlaced, Placed, build, build_all, call_of, constant_bytes, description_at, extracts, inserts, number_for, operand_at, pack_at, place, place_once, recipe_at, registers_of, value_slots, width_for}
-use Rattle.vg_emit.specs.Promises.{AllFill, AllHold, answer, Fills, Holds, inserted, LanesHave, RecipeFills}
-use Rattle.vg_emit.proofs.Registers.{Has, Has-more, Has-last, HoldsPack, Stands, Stands-name, Stands-vector, Stands-built}
+use Rattle.vg_emit.specs.Draft.{Draft, Made, found, with_name, with_vectors, with_built}
+use Rattle.vg_emit.specs.Emission.{Job, AllPlaced, Placed, build, build_all, call_of, constant_bytes, description_at, extracts, inserts, number_for, operand_at, place, place_once, recipe_at, registers_of, value_slots, width_for}
+use Rattle.vg_emit.specs.Promises.{AllFill, AllHold, answer, Fills, inserted, LanesHave, RecipeFills}
+use Rattle.vg_emit.proofs.Registers.{Has, Has-more, Has-last, Stands, Stands-name, Stands-vector, Stands-built}
 
 pub run-append : (c : Instructions) (i : Inputs) (ls ms : List Line) (s : State) → run c i (ls ++ ms) s ≡ (run c i ls s >>= run c i ms)
 unfolding run
@@ -86,12 +85,14 @@ extracts-run j numbers c i d s r reg w n (Some v ∷ us) h has lanes =
     let next = with_scalar s (numbers v) in
     let made = extracts j (with_name d v) r w (n + 1) us in
     elim (cases_Bool (j.needed v)) [
-    | inr f ↦ subst Goal (sym (cond-false _ _ _ f)) (extracts-run j numbers c i d s r reg w (n + 1) us h has lanes.1)
-    | inl b ↦ subst Goal (sym (cond-true _ _ _ b))
-        (let rest = extracts-run j numbers c i (with_name d v) next r reg w (n + 1) us (Stands-name j numbers d s v h) has lanes.1 in
-        (rest.0, leads-first j numbers c i s next rest.0 (line.Extract r n w) made.lines made.draft
-          (ap (λ x. Some (with_scalar s (lane_number (bits_of w) n x))) (has.1 []) ∙ ap (λ k. Some (with_scalar s k)) lanes.0)
-          refl (λ k x g. g) rest.1))
+      | inr f ↦ subst Goal (sym (cond-false _ _ _ f)) (extracts-run j numbers c i d s r reg w (n + 1) us h has lanes.1)
+      | inl b ↦ subst Goal (sym (cond-true _ _ _ b))
+          (let rest = extracts-run j numbers c i (with_name d v) next r reg w (n + 1) us (Stands-name j numbers d s v h) has lanes.1 in (
+            rest.0,
+            leads-first j numbers c i s next rest.0 (line.Extract r n w) made.lines made.draft
+                (ap (λ x. Some (with_scalar s (lane_number (bits_of w) n x))) (has.1 []) ∙ ap (λ k. Some (with_scalar s k)) lanes.0)
+                refl (λ k x g. g) rest.1,
+          ))
     ]
 
 -- ---- values put into registers
@@ -109,23 +110,27 @@ SlotsKnown j d (x ∷ xs) = Known j d x.wanted × IsLaneSlot x × SlotsKnown j d
 
 pub inserts-run : (j : Job) (numbers : ℕ → ℕ) (c : Instructions) (i : Inputs) (d : Draft) (s : State) (b r : ℕ) (reg : List ℕ) (xs : List Slot) → ArgumentsHave j numbers i → Stands j numbers d s → Has s.vectors r reg → r + 1 ≡ d.vectors → SlotsKnown j d xs
     → (t : State) × Leads j numbers c i s (inserts j d b r xs) (with_vectors d (length xs)) t × Has t.vectors (r + length xs) (inserted numbers xs reg)
-inserts-run j numbers c i d s b r reg [] args h has last known =
-    (s, leads-nowhere j numbers c i s (with_vectors d 0) (record { scalars = h.scalars; vectors = h.vectors ∙ omega arith; names = h.names; held = h.held; built = h.built }),
-    subst (λ k. Has s.vectors k reg) (let e : r ≡ r + 0 = omega arith in e) has)
+inserts-run j numbers c i d s b r reg [] args h has last known = (
+  s,
+  leads-nowhere j numbers c i s (with_vectors d 0) (record { scalars = h.scalars; vectors = h.vectors ∙ omega arith; names = h.names; held = h.held; built = h.built }),
+  subst (λ k. Has s.vectors k reg) (let e : r ≡ r + 0 = omega arith in e) has,
+)
 inserts-run j numbers c i d s b r reg (x ∷ xs) args h has last known =
     let next = replaced x.low (bits x.width (number_of numbers x.wanted)) reg in
     let t = with_vector s next in
     let l = line.Insert r b (x.low / x.width) (width_for x.width) (number_for j d x.wanted) in
     let first : step c i l s ≡ Some t =
-      ap (λ y. Some (with_vector s (with_lane (bits_of (width_for x.width)) (x.low / x.width) y (register_bits s.vectors r)))) (number-has j numbers i d s x.wanted args h known.0)
-      ∙ ap (λ v. Some (with_vector s (with_lane (bits_of (width_for x.width)) (x.low / x.width) (number_of numbers x.wanted) v))) (has.1 [])
-      ∙ ap (λ v. Some (with_vector s v)) (put-lane x (number_of numbers x.wanted) reg known.1) in
+    ap (λ y. Some (with_vector s (with_lane (bits_of (width_for x.width)) (x.low / x.width) y (register_bits s.vectors r)))) (number-has j numbers i d s x.wanted args h known.0)
+    ∙ ap (λ v. Some (with_vector s (with_lane (bits_of (width_for x.width)) (x.low / x.width) (number_of numbers x.wanted) v))) (has.1 [])
+    ∙ ap (λ v. Some (with_vector s v)) (put-lane x (number_of numbers x.wanted) reg known.1) in
     let rest = inserts-run j numbers c i (with_vectors d 1) t b (r + 1) next xs args (Stands-vector j numbers d s next h) (Has-last s.vectors (r + 1) next (h.vectors ∙ sym last)) (omega arith) known.2 in
     let more = leads-first j numbers c i s t rest.0 l (inserts j d b (r + 1) xs) (with_vectors (with_vectors d 1) (length xs)) first refl (λ k y g. Has-more s.vectors _ k y g) rest.1 in
     let all : d.vectors + 1 + length xs ≡ d.vectors + suc (length xs) = omega arith in
-    let there : r + 1 + length xs ≡ r + suc (length xs) = omega arith in
-    (rest.0, record { runs = more.runs; stands = record { scalars = more.stands.scalars; vectors = more.stands.vectors ∙ all; names = more.stands.names; held = more.stands.held; built = more.stands.built }; memory = more.memory; grown = more.grown },
-    subst (λ k. Has rest.0.vectors k (inserted numbers (x ∷ xs) reg)) there rest.2)
+    let there : r + 1 + length xs ≡ r + suc (length xs) = omega arith in (
+      rest.0,
+      record { runs = more.runs; stands = record { scalars = more.stands.scalars; vectors = more.stands.vectors ∙ all; names = more.stands.names; held = more.stands.held; built = more.stands.built }; memory = more.memory; grown = more.grown },
+      subst (λ k. Has rest.0.vectors k (inserted numbers (x ∷ xs) reg)) there rest.2,
+    )
 
 -- ---- recipes
 
@@ -195,7 +200,7 @@ recipe-runs j numbers c i d s o (recipe.Shuffle e packs) args h right ready =
     let x = packs-held j numbers d s packs h ready in
     let desc = description_at j e in
     new-register j numbers c i d s o (call_of desc (registers_of d packs)) (answer c desc x.regs) h
-      (ap (λ rs. Some (with_vector s (c desc.name rs desc.imm))) (all-have_bits s.vectors (registers_of d packs) x.regs x.have)) (right x.regs x.hold)
+    (ap (λ rs. Some (with_vector s (c desc.name rs desc.imm))) (all-have_bits s.vectors (registers_of d packs) x.regs x.have)) (right x.regs x.hold)
 recipe-runs j numbers c i d s o recipe.Inserts args h right ready =
     let own = operand_at j o in
     let xs = value_slots own in
@@ -280,10 +285,12 @@ builds-run j numbers c i d s (o ∷ os) args h right ready =
     let keeps = build-keeps j d o (found d.built o) (recipe_at j o) refl in
     let e = (build j d o).draft in
     let rest = builds-run j numbers c i e first.0 os args one.leads.stands right.1 (all-kept j d e os keeps.0 keeps.1 ready.1) in
-    let others = rest.1 in
-    (rest.0, record {
-      leads = leads-then j numbers c i s first.0 rest.0 (build j d o).lines (build_all j e os).lines e (build_all j e os).draft one.leads others.leads;
-      regs = one.reg ∷ others.regs;
-      have = (others.leads.grown (build j d o).register one.reg one.has, others.have);
-      fill = (one.fills, others.fill);
-    })
+    let others = rest.1 in (
+      rest.0,
+      record {
+        leads = leads-then j numbers c i s first.0 rest.0 (build j d o).lines (build_all j e os).lines e (build_all j e os).draft one.leads others.leads;
+        regs = one.reg ∷ others.regs;
+        have = (others.leads.grown (build j d o).register one.reg one.has, others.have);
+        fill = (one.fills, others.fill);
+      },
+    )

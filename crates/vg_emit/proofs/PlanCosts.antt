@@ -1,55 +1,37 @@
 -- Emitted programs cost what their packs cost as a plan.
 use Rattle.std.proofs.Common.{◌≡◌, ℕ, zero, suc, ◌+◌, ◌<◌, ◌≤◌, Bool, true, false, List, [], ◌∷◌, ◌++◌, length, map, replicate, Option, Some, None, refl, sym, ap, subst, ◌∙◌, ◌⊎◌, inl, inr, arith}
-use Rattle.std.specs.Prelude.{filter, filter_map, not, slice_get, slice_index_or, sum_by, flat_map, ◌==◌, ◌&&◌, ◌||◌}
+use Rattle.std.specs.Prelude.{slice_index_or, flat_map, ◌==◌}
 use Rattle.std.specs.List.{AllByRecursion}
-use Rattle.std.specs.List.Sorted.{IsPermutation}
-use Rattle.std.specs.Option.{is_some}
 use Rattle.std.proofs.lemmas.Bool.{cases_Bool, cases_lt, cond-false, cond-true, eqb-true, true≢false}
 use Rattle.std.proofs.lemmas.List.{length-replicate}
 use Rattle.std.proofs.lemmas.List.Elements.{All-from_recursion, recursion_from_All}
-use Rattle.std.proofs.lemmas.List.Sorted.{All-permutation, IsPermutation-sym, sum_by-IsPermutation}
-use Rattle.vg_base.specs.Trap.{◌>>=◌}
-use Rattle.vg_plans.specs.Levels.{distinct, distinct_from}
+use Rattle.std.proofs.lemmas.List.Sorted.{All-permutation, IsPermutation-sym}
 use Rattle.vg_plans.specs.Members.{AllDiffer, Every, Has}
-use Rattle.vg_plans.specs.World.{inserted, is_in, plan_cost, recipe_cost, scalar_lines}
 use Rattle.vg_plans.proofs.Lists.{distinct-differ, every-distinct, every-has}
-use Rattle.vg_plans.proofs.Members.{from-filter, from-flat_map}
-use Rattle.vg_program.specs.Cost.{line_cost}
+use Rattle.vg_plans.proofs.Members.{from-flat_map}
 use Rattle.vg_shapes.specs.declared.match_table.Match.{Match}
 use Rattle.vg_shapes.specs.declared.operand.Operand.{Operand}
 use Rattle.vg_shapes.specs.declared.order.Node.{Node}
 use Rattle.vg_shapes.specs.declared.order.Node.TheVariants.{PackAt, UnitAt}
 use Rattle.vg_shapes.specs.declared.pack.Pack.{Pack as Packed}
-use Rattle.vg_shapes.specs.declared.pack.Pack.TheVariants.{Stores, Loads, Call}
+use Rattle.vg_shapes.specs.declared.pack.Pack.TheVariants.{Stores}
 use Rattle.vg_shapes.specs.declared.ssa.Ssa.{Ssa}
-use Rattle.vg_shapes.specs.declared.unit.Unit.{Unit as Work}
-use Rattle.vg_shapes.specs.declared.unit.Unit.TheVariants.{Load, Store, Operation}
 use Rattle.vg_shapes.specs.Description.{Description}
-use Rattle.vg_shapes.specs.Layout.{access_at, access_of}
-use Rattle.vg_shapes.specs.Nodes.{IsOrder, is_packed, nodes, packed}
-use Rattle.vg_shapes.specs.Order.{count_of, numbers_from, one_if, Stands as In}
-use Rattle.vg_shapes.specs.Pack.{units_of}
-use Rattle.vg_shapes.specs.Sound.{unit_bits}
-use Rattle.vg_shapes.specs.Units.{arguments, is_unit, unit_at}
+use Rattle.vg_shapes.specs.Nodes.{IsOrder, nodes}
+use Rattle.vg_shapes.specs.Order.{numbers_from, one_if, Stands as In}
+use Rattle.vg_shapes.specs.Units.{unit_at}
 use Rattle.vg_packing.specs.declared.recipe.Recipe.{Recipe}
 use Rattle.vg_packing.specs.declared.recipe.Recipe.TheVariants as recipe
-use Rattle.vg_packing.specs.Packing.{falling_units, packing, price_of}
 use Rattle.vg_packing.specs.SameAs.{same_operand}
 use Rattle.vg_packing.specs.Taken.{operands_of}
 use Rattle.vg_packing.proofs.SameTests.{operand-is, operand-itself}
-use Rattle.vg_order_laws.specs.Steps.{unit_numbers}
-use Rattle.vg_emit.specs.Costs.{AreCounted, cost_of_recipe, EmittedCostsThePlan}
-use Rattle.vg_emit.specs.Emission.{Job, operand_at, pack_at, recipe_at, takes_at}
-use Rattle.vg_emit.specs.Planned.{IsPlanned, values_of}
-use Rattle.vg_emit.specs.Program.{all_inserted, begin, has_value, inserted_by, job_of, needed_behind, number_in, operands_in, ordered, program_of}
-use Rattle.vg_emit.proofs.Built.{long-built, order-builds}
-use Rattle.vg_emit.proofs.Costs.{built_cost, emitted-costs, last_draft, lines-cost-sum, lines_cost, needed_in, node_cost, nodes_cost, own_cost, pack_cost, TakesBelow, work_cost}
-use Rattle.vg_emit.proofs.Jobs.{calls-at, each, get-there, given-valued, IsNode, kind-at, order-nodes, some-valued, stands-found, units-given, unit-number, valued-some}
-use Rattle.vg_emit.proofs.Made.{job-made, ordered-legal}
-use Rattle.vg_emit.proofs.Needs.{IsJob}
-use Rattle.vg_emit.proofs.Readiness.{Found, Valued}
-use Rattle.vg_emit.proofs.Standing.{found-stands, packed-outside}
-use Rattle.vg_emit.proofs.Totals.{falling-total, packed-same, scalars-total, total, total-append, total-counted, total-flat, total-sum, unit_price}
+use Rattle.vg_emit.specs.Emission.{Job, pack_at, takes_at}
+use Rattle.vg_emit.specs.Program.{all_inserted, begin, inserted_by, job_of, number_in, operands_in}
+use Rattle.vg_emit.proofs.Built.{order-builds}
+use Rattle.vg_emit.proofs.Costs.{built_cost, last_draft, node_cost, nodes_cost, own_cost, pack_cost, work_cost}
+use Rattle.vg_emit.proofs.Jobs.{each}
+use Rattle.vg_emit.proofs.Readiness.{Found}
+use Rattle.vg_emit.proofs.Totals.{total}
 
 -- ---- each operand stands in a register at the end
 
@@ -127,6 +109,7 @@ operand-built ds matches ssa packs recipes order o is low =
     operand-there [] o d low = absurd (omega arith)
     operand-there (x ∷ xs) zero d low = inl refl
     operand-there (x ∷ xs) (suc o) d low = inr (operand-there xs o d (omega arith))
+
     mapped : (ps : List Packed) (k : ℕ) → k < length ps → slice_index_or (map (λ p. map (number_in (operands_in ds matches ssa packs)) (operands_of ds matches ssa p)) ps) k [] ≡ map (number_in (operands_in ds matches ssa packs)) (operands_of ds matches ssa (slice_index_or ps k (Stores [])))
     mapped [] k low = absurd (omega arith)
     mapped (p ∷ ps) zero low = refl

@@ -1,21 +1,15 @@
 -- What emitted programs cost for the packs and units of a plan is what the plan counts for them.
-use Rattle.std.proofs.Common.{◌≡◌, ℕ, zero, suc, ◌+◌, ◌<◌, ◌≤◌, Bool, true, false, List, [], ◌∷◌, ◌++◌, length, map, replicate, Option, Some, None, refl, sym, ap, subst, ◌∙◌, ◌⊎◌, inl, inr, arith}
-use Rattle.std.specs.Prelude.{filter, filter_map, not, slice_get, slice_index_or, sum_by, flat_map, ◌==◌, ◌&&◌, ◌||◌}
+use Rattle.std.proofs.Common.{◌≡◌, ℕ, zero, suc, ◌+◌, ◌<◌, true, false, List, [], ◌∷◌, ◌++◌, length, Option, Some, None, refl, sym, ap, subst, ◌∙◌, inl, inr, arith}
+use Rattle.std.specs.Prelude.{filter_map, not, slice_index_or, ◌==◌, ◌&&◌, ◌||◌}
 use Rattle.std.specs.List.{AllByRecursion, cons_option}
 use Rattle.std.specs.Option.{is_some}
 use Rattle.std.proofs.lemmas.Bool.{cases_Bool, cases_lt, cond-false, cond-true, eqb-true, true≢false}
-use Rattle.std.proofs.lemmas.List.{length-replicate}
-use Rattle.std.proofs.lemmas.List.Sorted.{sum_by-IsPermutation}
 use Rattle.vg_base.specs.Trap.{◌>>=◌}
 use Rattle.vg_plans.specs.Members.{Has}
-use Rattle.vg_plans.specs.World.{inserted, is_in, plan_cost, recipe_cost, scalar_lines}
-use Rattle.vg_plans.proofs.Members.{from-filter}
-use Rattle.vg_program.specs.Cost.{line_cost}
+use Rattle.vg_plans.specs.World.{is_in}
 use Rattle.vg_shapes.specs.declared.match_table.Match.{Match}
 use Rattle.vg_shapes.specs.declared.operand.Operand.{Operand}
 use Rattle.vg_shapes.specs.declared.operand.Slot.{Slot}
-use Rattle.vg_shapes.specs.declared.order.Node.{Node}
-use Rattle.vg_shapes.specs.declared.order.Node.TheVariants.{PackAt, UnitAt}
 use Rattle.vg_shapes.specs.declared.pack.Pack.{Pack as Packed}
 use Rattle.vg_shapes.specs.declared.pack.Pack.TheVariants.{Stores, Loads, Call}
 use Rattle.vg_shapes.specs.declared.ssa.Ssa.{Ssa}
@@ -25,7 +19,7 @@ use Rattle.vg_shapes.specs.declared.wanted.Wanted.{Wanted}
 use Rattle.vg_shapes.specs.declared.wanted.Wanted.TheVariants.{Value, Constant, Nothing}
 use Rattle.vg_shapes.specs.Description.{Description}
 use Rattle.vg_shapes.specs.Layout.{access_at, access_of}
-use Rattle.vg_shapes.specs.Nodes.{IsOrder, is_packed, nodes, packed}
+use Rattle.vg_shapes.specs.Nodes.{is_packed, packed}
 use Rattle.vg_shapes.specs.Operands.{AreSlots, IsOperand, IsSlot}
 use Rattle.vg_shapes.specs.Order.{count_of, numbers_from, one_if, Stands as In}
 use Rattle.vg_shapes.specs.Pack.{units_of}
@@ -33,22 +27,19 @@ use Rattle.vg_shapes.specs.Sound.{IsUnit, value_bits}
 use Rattle.vg_shapes.specs.Units.{arguments, is_unit, unit_at}
 use Rattle.vg_packing.specs.declared.recipe.Recipe.{Recipe}
 use Rattle.vg_packing.specs.declared.recipe.Recipe.TheVariants as recipe
-use Rattle.vg_packing.specs.Packing.{falling_units, packing, price_of, used_by}
+use Rattle.vg_packing.specs.Packing.{falling_units, used_by}
 use Rattle.vg_packing.specs.Wants.{value_of, wanted_values}
 use Rattle.vg_order_laws.specs.Steps.{unit_numbers}
-use Rattle.vg_order_laws.proofs.Sequences.{count_of-append, count_of-earlier}
-use Rattle.vg_emit.specs.Costs.{AreCounted, EmittedCostsThePlan}
-use Rattle.vg_emit.specs.Emission.{Job, operand_at, pack_at, recipe_at}
-use Rattle.vg_emit.specs.Planned.{IsPack, IsPlanned, TakesGiven, values_of}
-use Rattle.vg_emit.specs.Program.{all_inserted, begin, has_value, inserted_by, is_scalar, job_of, needed_behind, operands_in, ordered, program_of}
-use Rattle.vg_emit.proofs.Built.{long-built}
-use Rattle.vg_emit.proofs.Costs.{built_cost, emitted-costs, last_draft, lines-cost-sum, lines_cost, needed_in, node_cost, nodes_cost, pack_cost, TakesBelow, work_cost}
+use Rattle.vg_order_laws.proofs.Sequences.{count_of-append}
+use Rattle.vg_emit.specs.Emission.{Job, pack_at}
+use Rattle.vg_emit.specs.Planned.{IsPlanned, values_of}
+use Rattle.vg_emit.specs.Program.{all_inserted, has_value, inserted_by, is_scalar, job_of, needed_behind, operands_in}
+use Rattle.vg_emit.proofs.Costs.{needed_in, work_cost}
 use Rattle.vg_emit.proofs.Jobs.{calls-at, each, get-there, given-valued, IsNode, kind-at, order-nodes, some-valued, stands-found, units-given, unit-number, valued-some}
-use Rattle.vg_emit.proofs.Made.{job-made, ordered-legal}
-use Rattle.vg_emit.proofs.Needs.{HasBits, IsJob, number-bits, operation-bits, unit-is, width-known}
-use Rattle.vg_emit.proofs.PlanCosts.{built-total, has-index, has-stands, inserted-same, nodes-total, nothing-built, operand-built, packs-total, total-both, total-each, units-total}
-use Rattle.vg_emit.proofs.Readiness.{gives-unit, Valued, values-loads}
-use Rattle.vg_emit.proofs.Standing.{found-stands, packed-outside}
+use Rattle.vg_emit.proofs.Needs.{HasBits, number-bits, operation-bits, unit-is, width-known}
+use Rattle.vg_emit.proofs.PlanCosts.{has-stands, total-each}
+use Rattle.vg_emit.proofs.Readiness.{Valued, values-loads}
+use Rattle.vg_emit.proofs.Standing.{found-stands}
 use Rattle.vg_emit.proofs.Totals.{falling-total, scalars-total, total, total-append, total-counted, total-flat, total-sum, unit_price}
 use Rattle.vg_emit.proofs.Uses.{wanted-slot}
 
@@ -74,6 +65,7 @@ values-member (y ∷ ys) x h = by y refl (values-member ys x) h
   where
     later : (z : Wanted) × Has z ys × (z ≡ Value x) → (z : Wanted) × Has z (y ∷ ys) × (z ≡ Value x)
     later f = (f.0, inr f.1, f.2)
+
     by : (w : Wanted) → y ≡ w → (In x (filter_map value_of ys) → (z : Wanted) × Has z ys × (z ≡ Value x)) → In x (cons_option (value_of w) (filter_map value_of ys)) → (z : Wanted) × Has z (y ∷ ys) × (z ≡ Value x)
     by (Constant w n) e rest g = later (rest g)
     by Nothing e rest g = later (rest g)
@@ -87,6 +79,7 @@ used-valued ssa v x units h = by (unit_at ssa v) refl h
   where
     from : (y : Wanted) → HasBits ssa y → y ≡ Value x → UnitValued ssa x
     from y bits e = let b = bits x e in bits-valued ssa x b.0 b.1
+
     by : (o : Option Work) → unit_at ssa v ≡ o → In x (used_by o) → UnitValued ssa x
     by None e g = absurd (omega arith)
     by (Some (Load a w)) e g = absurd (omega arith)
@@ -98,11 +91,11 @@ used-valued ssa v x units h = by (unit_at ssa v) refl h
         let m = values-member (ys.first ∷ (ys.second ∷ (ys.third ∷ []))) x g in
         let bits = operation-bits ssa op w k ys (unit-is ssa v (Operation op w k ys) units e) in
         elim m.1 [
-        | inl here ↦ from ys.first bits.first (here ∙ m.2)
-        | inr more ↦ elim more [
-          | inl here ↦ from ys.second bits.second (here ∙ m.2)
-          | inr last ↦ elim last [ inl here ↦ from ys.third bits.third (here ∙ m.2) | inr none ↦ absurd none ]
-        ]
+          | inl here ↦ from ys.first bits.first (here ∙ m.2)
+          | inr more ↦ elim more [
+            | inl here ↦ from ys.second bits.second (here ∙ m.2)
+            | inr last ↦ elim last [ inl here ↦ from ys.third bits.third (here ∙ m.2) | inr none ↦ absurd none ]
+          ]
         ]
 
 slot-is : (ssa : Ssa) (r low : ℕ) (ss : List Slot) (s : Slot) → AreSlots ssa r low ss → Has s ss → IsSlot ssa r s
@@ -123,6 +116,7 @@ inserted-member (r ∷ rs) (q ∷ os) x d h = by r refl (inserted-member rs os x
   where
     later : (o : ℕ) × (o < length os) × (slice_index_or rs o (recipe.Constant []) ≡ recipe.Inserts) × In x (wanted_values (slice_index_or os o d)) → (o : ℕ) × (o < length (q ∷ os)) × (slice_index_or (r ∷ rs) o (recipe.Constant []) ≡ recipe.Inserts) × In x (wanted_values (slice_index_or (q ∷ os) o d))
     later f = (suc f.0, (let low = f.1 in omega arith), f.2, f.3)
+
     by : (way : Recipe) → r ≡ way → (In x (all_inserted rs os) → (o : ℕ) × (o < length os) × (slice_index_or rs o (recipe.Constant []) ≡ recipe.Inserts) × In x (wanted_values (slice_index_or os o d)))
         → In x (inserted_by way q ++ all_inserted rs os) → (o : ℕ) × (o < length (q ∷ os)) × (slice_index_or (r ∷ rs) o (recipe.Constant []) ≡ recipe.Inserts) × In x (wanted_values (slice_index_or (q ∷ os) o d))
     by (recipe.Reuse k) e rest g = later (rest g)
@@ -138,9 +132,9 @@ needed-all P ssa packs needed [] start used x h = start x h
 needed-all P ssa packs needed (v ∷ vs) start used x h =
     let own = used_by (unit_at ssa v) in
     elim (cases_Bool (is_scalar ssa packs needed v)) [
-    | inl t ↦ needed-all P ssa packs (own ++ needed) vs (λ y g. elim (cases_lt 0 (count_of y own)) [ inl a ↦ used v y a | inr z ↦ start y (let split = count_of-append y own needed in omega arith) ]) used x
-        (subst (λ l. In x (needed_behind ssa packs l vs)) (cond-true (is_scalar ssa packs needed v) (own ++ needed) needed t) h)
-    | inr f ↦ needed-all P ssa packs needed vs start used x (subst (λ l. In x (needed_behind ssa packs l vs)) (cond-false (is_scalar ssa packs needed v) (own ++ needed) needed f) h)
+      | inl t ↦ needed-all P ssa packs (own ++ needed) vs (λ y g. elim (cases_lt 0 (count_of y own)) [ inl a ↦ used v y a | inr z ↦ start y (let split = count_of-append y own needed in omega arith) ]) used x
+          (subst (λ l. In x (needed_behind ssa packs l vs)) (cond-true (is_scalar ssa packs needed v) (own ++ needed) needed t) h)
+      | inr f ↦ needed-all P ssa packs needed vs start used x (subst (λ l. In x (needed_behind ssa packs l vs)) (cond-false (is_scalar ssa packs needed v) (own ++ needed) needed f) h)
     ]
 
 -- ---- prices
@@ -178,13 +172,17 @@ pack-price ds matches ssa packs recipes k planned valued low has = by (pack_at (
   where
     last : List ℕ
     last = needed_behind ssa packs (all_inserted recipes (operands_in ds matches ssa packs)) (falling_units ssa)
+
     priced : (v : ℕ) → In v (units_of (pack_at (job_of ds matches ssa packs recipes) k)) → unit_price ssa packs last v ≡ one_if (is_in v last)
     priced v h = packed-price ssa packs last v (found-packed packs v (in-packed packs _ v has h))
+
     given : (v : ℕ) → In v (values_of (pack_at (job_of ds matches ssa packs recipes) k)) → one_if (has_value ssa v && is_in v last) ≡ one_if (is_in v last)
     given v h = value-price ssa last v (given-valued (job_of ds matches ssa packs recipes) k v planned.packs planned.kinds h)
+
     same : (us : List ℕ) → us ≡ values_of (pack_at (job_of ds matches ssa packs recipes) k) → us ≡ units_of (pack_at (job_of ds matches ssa packs recipes) k) → needed_in (job_of ds matches ssa packs recipes) us ≡ total (unit_price ssa packs last) us
     same us e g = needed-total (job_of ds matches ssa packs recipes) last us (λ v h. given v (subst (In v) e (has-stands v us h)))
-      ∙ total-each (λ v. one_if (is_in v last)) (unit_price ssa packs last) us (λ v h. sym (priced v (subst (In v) g (has-stands v us h))))
+        ∙ total-each (λ v. one_if (is_in v last)) (unit_price ssa packs last) us (λ v h. sym (priced v (subst (In v) g (has-stands v us h))))
+
     none : (us : List ℕ) → Stores us ≡ pack_at (job_of ds matches ssa packs recipes) k → (v : ℕ) → Has v us → unit_price ssa packs last v ≡ 0
     none us e v h =
         let stands : In v (units_of (pack_at (job_of ds matches ssa packs recipes) k)) = subst (λ p. In v (units_of p)) e (has-stands v us h) in
@@ -195,6 +193,7 @@ pack-price ds matches ssa packs recipes k planned valued low has = by (pack_at (
               let given_too = units-given (job_of ds matches ssa packs recipes) k v planned.kinds value stands in
               let empty : In v (values_of (Stores us)) = subst (λ p. In v (values_of p)) (sym e) given_too in omega arith)
         ]
+
     by : (p : Packed) → p ≡ pack_at (job_of ds matches ssa packs recipes) k → needed_in (job_of ds matches ssa packs recipes) (values_of p) ≡ total (unit_price ssa packs last) (units_of p)
     by (Stores us) e = sym (total-none (unit_price ssa packs last) us (none us e))
     by (Loads us) e = ap (needed_in (job_of ds matches ssa packs recipes)) (values-loads us) ∙ same us (sym (values-loads us) ∙ ap values_of e) (ap units_of e)
@@ -206,6 +205,7 @@ outside-price j packs last v marks outside unit = by (unit_at j.ssa v) refl
   where
     open_price : unit_price j.ssa packs last v ≡ one_if (is_some (access_at j.ssa v) || is_in v last)
     open_price = ap (λ b. one_if ((not b && is_some (access_at j.ssa v)) || is_in v last)) outside
+
     by : (o : Option Work) → unit_at j.ssa v ≡ o → work_cost j v o ≡ unit_price j.ssa packs last v
     by None e = absurd (true≢false (sym unit ∙ ap is_some e))
     by (Some (Load a w)) e = sym (open_price ∙ ap (λ o. one_if (is_some (o >>= access_of) || is_in v last)) e)

@@ -1,7 +1,7 @@
 -- In a legal order what a node takes has run, and has a register.
-use Rattle.std.proofs.Common.{◌≡◌, ℕ, zero, suc, ◌+◌, ◌<◌, ◌≤◌, Bool, true, false, List, [], ◌∷◌, ◌++◌, length, map, Option, Some, None, refl, sym, ap, subst, ◌∙◌, ◌⊎◌, inl, inr, arith}
+use Rattle.std.proofs.Common.{◌≡◌, ℕ, ◌+◌, ◌<◌, ◌≤◌, Bool, true, List, [], ◌∷◌, ◌++◌, length, map, Option, Some, None, refl, sym, ap, subst, ◌∙◌, ◌⊎◌, inl, inr, arith}
 use Rattle.std.specs.Prelude.{filter_map, slice_set, ◌==◌}
-use Rattle.std.specs.List.{AllByRecursion, flat_map}
+use Rattle.std.specs.List.{AllByRecursion}
 use Rattle.std.proofs.Math.ListN.{set}
 use Rattle.std.proofs.lemmas.Bool.{cases_Bool, cond-true, cond-false, eqb-true, cases_eq, cases_lt}
 use Rattle.std.proofs.lemmas.List.{get_or-set_same, get_or-set_other, set_past, length-set}
@@ -26,11 +26,10 @@ use Rattle.vg_packing.specs.Held.{lane_width_of}
 use Rattle.vg_packing.specs.Wants.{wanted_values}
 use Rattle.vg_order_laws.proofs.Legal.{all_units-push}
 use Rattle.vg_order_laws.proofs.Sequences.{count_of-append}
-use Rattle.vg_emit.specs.Draft.{Draft, Made, found, with_built, with_held, with_name, with_vectors}
-use Rattle.vg_emit.specs.Emission.{Job, build, build_all, extracts, node_lines, operand_at, pack_at, pack_lines, place, place_once, recipe_at, takes_at, unit_lines, value_slots, width_for, with_pack}
+use Rattle.vg_emit.specs.Draft.{Draft, Made, found, with_held, with_name}
+use Rattle.vg_emit.specs.Emission.{Job, build, build_all, extracts, node_lines, operand_at, pack_at, pack_lines, recipe_at, takes_at, unit_lines, value_slots, width_for, with_pack}
 use Rattle.vg_emit.specs.Planned.{GivesOne, values_of}
-use Rattle.vg_emit.proofs.Nodes.{WorkReady}
-use Rattle.vg_emit.proofs.Placing.{AllHeld, AllReady, build-keeps, IsLaneSlot, Known, Ready, RecipeReady, SlotsKnown}
+use Rattle.vg_emit.proofs.Placing.{AllHeld, AllReady, build-keeps, IsLaneSlot, Known, RecipeReady, SlotsKnown}
 use Rattle.vg_emit.proofs.Programs.{node_units, NodeReady, NodesReady, UnitReady}
 
 abbrev pub Found : List (Option ℕ) → ℕ → Type 0
@@ -73,8 +72,8 @@ extracts-grown j d r w n (None ∷ us) = extracts-grown j d r w (n + 1) us
 extracts-grown j d r w n (Some v ∷ us) =
     let Goal : Made → Type 0 = λ made. Grown d made.draft in
     elim (cases_Bool (j.needed v)) [
-    | inl t ↦ subst Goal (sym (cond-true _ _ _ t)) (grown-then d (with_name d v) _ (grown-name d v) (extracts-grown j (with_name d v) r w (n + 1) us))
-    | inr f ↦ subst Goal (sym (cond-false _ _ _ f)) (extracts-grown j d r w (n + 1) us)
+      | inl t ↦ subst Goal (sym (cond-true _ _ _ t)) (grown-then d (with_name d v) _ (grown-name d v) (extracts-grown j (with_name d v) r w (n + 1) us))
+      | inr f ↦ subst Goal (sym (cond-false _ _ _ f)) (extracts-grown j d r w (n + 1) us)
     ]
 
 -- each lane whose value is needed has a name
@@ -85,17 +84,17 @@ extracts-named j d r w n (Some u ∷ us) v h need l =
     let Goal : Made → Type 0 = λ made. Found made.draft.names v in
     let e = with_name d u in
     elim (cases_Bool (v == u)) [
-    | inl t ↦
-        let same = eqb-true v u t in
-        let needed : j.needed u ≡ true = ap j.needed (sym same) ∙ need in
-        subst Goal (sym (cond-true _ _ _ needed)) ((extracts-grown j e r w (n + 1) us).names v (subst (λ q. Found (slice_set d.names q (Some d.scalars)) v) same (found-here d.names v d.scalars l)))
-    | inr f ↦
-        let other : In v (filter_map (λ u. u) us) = (let none : one_if (v == u) ≡ 0 = ap one_if f in omega arith) in
-        let long = length-set d.names u (Some d.scalars) in
-        elim (cases_Bool (j.needed u)) [
-        | inl t ↦ subst Goal (sym (cond-true _ _ _ t)) (extracts-named j e r w (n + 1) us v other need (omega arith))
-        | inr g ↦ subst Goal (sym (cond-false _ _ _ g)) (extracts-named j d r w (n + 1) us v other need l)
-        ]
+      | inl t ↦
+          let same = eqb-true v u t in
+          let needed : j.needed u ≡ true = ap j.needed (sym same) ∙ need in
+          subst Goal (sym (cond-true _ _ _ needed)) ((extracts-grown j e r w (n + 1) us).names v (subst (λ q. Found (slice_set d.names q (Some d.scalars)) v) same (found-here d.names v d.scalars l)))
+      | inr f ↦
+          let other : In v (filter_map (λ u. u) us) = (let none : one_if (v == u) ≡ 0 = ap one_if f in omega arith) in
+          let long = length-set d.names u (Some d.scalars) in
+          elim (cases_Bool (j.needed u)) [
+            | inl t ↦ subst Goal (sym (cond-true _ _ _ t)) (extracts-named j e r w (n + 1) us v other need (omega arith))
+            | inr g ↦ subst Goal (sym (cond-false _ _ _ g)) (extracts-named j d r w (n + 1) us v other need l)
+          ]
     ]
 
 builds-grown : (j : Job) (d : Draft) (os : List ℕ) → Grown d (build_all j d os).draft
@@ -120,8 +119,8 @@ work-grown j d v (Some (Store a w x)) = grown-same d d refl refl
 work-grown j d v (Some (Operation op w k xs)) =
     let Goal : Made → Type 0 = λ made. Grown d made.draft in
     elim (cases_Bool (j.needed v)) [
-    | inl t ↦ subst Goal (sym (cond-true _ _ _ t)) (grown-name d v)
-    | inr f ↦ subst Goal (sym (cond-false _ _ _ f)) (grown-same d d refl refl)
+      | inl t ↦ subst Goal (sym (cond-true _ _ _ t)) (grown-name d v)
+      | inr f ↦ subst Goal (sym (cond-false _ _ _ f)) (grown-same d d refl refl)
     ]
 
 work-named : (j : Job) (d : Draft) (v : ℕ) (o : Option Work) → Valued o → j.needed v ≡ true → v < length d.names → Found (unit_lines j d v o).draft.names v
@@ -141,7 +140,7 @@ pack-grown : (j : Job) (d : Draft) (k : ℕ) (p : Packed) → Grown d (pack_line
 pack-grown j d k p =
     let f = (build_all j d (takes_at j k)).draft in
     grown-then d f _ (builds-grown j d (takes_at j k)) (grown-then f (with_pack f k p) _ (with-pack-grown f k p)
-      (extracts-grown j (with_pack f k p) f.vectors (width_for (lane_width_of j.descriptions j.ssa p)) 0 (lanes_of p)))
+    (extracts-grown j (with_pack f k p) f.vectors (width_for (lane_width_of j.descriptions j.ssa p)) 0 (lanes_of p)))
 
 pack-named : (j : Job) (d : Draft) (k : ℕ) (p : Packed) (v : ℕ) → In v (values_of p) → j.needed v ≡ true → v < length d.names → Found (pack_lines j d k p).draft.names v
 pack-named j d k p v h n l =
@@ -225,12 +224,12 @@ last-held j d (UnitAt v) k needs h holder = absurd h
 ran-more : (j : Job) (d : Draft) (done : List Node) (n : Node) → Needs j (length d.names) (length d.held) → Ran j d done → Ran j (node_lines j d n).draft (done ++ n ∷ [])
 ran-more j d done n needs ran = record {
   named = λ v h needed.
-    let split : count_of v (all_units (node_units j) (done ++ n ∷ [])) ≡ count_of v (all_units (node_units j) done) + count_of v (node_units j n) =
+      let split : count_of v (all_units (node_units j) (done ++ n ∷ [])) ≡ count_of v (all_units (node_units j) done) + count_of v (node_units j n) =
       ap (count_of v) (all_units-push (node_units j) done n) ∙ count_of-append v (all_units (node_units j) done) (node_units j n) in
-    elim (cases_lt 0 (count_of v (all_units (node_units j) done))) [
-    | inl before ↦ (node-grown j d n).names v (ran.named v before needed)
-    | inr none ↦ (let x = needs.values v needed in node-named j d n v needs.units x.0 (omega arith) needed x.1)
-    ];
+      elim (cases_lt 0 (count_of v (all_units (node_units j) done))) [
+        | inl before ↦ (node-grown j d n).names v (ran.named v before needed)
+        | inr none ↦ (let x = needs.values v needed in node-named j d n v needs.units x.0 (omega arith) needed x.1)
+      ];
   held = λ k h holder. elim (pack-last k done n h) [
     | inl before ↦ (node-grown j d n).held k (ran.held k before holder)
     | inr now ↦ last-held j d n k needs now holder
@@ -248,8 +247,8 @@ has-pack j [] x k only h g = absurd (omega arith)
 has-pack j (n ∷ ns) x k only h g =
     let split = count_of-append x (node_units j n) (all_units (node_units j) ns) in
     elim (cases_lt 0 (count_of x (node_units j n))) [
-    | inl here ↦ subst (λ m. HasPack k (m ∷ ns)) (sym (only.0 x k here g)) (inl refl)
-    | inr none ↦ later n (has-pack j ns x k only.1 (omega arith) g)
+      | inl here ↦ subst (λ m. HasPack k (m ∷ ns)) (sym (only.0 x k here g)) (inl refl)
+      | inr none ↦ later n (has-pack j ns x k only.1 (omega arith) g)
     ]
   where
     later : (m : Node) → HasPack k ns → HasPack k (m ∷ ns)
@@ -375,6 +374,7 @@ nodes-ready j depends d done [] valued uses follows needs each before only ran =
 nodes-ready j depends d done (n ∷ ns) valued uses follows needs each before only ran =
     let e = (node_lines j d n).draft in
     let grown = node-grown j d n in
-    let still : Needs j (length e.names) (length e.held) = subst (λ a. Needs j a (length e.held)) (sym grown.long_names) (subst (λ b. Needs j (length d.names) b) (sym grown.long_held) needs) in
-    (node-ready j d done n valued before ran each.0 (λ x a u. follows.0 x (uses n x each.0 a u)),
-    nodes-ready j depends e (done ++ n ∷ []) ns valued uses follows.1 still each.1 (only-push j done n before only.0) only.1 (ran-more j d done n needs ran))
+    let still : Needs j (length e.names) (length e.held) = subst (λ a. Needs j a (length e.held)) (sym grown.long_names) (subst (λ b. Needs j (length d.names) b) (sym grown.long_held) needs) in (
+      node-ready j d done n valued before ran each.0 (λ x a u. follows.0 x (uses n x each.0 a u)),
+      nodes-ready j depends e (done ++ n ∷ []) ns valued uses follows.1 still each.1 (only-push j done n before only.0) only.1 (ran-more j d done n needs ran),
+    )

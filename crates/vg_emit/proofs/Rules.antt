@@ -1,20 +1,16 @@
 -- Emitted programs keep the rules on programs.
-use Rattle.std.proofs.Common.{◌≡◌, ℕ, zero, suc, ◌+◌, ◌*◌, ◌<◌, ◌≤◌, Bool, true, false, List, [], ◌∷◌, ◌++◌, length, map, Option, Some, None, refl, sym, ap, subst, ◌∙◌, inl, inr, arith, append-nil}
-use Rattle.std.specs.Prelude.{filter, not, slice_get, slice_index, slice_index_or, IsTrue}
+use Rattle.std.proofs.Common.{◌≡◌, ℕ, ◌+◌, ◌*◌, ◌<◌, ◌≤◌, Bool, List, [], ◌∷◌, length, map, Some, refl, sym, ap, subst, ◌∙◌, inl, inr, arith}
+use Rattle.std.specs.Prelude.{filter, not, slice_get, slice_index, IsTrue}
 use Rattle.std.specs.List.{AllByRecursion, IsDistinct}
 use Rattle.std.specs.Str.{bytes_eq}
 use Rattle.std.proofs.lemmas.Bool.{cases_Bool, cond-true, cond-false}
 use Rattle.std.proofs.lemmas.List.{length-map}
-use Rattle.vg_base.specs.declared.address.Address.{Address}
-use Rattle.vg_base.specs.declared.width.Width.{Width}
 use Rattle.vg_base.specs.Offset.{IsAddress}
 use Rattle.vg_base.specs.Width.{bits_of, size_of}
 use Rattle.vg_pseudo.specs.declared.header.Header.{Header}
-use Rattle.vg_program.specs.declared.line.Line.{Line}
 use Rattle.vg_program.specs.declared.line.Line.TheVariants as line
 use Rattle.vg_program.specs.declared.param.Param.{Param}
 use Rattle.vg_program.specs.Before.{Before, nothing_before}
-use Rattle.vg_program.specs.Params as params
 use Rattle.vg_program.specs.Valid.{AreLines}
 use Rattle.vg_program.specs.Vectors as vectors
 use Rattle.vg_shapes.specs.declared.match_table.Match.{Match}
@@ -34,10 +30,10 @@ use Rattle.vg_shapes.specs.Units.{unit_at}
 use Rattle.vg_packing.specs.Held.{lane_width_of, register_of}
 use Rattle.vg_packing.specs.Taken.{group_operand, operands_of, params_of}
 use Rattle.vg_emit.specs.Draft.{Draft}
-use Rattle.vg_emit.specs.Emission.{Job, build_all, call_of, description_at, emitted, first_address, joint_size, no_description, node_lines, operand_at, pack_at, pack_line, pack_lines, takes_at, unit_lines, width_for}
+use Rattle.vg_emit.specs.Emission.{Job, build_all, call_of, description_at, emitted, first_address, joint_size, no_description, node_lines, operand_at, pack_at, pack_lines, takes_at, width_for}
 use Rattle.vg_emit.specs.Fit.{AreFit, EmittedKeepsRules, HasHeader, LaneFits}
 use Rattle.vg_emit.specs.Planned.{IsPack, IsPlanned}
-use Rattle.vg_emit.specs.Program.{begin, job_of, ordered, param_of, program_of}
+use Rattle.vg_emit.specs.Program.{begin, job_of, ordered, param_of}
 use Rattle.vg_emit.proofs.Jobs.{get-there, kind-at, listed}
 use Rattle.vg_emit.proofs.Keeping.{address-fits, few-units, holder-types, loads-fit, pack-most, params-at, register-at, taken-registers, work-types}
 use Rattle.vg_emit.proofs.Made.{job-made, ordered-legal}
@@ -46,8 +42,8 @@ use Rattle.vg_emit.proofs.Orders.{found-blank, order-ready}
 use Rattle.vg_emit.proofs.Placing.{AllReady}
 use Rattle.vg_emit.proofs.Programs.{NodeReady, NodesReady}
 use Rattle.vg_emit.proofs.Sizes.{loads-address, loads-size, loads-width, register-bytes, stores-address, stores-size, stores-width, width-again}
-use Rattle.vg_emit.proofs.Validity.{AllPlaced, builds-types, call-fits}
-use Rattle.vg_emit.proofs.Widths.{more_vector, Typed, Types, types-then}
+use Rattle.vg_emit.proofs.Validity.{builds-types, call-fits}
+use Rattle.vg_emit.proofs.Widths.{Typed, Types, types-then}
 
 first-wide : (vs : List ℕ) (rs : List ℕ) (w : ℕ) (ws : List ℕ) → map (λ v. slice_get vs v) rs ≡ Some w ∷ map Some ws → slice_get vs (slice_index rs 0) ≡ Some w
 first-wide vs [] w ws e = cc
@@ -72,10 +68,10 @@ pack-types j matches headers d b k (Loads (u ∷ us)) fit planned job same low h
     let long = length-map all (λ (v : ℕ). Some v) in
     let inside : length all * bits_of is.0 ≤ w = (let a = size.register in let c = size.room in let f = few.1 in omega arith) in
     holder-types j d b b1 k w (Loads all) (line.VectorLoad z (first_address j.ssa all)) placed.1 (λ rest x. (address, x))
-      (size.register ∙ sym (register-bytes j.ssa is.0 all wide) ∙ ap (register_of j.descriptions j.ssa) (sym here))
-      (subst (λ n. length (lanes_of (Loads all)) * n ≤ w) (sym lane) (subst (λ n. n * bits_of is.0 ≤ w) (sym long) inside))
-      (let f = few.0 in omega arith)
-      (subst (λ n. AllByRecursion (LaneFits j.ssa n) (map Some all)) (sym lane) (loads-fit j.ssa is.0 is.1 all is.2))
+    (size.register ∙ sym (register-bytes j.ssa is.0 all wide) ∙ ap (register_of j.descriptions j.ssa) (sym here))
+    (subst (λ n. length (lanes_of (Loads all)) * n ≤ w) (sym lane) (subst (λ n. n * bits_of is.0 ≤ w) (sym long) inside))
+    (let f = few.0 in omega arith)
+    (subst (λ n. AllByRecursion (LaneFits j.ssa n) (map Some all)) (sym lane) (loads-fit j.ssa is.0 is.1 all is.2))
 pack-types j matches headers d b k (Call e lanes) fit planned job same low here is h ready =
     let placed = builds-types j headers d b (takes_at j k) fit planned (job.below k low) same h ready in
     let b1 = placed.0 in
@@ -85,15 +81,15 @@ pack-types j matches headers d b k (Call e lanes) fit planned job same low here 
     let own = fit.calls k e lanes (get-there j.packs k (Stores []) low ∙ ap Some here) in
     let has = listed (HasHeader headers) j.descriptions e no_description fit.described is.0 in
     let taken : map (λ (o : Operand). o.register) (map (operand_at j) (takes_at j k)) ≡ desc.params =
-      ap (map (λ (o : Operand). o.register)) (job.takes k low ∙ ap (operands_of j.descriptions matches j.ssa) here)
-      ∙ taken-registers (bounds_from matches e 0 lanes) 0 (params_of j.descriptions e) ∙ params-at j.descriptions e in
+    ap (map (λ (o : Operand). o.register)) (job.takes k low ∙ ap (operands_of j.descriptions matches j.ssa) here)
+    ∙ taken-registers (bounds_from matches e 0 lanes) 0 (params_of j.descriptions e) ∙ params-at j.descriptions e in
     let ok = call-fits headers b1 desc made.registers (placed.1.types.headers ∙ same) has (placed.1.wide ∙ ap (map Some) taken) in
     let wide = register-at j.descriptions e in
     holder-types j d b b1 k desc.register (Call e lanes) (call_of desc made.registers) placed.1 (λ rest x. (ok, x))
-      (wide ∙ ap (register_of j.descriptions j.ssa) (sym here))
-      (subst (λ n. length lanes * n ≤ desc.register) (sym lane) (subst (λ n. length lanes * lane_width_of j.descriptions j.ssa (Call e lanes) ≤ n) (sym wide) own.inside))
-      own.few
-      (subst (λ n. AllByRecursion (LaneFits j.ssa n) lanes) (sym lane) own.widths)
+    (wide ∙ ap (register_of j.descriptions j.ssa) (sym here))
+    (subst (λ n. length lanes * n ≤ desc.register) (sym lane) (subst (λ n. length lanes * lane_width_of j.descriptions j.ssa (Call e lanes) ≤ n) (sym wide) own.inside))
+    own.few
+    (subst (λ n. AllByRecursion (LaneFits j.ssa n) lanes) (sym lane) own.widths)
 pack-types j matches headers d b k (Stores []) fit planned job same low here is h ready = absurd (let two = is.6 in omega arith)
 pack-types j matches headers d b k (Stores (u ∷ us)) fit planned job same low here is h ready = by is.2 is.4
   where
@@ -110,9 +106,9 @@ pack-types j matches headers d b k (Stores (u ∷ us)) fit planned job same low 
         let unit = unit-is j.ssa u (Store is.1 is.0 x) planned.sound.units are.0 in
         let address = address-fits j made.draft b1 (first_address j.ssa all) placed.1.types.typed (subst (IsAddress (length (Rattle.vg_shapes.specs.Sound.pointers j.ssa))) (sym (stores-address j.ssa is.0 is.1 u us x xs are)) unit.0) in
         let taken : map (λ (o : Operand). o.register) (map (operand_at j) (takes_at j k)) ≡ (group_operand j.ssa all).register ∷ [] =
-          ap (map (λ (o : Operand). o.register)) (job.takes k low ∙ ap (operands_of j.descriptions matches j.ssa) here) in
+        ap (map (λ (o : Operand). o.register)) (job.takes k low ∙ ap (operands_of j.descriptions matches j.ssa) here) in
         let register : slice_get b1.vectors (slice_index made.registers 0) ≡ Some (vectors.register_of z) =
-          first-wide b1.vectors made.registers (group_operand j.ssa all).register [] (placed.1.wide ∙ ap (map Some) taken) ∙ ap Some (register-bytes j.ssa is.0 all wide ∙ sym size.register) in
+        first-wide b1.vectors made.registers (group_operand j.ssa all).register [] (placed.1.wide ∙ ap (map Some) taken) ∙ ap Some (register-bytes j.ssa is.0 all wide ∙ sym size.register) in
         let l = line.VectorStore z (first_address j.ssa all) (slice_index made.registers 0) in
         (b1, types-then j b b1 b1 made.lines (l ∷ []) made.draft made.draft placed.1.types (record { fit = λ rest y. ((address, register), y); typed = placed.1.types.typed; grown = λ m y g. g; headers = refl }))
 
@@ -143,12 +139,12 @@ split-count test (u ∷ us) =
     let kept = filter test us in
     let others = filter (λ u. not (test u)) us in
     elim (cases_Bool (test u)) [
-    | inl t ↦
-        let a = ap length (cond-true (test u) (u ∷ kept) kept t) in
-        let b = ap length (cond-false (not (test u)) (u ∷ others) others (ap not t)) in omega arith
-    | inr f ↦
-        let a = ap length (cond-false (test u) (u ∷ kept) kept f) in
-        let b = ap length (cond-true (not (test u)) (u ∷ others) others (ap not f)) in omega arith
+      | inl t ↦
+          let a = ap length (cond-true (test u) (u ∷ kept) kept t) in
+          let b = ap length (cond-false (not (test u)) (u ∷ others) others (ap not t)) in omega arith
+      | inr f ↦
+          let a = ap length (cond-false (test u) (u ∷ kept) kept f) in
+          let b = ap length (cond-true (not (test u)) (u ∷ others) others (ap not f)) in omega arith
     ]
 
 pub emitted-keeps-rules : EmittedKeepsRules
@@ -159,10 +155,13 @@ emitted-keeps-rules headers ds matches ssa packs recipes given planned legal fit
     let job = job-made ds matches ssa packs recipes planned.sound.earlier in
     let s = planned.sound in
     let start : Typed j (begin j) (nothing_before headers (map param_of ssa.params)) = record {
-      params = refl; scalars = refl; vectors = refl;
+      params = refl;
+      scalars = refl;
+      vectors = refl;
       names = λ v r w e wide. absurd (found-blank _ v r e);
       held = λ k r e. absurd (found-blank _ k r e);
-      built = λ o r e. absurd (found-blank _ o r e) } in
+      built = λ o r e. absurd (found-blank _ o r e);
+    } in
     record {
       name = s.name;
       params = record { few = (let l = length-map ssa.params param_of in let m = s.params in omega arith); names = names-are ssa.params s.names; distinct = subst (IsDistinct bytes_eq) (sym (names-same ssa.params)) s.distinct };

@@ -1,7 +1,6 @@
 -- The widths and sizes of loads and stores that stand beside each other in memory.
-use Rattle.std.proofs.Common.{◌≡◌, ℕ, ◌+◌, ◌*◌, ◌/◌, ◌≤◌, Bool, true, false, List, [], ◌∷◌, length, map, Option, Some, None, refl, sym, ap, subst, ◌∙◌, ◌⊎◌, inl, inr, arith, lit≤}
-use Rattle.std.specs.Prelude.{IsTrue, nat_eq, ◌||◌}
-use Rattle.std.specs.List.{AllByRecursion}
+use Rattle.std.proofs.Common.{◌≡◌, ℕ, ◌*◌, ◌/◌, ◌≤◌, true, List, ◌∷◌, length, refl, sym, ap, subst, ◌∙◌, inl, inr, arith, lit≤}
+use Rattle.std.specs.Prelude.{nat_eq}
 use Rattle.std.proofs.lemmas.Bool.{or_cases, eqb-true}
 use Rattle.vg_base.specs.declared.address.Address.{Address}
 use Rattle.vg_base.specs.declared.width.Width.{Width}
@@ -12,8 +11,7 @@ use Rattle.vg_program.specs.Vectors.{bytes_of, register_of}
 use Rattle.vg_shapes.specs.declared.ssa.Ssa.{Ssa}
 use Rattle.vg_shapes.specs.declared.wanted.Wanted.{Wanted}
 use Rattle.vg_shapes.specs.Pack.{AreLoads, AreStores, is_pack_size}
-use Rattle.vg_shapes.specs.Units.{unit_at}
-use Rattle.vg_packing.specs.Taken.{first_width, register_of_bytes, stored, unit_width}
+use Rattle.vg_packing.specs.Taken.{first_width, register_of_bytes, unit_width}
 use Rattle.vg_emit.specs.Emission.{address_of, first_address, joint_size, size_for, width_for}
 
 pub eight : (w : Width) → bits_of w ≡ 8 * size_of w

@@ -17,7 +17,7 @@ use Rattle.vg_shapes.specs.declared.ssa.Ssa.{Ssa}
 use Rattle.vg_shapes.specs.Nodes.{ArePacks, is_packed, IsOrder, nodes, packed, units_at}
 use Rattle.vg_shapes.specs.Order.{all_units, count_of, numbers_from, one_if, Stands}
 use Rattle.vg_shapes.specs.Pack.{units_of}
-use Rattle.vg_shapes.specs.Units.{arguments, is_unit, unit_at}
+use Rattle.vg_shapes.specs.Units.{arguments, is_unit}
 use Rattle.vg_order_laws.specs.Laws.{AreUnits}
 use Rattle.vg_order_laws.specs.Steps.{unit_numbers}
 use Rattle.vg_order_laws.proofs.Sequences.{count_of-append, count_of-earlier}
@@ -66,24 +66,24 @@ kept-stands test x (y ∷ ys) t h =
     let Goal : List ℕ → Type 0 = λ l. Stands x l in
     let kept = filter test ys in
     elim (cases_Bool (x == y)) [
-    | inl same ↦ Rattle.std.proofs.Common.subst Goal (sym (cond-true (test y) (y ∷ kept) kept (ap test (sym (eqb-true x y same)) ∙ t))) (let one : one_if (x == y) ≡ 1 = ap one_if same in omega arith)
-    | inr other ↦
-        let none : one_if (x == y) ≡ 0 = ap one_if other in
-        let rest = kept-stands test x ys t (omega arith) in
-        elim (cases_Bool (test y)) [
-        | inl u ↦ Rattle.std.proofs.Common.subst Goal (sym (cond-true (test y) (y ∷ kept) kept u)) (omega arith)
-        | inr f ↦ Rattle.std.proofs.Common.subst Goal (sym (cond-false (test y) (y ∷ kept) kept f)) rest
-        ]
+      | inl same ↦ Rattle.std.proofs.Common.subst Goal (sym (cond-true (test y) (y ∷ kept) kept (ap test (sym (eqb-true x y same)) ∙ t))) (let one : one_if (x == y) ≡ 1 = ap one_if same in omega arith)
+      | inr other ↦
+          let none : one_if (x == y) ≡ 0 = ap one_if other in
+          let rest = kept-stands test x ys t (omega arith) in
+          elim (cases_Bool (test y)) [
+            | inl u ↦ Rattle.std.proofs.Common.subst Goal (sym (cond-true (test y) (y ∷ kept) kept u)) (omega arith)
+            | inr f ↦ Rattle.std.proofs.Common.subst Goal (sym (cond-false (test y) (y ∷ kept) kept f)) rest
+          ]
     ]
 
 pub stands-in-order : (ssa : Ssa) (matches : List Match) (packs : List Packed) (order : List Node) (x : ℕ) → IsOrder ssa matches packs order → Stands x (unit_numbers ssa) → Stands x (all_units (units_at packs) order)
 stands-in-order ssa matches packs order x legal there =
     let outside = filter (λ v. not (is_packed packs v)) (unit_numbers ssa) in
     let all : count_of x (all_units (units_at packs) order) ≡ count_of x (packed packs) + count_of x outside =
-      count_of-permuted (units_at packs) x (nodes ssa packs) order legal.once ∙ ap (count_of x) (node-units ssa packs) ∙ count_of-append x (packed packs) outside in
+    count_of-permuted (units_at packs) x (nodes ssa packs) order legal.once ∙ ap (count_of x) (node-units ssa packs) ∙ count_of-append x (packed packs) outside in
     elim (cases_Bool (is_packed packs x)) [
-    | inl t ↦ (let some = found-stands x (packed packs) t in omega arith)
-    | inr f ↦ (let kept = kept-stands (λ v. not (is_packed packs v)) x (unit_numbers ssa) (ap not f) there in omega arith)
+      | inl t ↦ (let some = found-stands x (packed packs) t in omega arith)
+      | inr f ↦ (let kept = kept-stands (λ v. not (is_packed packs v)) x (unit_numbers ssa) (ap not f) there in omega arith)
     ]
 
 -- ---- and it stands there once

@@ -3,26 +3,24 @@ use Rattle.std.proofs.Common.{◌≡◌, ℕ, zero, suc, ◌+◌, ◌-◌, ◌<�
 use Rattle.std.specs.Prelude.{filter, nat_eq, nat_le, nat_lt, not, slice_get, sum_by, ◌==◌, ◌&&◌, ◌||◌, if◌then◌else◌}
 use Rattle.std.specs.List.{flat_map, list_any}
 use Rattle.std.specs.Option.{is_some}
-use Rattle.std.proofs.lemmas.Bool.{cases_Bool, cases_lt, cond-false, cond-true, eqb-true, le-ltb, true≢false}
+use Rattle.std.proofs.lemmas.Bool.{cases_Bool, cond-false, cond-true, le-ltb, true≢false}
 use Rattle.std.proofs.lemmas.List.Folds.{list_any-append}
 use Rattle.std.proofs.lemmas.List.Sums.{sum_by-cons}
-use Rattle.vg_base.specs.Trap.{◌>>=◌}
 use Rattle.vg_plans.specs.World.{is_emitted, is_in, scalar_lines}
 use Rattle.vg_plans.specs.World as world
 use Rattle.vg_shapes.specs.declared.match_table.Match.{Match}
 use Rattle.vg_shapes.specs.declared.pack.Pack.{Pack as Packed}
 use Rattle.vg_shapes.specs.declared.ssa.Ssa.{Ssa}
-use Rattle.vg_shapes.specs.Depends.{numbers_below}
 use Rattle.vg_shapes.specs.Description.{Description}
 use Rattle.vg_shapes.specs.Layout.{access_at}
 use Rattle.vg_shapes.specs.Nodes.{is_packed, packed}
-use Rattle.vg_shapes.specs.Order.{count_of, numbers_from, one_if, Stands as In}
+use Rattle.vg_shapes.specs.Order.{count_of, numbers_from, one_if}
 use Rattle.vg_shapes.specs.Pack.{units_of}
 use Rattle.vg_shapes.specs.Sound.{TakeEarlier}
 use Rattle.vg_shapes.specs.Units.{arguments, is_unit, unit_at}
 use Rattle.vg_packing.specs.Packing.{packing, used_by}
 use Rattle.vg_order_laws.specs.Sequence.{in_order, put_in}
-use Rattle.vg_order_laws.proofs.Sequences.{count_of-append, in_order-numbers}
+use Rattle.vg_order_laws.proofs.Sequences.{in_order-numbers}
 use Rattle.vg_emit.specs.Program.{is_scalar, needed_behind}
 use Rattle.vg_emit.proofs.Jobs.{get-there, unit-number}
 use Rattle.vg_emit.proofs.Marks.{in-after, needed-keeps, needed-later, stands-in, units_below}
@@ -49,8 +47,8 @@ total-put_in f y [] = refl
 total-put_in f y (x ∷ xs) =
     let Goal : List ℕ → Type 0 = λ l. total f l ≡ f y + (f x + total f xs) in
     elim (cases_Bool (nat_le y x)) [
-    | inl t ↦ subst Goal (sym (cond-true (nat_le y x) (y ∷ (x ∷ xs)) (x ∷ put_in y xs) t)) refl
-    | inr g ↦ subst Goal (sym (cond-false (nat_le y x) (y ∷ (x ∷ xs)) (x ∷ put_in y xs) g)) (let rest = total-put_in f y xs in omega arith)
+      | inl t ↦ subst Goal (sym (cond-true (nat_le y x) (y ∷ (x ∷ xs)) (x ∷ put_in y xs) t)) refl
+      | inr g ↦ subst Goal (sym (cond-false (nat_le y x) (y ∷ (x ∷ xs)) (x ∷ put_in y xs) g)) (let rest = total-put_in f y xs in omega arith)
     ]
 
 total-in_order : (f : ℕ → ℕ) (xs : List ℕ) → total f (in_order xs) ≡ total f xs
@@ -76,8 +74,8 @@ none-below f ssa zero low = refl
 none-below f ssa (suc n) low =
     let kept = units_below ssa n in
     elim (cases_Bool (is_unit ssa n)) [
-    | inl t ↦ absurd (let u = some-unit (unit_at ssa n) t in let high = (unit-number ssa n u.0 u.1).0 in omega arith)
-    | inr f' ↦ ap (total f) (cond-false (is_unit ssa n) (n ∷ kept) kept f') ∙ none-below f ssa n (omega arith)
+      | inl t ↦ absurd (let u = some-unit (unit_at ssa n) t in let high = (unit-number ssa n u.0 u.1).0 in omega arith)
+      | inr f' ↦ ap (total f) (cond-false (is_unit ssa n) (n ∷ kept) kept f') ∙ none-below f ssa n (omega arith)
     ]
 
 pub unit-here : (ssa : Ssa) (n : ℕ) → n < length ssa.units → is_unit ssa (arguments ssa + n) ≡ true
@@ -143,27 +141,27 @@ scalars-total ds matches ssa deps packs (suc m) needed early =
     let same : is_emitted w packs needed m ≡ is_scalar ssa packs needed m = ap (λ b. not b && (a || c)) (packed-same packs m) in
     let taken : (world.is_packed w packs m && c) ≡ (p && c) = ap (λ b. b && c) (packed-same packs m) in
     elim (cases_Bool (is_unit ssa m)) [
-    | inr f ↦ subst Goal (sym (cond-false (is_unit ssa m) (m ∷ kept) kept f)) (scalars-total ds matches ssa deps packs m needed early)
-    | inl t ↦ subst Goal (sym (cond-true (is_unit ssa m) (m ∷ kept) kept t))
-        (elim (cases_Bool (is_scalar ssa packs needed m)) [
-        | inl s ↦
-            let more = own ++ needed in
-            let last = needed_behind ssa packs more kept in
-            let Count : List ℕ → Type 0 = λ l. 1 + scalar_lines w packs more kept ≡ unit_price ssa packs (needed_behind ssa packs l kept) m + total (unit_price ssa packs (needed_behind ssa packs l kept)) kept in
-            let one : unit_price ssa packs last m ≡ 1 = emitted-one p a c (is_in m last) s (λ h. stands-in m last (needed-keeps ssa packs more kept m (in-after m own needed (found-stands m needed h)))) in
-            let rest = scalars-total ds matches ssa deps packs m more early in
-            let now : 1 + scalar_lines w packs more kept ≡ unit_price ssa packs last m + total (unit_price ssa packs last) kept = omega arith in
-            cond-true (is_emitted w packs needed m) (1 + scalar_lines w packs more kept) _ (same ∙ s) ∙ subst Count (sym (cond-true (is_scalar ssa packs needed m) more needed s)) now
-        | inr s ↦
-            let last = needed_behind ssa packs needed kept in
-            let Count : List ℕ → Type 0 = λ l. (if p && c then 1 + scalar_lines w packs needed kept else scalar_lines w packs needed kept) ≡ unit_price ssa packs (needed_behind ssa packs l kept) m + total (unit_price ssa packs (needed_behind ssa packs l kept)) kept in
-            let stays : is_in m last ≡ c = same-bools (is_in m last) c
-              (λ h. stands-in m needed (needed-later ssa packs m needed m early (omega arith) (found-stands m last h)))
-              (λ h. stands-in m last (needed-keeps ssa packs needed kept m (found-stands m needed h))) in
-            let rest = scalars-total ds matches ssa deps packs m needed early in
-            let now : (if p && c then 1 + scalar_lines w packs needed kept else scalar_lines w packs needed kept) ≡ unit_price ssa packs last m + total (unit_price ssa packs last) kept =
-              left-out p a c (is_in m last) (scalar_lines w packs needed kept) s stays ∙ ap (λ k. unit_price ssa packs last m + k) rest in
-            cond-false (is_emitted w packs needed m) _ _ (same ∙ s) ∙ ap (λ b. if b then 1 + scalar_lines w packs needed kept else scalar_lines w packs needed kept) taken
-            ∙ subst Count (sym (cond-false (is_scalar ssa packs needed m) (own ++ needed) needed s)) now
-        ])
+      | inr f ↦ subst Goal (sym (cond-false (is_unit ssa m) (m ∷ kept) kept f)) (scalars-total ds matches ssa deps packs m needed early)
+      | inl t ↦ subst Goal (sym (cond-true (is_unit ssa m) (m ∷ kept) kept t))
+          (elim (cases_Bool (is_scalar ssa packs needed m)) [
+            | inl s ↦
+                let more = own ++ needed in
+                let last = needed_behind ssa packs more kept in
+                let Count : List ℕ → Type 0 = λ l. 1 + scalar_lines w packs more kept ≡ unit_price ssa packs (needed_behind ssa packs l kept) m + total (unit_price ssa packs (needed_behind ssa packs l kept)) kept in
+                let one : unit_price ssa packs last m ≡ 1 = emitted-one p a c (is_in m last) s (λ h. stands-in m last (needed-keeps ssa packs more kept m (in-after m own needed (found-stands m needed h)))) in
+                let rest = scalars-total ds matches ssa deps packs m more early in
+                let now : 1 + scalar_lines w packs more kept ≡ unit_price ssa packs last m + total (unit_price ssa packs last) kept = omega arith in
+                cond-true (is_emitted w packs needed m) (1 + scalar_lines w packs more kept) _ (same ∙ s) ∙ subst Count (sym (cond-true (is_scalar ssa packs needed m) more needed s)) now
+            | inr s ↦
+                let last = needed_behind ssa packs needed kept in
+                let Count : List ℕ → Type 0 = λ l. (if p && c then 1 + scalar_lines w packs needed kept else scalar_lines w packs needed kept) ≡ unit_price ssa packs (needed_behind ssa packs l kept) m + total (unit_price ssa packs (needed_behind ssa packs l kept)) kept in
+                let stays : is_in m last ≡ c = same-bools (is_in m last) c
+                (λ h. stands-in m needed (needed-later ssa packs m needed m early (omega arith) (found-stands m last h)))
+                (λ h. stands-in m last (needed-keeps ssa packs needed kept m (found-stands m needed h))) in
+                let rest = scalars-total ds matches ssa deps packs m needed early in
+                let now : (if p && c then 1 + scalar_lines w packs needed kept else scalar_lines w packs needed kept) ≡ unit_price ssa packs last m + total (unit_price ssa packs last) kept =
+                left-out p a c (is_in m last) (scalar_lines w packs needed kept) s stays ∙ ap (λ k. unit_price ssa packs last m + k) rest in
+                cond-false (is_emitted w packs needed m) _ _ (same ∙ s) ∙ ap (λ b. if b then 1 + scalar_lines w packs needed kept else scalar_lines w packs needed kept) taken
+                ∙ subst Count (sym (cond-false (is_scalar ssa packs needed m) (own ++ needed) needed s)) now
+          ])
     ]

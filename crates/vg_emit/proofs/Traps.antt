@@ -1,5 +1,5 @@
 -- A line of an order leaves the memory where a unit does.
-use Rattle.std.proofs.Common.{◌≡◌, ℕ, zero, suc, ◌+◌, ◌*◌, ◌<◌, ◌≤◌, ℤ, pos, negsuc, Bool, true, false, List, [], ◌∷◌, ◌++◌, length, Option, Some, None, refl, sym, ap, subst, ◌∙◌, inl, inr, arith}
+use Rattle.std.proofs.Common.{◌≡◌, ℕ, zero, suc, ◌+◌, ◌*◌, ◌<◌, ◌≤◌, ℤ, pos, negsuc, true, false, List, [], ◌∷◌, ◌++◌, length, Some, None, refl, sym, ap, subst, ◌∙◌, inl, inr, arith}
 use Rattle.std.specs.Prelude.{nat_le, ◌&&◌, ◌==◌, ◌+ℤ◌}
 use Rattle.std.specs.List.{AllByRecursion, list_all}
 use Rattle.std.proofs.lemmas.Bool.{and_left, and_right, cases_Bool, cases_lt, eqb-true, leb-false, lt-leb, true≢false}
@@ -131,7 +131,7 @@ pack-outside j places long d k (Loads (x ∷ us)) v u sides h e out =
     let l = pack_line j (Loads all) made.registers in
     let rest = (extracts j (with_pack made.draft k (Loads all)) made.draft.vectors (width_for (lane_width_of j.descriptions j.ssa (Loads all))) 0 (lanes_of (Loads all))).lines in
     leaves-after places long made.lines (l ∷ rest) (leaves-first places long l rest
-      (inside-same long (place_of places (first_address j.ssa all)) n ∙ ap (λ b. is_inside long (place_of places b) n) (loads-address j.ssa sides.0 sides.1 x us sides.2) ∙ outside))
+    (inside-same long (place_of places (first_address j.ssa all)) n ∙ ap (λ b. is_inside long (place_of places b) n) (loads-address j.ssa sides.0 sides.1 x us sides.2) ∙ outside))
 pack-outside j places long d k (Stores []) v u sides h e out = absurd (omega arith)
 pack-outside j places long d k (Stores (x ∷ us)) v u sides h e out = by sides.2 sides.3
   where
@@ -143,7 +143,7 @@ pack-outside j places long d k (Stores (x ∷ us)) v u sides h e out = by sides.
         let outside : is_inside long (place_of places sides.1) n ≡ false = stores-outside j.ssa places long sides.0 sides.1 0 n (x ∷ us) (y ∷ ys) v u (subst (λ b. AreStores j.ssa sides.0 b (x ∷ us) (y ∷ ys)) (sym (at_start sides.1)) are) (omega arith) h e out in
         let l = pack_line j (Stores (x ∷ us)) (build_all j d (takes_at j k)).registers in
         leaves-after places long (build_all j d (takes_at j k)).lines (l ∷ []) (leaves-first places long l []
-          (inside-same long (place_of places (first_address j.ssa (x ∷ us))) n ∙ ap (λ b. is_inside long (place_of places b) n) (stores-address j.ssa sides.0 sides.1 x us y ys are) ∙ outside))
+        (inside-same long (place_of places (first_address j.ssa (x ∷ us))) n ∙ ap (λ b. is_inside long (place_of places b) n) (stores-address j.ssa sides.0 sides.1 x us y ys are) ∙ outside))
 pack-outside j places long d k (Call c lanes) v u sides h e out = absurd (true≢false (sym (operations-inside j.ssa places long (units_of (Call c lanes)) v u sides h e) ∙ out))
 
 work-outside : (j : Job) (places : List ℕ) (long : ℕ) (d : Draft) (v : ℕ) (u : Work) → stays_inside places long u ≡ false → Leaves places long (unit_lines j d v (Some u)).lines
@@ -178,6 +178,6 @@ emitted-outside j places long d (n ∷ ns) v u sides is e out =
     let made = node_lines j d n in
     let split = count_of-append v (node_units j n) (all_units (node_units j) ns) in
     elim (cases_lt 0 (count_of v (node_units j n))) [
-    | inl here ↦ leaves-before places long made.lines (emitted j made.draft ns) (node-outside j places long d n v u sides (in-range j v n) here e out)
-    | inr none ↦ leaves-after places long made.lines (emitted j made.draft ns) (emitted-outside j places long made.draft ns v u sides (omega arith) e out)
+      | inl here ↦ leaves-before places long made.lines (emitted j made.draft ns) (node-outside j places long d n v u sides (in-range j v n) here e out)
+      | inr none ↦ leaves-after places long made.lines (emitted j made.draft ns) (emitted-outside j places long made.draft ns v u sides (omega arith) e out)
     ]

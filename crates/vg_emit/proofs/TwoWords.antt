@@ -1,8 +1,7 @@
 -- Two words that are copied meet all that the law on emitted programs wants.
-use Rattle.std.proofs.Common.{◌≡◌, ℕ, zero, suc, ◌+◌, ◌*◌, ◌%◌, ◌^◌, ◌<◌, ◌≤◌, ℤ, pos, negsuc, lit<, lit≤, Bool, true, false, List, [], ◌∷◌, ◌++◌, length, take, drop, Option, Some, None, refl, sym, ap, subst, ◌∙◌, inl, inr, arith}
+use Rattle.std.proofs.Common.{◌≡◌, ℕ, zero, suc, ◌+◌, ◌*◌, ◌^◌, ◌<◌, ◌≤◌, ℤ, pos, negsuc, lit<, lit≤, true, List, [], ◌∷◌, ◌++◌, length, take, Option, Some, refl, sym, ap, subst, ◌∙◌, inl, inr, arith}
 use Rattle.std.specs.Prelude.{nat_le, nat_lt, slice_get, slice_index, ◌==◌, ◌&&◌, ◌||◌}
 use Rattle.std.specs.List.{IsDistinct, list_any}
-use Rattle.std.specs.List.Sorted.{IsPermutation}
 use Rattle.std.specs.Str.{bytes_eq}
 use Rattle.std.proofs.Math.Nat.{mod-eq_of_lt}
 use Rattle.std.proofs.lemmas.Bool.{cases_Bool, eqb-true, leb-true, leb-false, ltb-true, or_cases, true≢false}
@@ -12,31 +11,28 @@ use Rattle.vg_base.specs.declared.width.Width.TheVariants.{W32}
 use Rattle.vg_base.specs.Address.{place_of}
 use Rattle.vg_base.specs.Bits.{number, bits_of_bytes, bytes}
 use Rattle.vg_base.specs.Memory.{loaded, stored}
-use Rattle.vg_base.specs.Trap.{◌>>=◌}
 use Rattle.vg_bits.specs.BitList.{IsBytes}
 use Rattle.vg_bits.specs.Range.{range}
 use Rattle.vg_bits.proofs.BitLists.{num_below}
 use Rattle.vg_bits.proofs.ByteLists.{IsBits-bits_of_bytes, length-bits_of_bytes, num-bits_of_bytes}
 use Rattle.vg_bits.proofs.Ranges.{length-range}
 use Rattle.vg_program.specs.Meaning.{Instructions}
-use Rattle.vg_shapes.specs.declared.pack.Pack.TheVariants.{Stores, Loads, Call}
-use Rattle.vg_shapes.specs.declared.unit.Unit.{Unit as Work}
+use Rattle.vg_shapes.specs.declared.pack.Pack.TheVariants.{Call}
 use Rattle.vg_shapes.specs.declared.unit.Unit.TheVariants.{Load, Store}
 use Rattle.vg_shapes.specs.declared.wanted.Wanted.{Wanted}
 use Rattle.vg_shapes.specs.declared.wanted.Wanted.TheVariants.{Value}
 use Rattle.vg_shapes.specs.Depends.{depends_on}
-use Rattle.vg_shapes.specs.Nodes.{ArePacks, IsOrder, node_depends, nodes, packed}
+use Rattle.vg_shapes.specs.Nodes.{ArePacks, IsOrder, node_depends, packed}
 use Rattle.vg_shapes.specs.Order.{count_of, one_if, Stands as In}
 use Rattle.vg_shapes.specs.RunUnits.{number_of, Reached, reached, run_units, start_of, unit_run}
 use Rattle.vg_shapes.specs.Sound.{environment, IsSound, term_at, TermsMean}
-use Rattle.vg_shapes.specs.Units.{integers, is_unit}
+use Rattle.vg_shapes.specs.Units.{is_unit}
 use Rattle.vg_packing.proofs.SameTests.{both-true}
 use Rattle.vg_terms.specs.Term.{Tree, constant, leaf}
 use Rattle.vg_terms.specs.Value.{value}
 use Rattle.vg_order_laws.proofs.Accesses.{loaded-inside, loaded-outside}
 use Rattle.vg_order_laws.proofs.Runs.{went_well}
 use Rattle.vg_emit.specs.Emission.{Job, operand_at, recipe_at}
-use Rattle.vg_emit.specs.Laws.{AlwaysKeep, IsRun}
 use Rattle.vg_emit.specs.Planned.{IsPlanned, TakesGiven}
 use Rattle.vg_emit.specs.Program.{job_of}
 use Rattle.vg_emit.specs.Promises.{Fills, Holds, KeepPromises, RecipeFills}
@@ -234,6 +230,7 @@ stores-need x h = elim (or_cases (depends_on two_words 2 x) _ h) [
     second zero low = lit< tt
     second (suc zero) low = lit< tt
     second (suc (suc x)) low = absurd (omega arith)
+
     third : (x : ℕ) → x < 3 → depends_on two_words 3 x ≡ true → In x (0 ∷ 1 ∷ [])
     third zero low a = lit< tt
     third (suc zero) low a = lit< tt
@@ -250,9 +247,11 @@ keeps called numbers = record { recipes = filled; calls = none }
   where
     j : Job
     j = job_of [] [] two_words two_packs one_recipe
+
     filled : (o : ℕ) → o < length (job_of [] [] two_words two_packs one_recipe).operands → RecipeFills (job_of [] [] two_words two_packs one_recipe) called numbers (operand_at (job_of [] [] two_words two_packs one_recipe) o) (recipe_at (job_of [] [] two_words two_packs one_recipe) o)
     filled zero low = λ reg holds. record { long = holds.long; bits = holds.bits; slots = (holds.lanes.0, (holds.lanes.1.0, tt)) }
     filled (suc o) low = absurd (omega arith)
+
     none : (k e : ℕ) (lanes : List (Option ℕ)) → slice_get two_packs k ≡ Some (Call e lanes) → Rattle.vg_emit.specs.Promises.CallHolds (job_of [] [] two_words two_packs one_recipe) called numbers (Rattle.vg_emit.specs.Emission.takes_at (job_of [] [] two_words two_packs one_recipe) k) e lanes
     none zero e lanes h = absurd (cc)
     none (suc zero) e lanes h = absurd (cc)

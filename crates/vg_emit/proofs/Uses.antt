@@ -1,12 +1,10 @@
 -- A node depends on the units whose values it uses.
-use Rattle.std.proofs.Common.{◌≡◌, ℕ, zero, suc, ◌+◌, ◌-◌, ◌<◌, ◌≤◌, Bool, true, false, List, [], ◌∷◌, ◌++◌, length, map, Option, Some, None, refl, sym, ap, subst, ◌∙◌, ◌⊎◌, inl, inr, arith}
-use Rattle.std.specs.Prelude.{filter, filter_map, nat_eq, nat_lt, slice_get, slice_index_or, ◌==◌, ◌||◌, ◌&&◌}
-use Rattle.std.specs.List.{AllByRecursion, cons_option, list_any}
-use Rattle.std.specs.Option.{is_some, option_map_or}
+use Rattle.std.proofs.Common.{◌≡◌, ℕ, zero, suc, ◌+◌, ◌-◌, ◌<◌, true, false, List, [], ◌∷◌, length, map, Option, Some, None, refl, sym, ap, subst, ◌∙◌, inl, inr, arith}
+use Rattle.std.specs.Prelude.{filter, filter_map, nat_eq, nat_lt, slice_get, ◌==◌, ◌||◌}
+use Rattle.std.specs.List.{cons_option, list_any}
+use Rattle.std.specs.Option.{option_map_or}
 use Rattle.std.proofs.lemmas.Bool.{and_from, cases_Bool, eq-eqb, eqb-true, lt-ltb, or_left, or_right}
-use Rattle.vg_base.specs.declared.address.Address.{Address}
-use Rattle.vg_base.specs.declared.width.Width.{Width}
-use Rattle.vg_plans.specs.Levels.{distinct, sort_by}
+use Rattle.vg_plans.specs.Levels.{distinct}
 use Rattle.vg_plans.specs.Members.{Every, Has}
 use Rattle.vg_plans.proofs.Lists.{every-distinct, every-map, every-sort}
 use Rattle.vg_plans.proofs.Members.{any-is, from-filter}
@@ -19,7 +17,6 @@ use Rattle.vg_shapes.specs.declared.order.Node.TheVariants.{PackAt, UnitAt}
 use Rattle.vg_shapes.specs.declared.pack.Pack.{Pack as Packed}
 use Rattle.vg_shapes.specs.declared.pack.Pack.TheVariants.{Stores, Loads, Call}
 use Rattle.vg_shapes.specs.declared.ssa.Ssa.{Ssa}
-use Rattle.vg_shapes.specs.declared.unit.Operands.{Operands}
 use Rattle.vg_shapes.specs.declared.unit.Unit.{Unit as Work}
 use Rattle.vg_shapes.specs.declared.unit.Unit.TheVariants.{Load, Store, Operation}
 use Rattle.vg_shapes.specs.declared.wanted.Wanted.{Wanted}
@@ -27,15 +24,15 @@ use Rattle.vg_shapes.specs.declared.wanted.Wanted.TheVariants.{Value, Constant, 
 use Rattle.vg_shapes.specs.Depends.{conflict_at, depends_on, uses_at}
 use Rattle.vg_shapes.specs.Description.{Description}
 use Rattle.vg_shapes.specs.Nodes.{node_depends, pack_depends}
-use Rattle.vg_shapes.specs.Order.{count_of, one_if, Stands as In}
+use Rattle.vg_shapes.specs.Order.{one_if, Stands as In}
 use Rattle.vg_shapes.specs.Pack.{bounds_from}
 use Rattle.vg_shapes.specs.Sound.{IsEarlier, TakeEarlier, TakesEarlier}
 use Rattle.vg_shapes.specs.Units.{arguments, is_unit, is_value, unit_at, uses_value}
 use Rattle.vg_packing.specs.SameAs.{same_slot}
-use Rattle.vg_packing.specs.Taken.{first_width, group_operand, operands_from, operands_of, params_of, slot_of, slots_from, slots_of, stored}
+use Rattle.vg_packing.specs.Taken.{first_width, operands_from, operands_of, params_of, slot_of, slots_from, slots_of, stored}
 use Rattle.vg_packing.specs.Wants.{value_of, wanted_values}
 use Rattle.vg_emit.specs.Emission.{Job, operand_at, pack_at, takes_at}
-use Rattle.vg_emit.proofs.Jobs.{get-some, get-there, unit-number, valued-is, valued-unit}
+use Rattle.vg_emit.proofs.Jobs.{get-there, unit-number, valued-is}
 use Rattle.vg_emit.proofs.Readiness.{Is, NodeUses, OperandsWant, Valued, WorkUses}
 
 -- ---- units take earlier values
@@ -79,6 +76,7 @@ work-depends ssa v x early valued uses = by (unit_at ssa v) refl uses
   where
     unit : is_unit ssa x ≡ true
     unit = valued-is (unit_at ssa x) valued
+
     by : (o : Option Work) → unit_at ssa v ≡ o → WorkUses o x → depends_on ssa v x ≡ true
     by None e h = absurd h
     by (Some (Load a w)) e h = absurd h
@@ -87,12 +85,12 @@ work-depends ssa v x early valued uses = by (unit_at ssa v) refl uses
         let takes = takes-earlier ssa v (Operation op w k ys) early e in
         let same : uses_at ssa v x ≡ (is_value x ys.first || (is_value x ys.second || is_value x ys.third)) = ap (λ o. option_map_or (uses_value x) o false) e in
         elim h [
-        | inl a ↦ use-depends ssa v x unit (is-earlier v ys.first x takes.0 a) (same ∙ or_left _ _ (is-value ys.first x a))
-        | inr b ↦ elim b [
-          | inl a ↦ use-depends ssa v x unit (is-earlier v ys.second x takes.1 a) (same ∙ or_right (is_value x ys.first) _ (or_left _ _ (is-value ys.second x a)))
-          | inr a ↦ use-depends ssa v x unit (is-earlier v ys.third x takes.2 a) (same ∙ or_right (is_value x ys.first) _ (or_right (is_value x ys.second) _ (is-value ys.third x a)))
+          | inl a ↦ use-depends ssa v x unit (is-earlier v ys.first x takes.0 a) (same ∙ or_left _ _ (is-value ys.first x a))
+          | inr b ↦ elim b [
+            | inl a ↦ use-depends ssa v x unit (is-earlier v ys.second x takes.1 a) (same ∙ or_right (is_value x ys.first) _ (or_left _ _ (is-value ys.second x a)))
+            | inr a ↦ use-depends ssa v x unit (is-earlier v ys.third x takes.2 a) (same ∙ or_right (is_value x ys.first) _ (or_right (is_value x ys.second) _ (is-value ys.third x a)))
+          ]
         ]
-    ]
 
 -- what stands among wanted values is wanted in a slot
 pub wanted-slot : (ss : List Slot) (x : ℕ) → In x (filter_map (λ s. value_of s.wanted) ss) → (s : Slot) × Has s ss × (s.wanted ≡ Value x)
@@ -101,6 +99,7 @@ wanted-slot (s ∷ ss) x h = by s.wanted refl (wanted-slot ss x) h
   where
     later : (t : Slot) × Has t ss × (t.wanted ≡ Value x) → (t : Slot) × Has t (s ∷ ss) × (t.wanted ≡ Value x)
     later f = (f.0, inr f.1, f.2)
+
     by : (y : Wanted) → s.wanted ≡ y → (In x (filter_map (λ t. value_of t.wanted) ss) → (t : Slot) × Has t ss × (t.wanted ≡ Value x)) → In x (cons_option (value_of y) (filter_map (λ t. value_of t.wanted) ss)) → (t : Slot) × Has t (s ∷ ss) × (t.wanted ≡ Value x)
     by (Constant w n) e rest g = later (rest g)
     by Nothing e rest g = later (rest g)
@@ -130,8 +129,8 @@ slots-bound bounds k x =
     let P : Slot → Type 0 = λ s. s.wanted ≡ Value x → list_any (λ b. is_value x b.wanted) bounds ≡ true in
     let own = filter (λ b. nat_eq b.key.first k) bounds in
     every-sort P (λ s. s.low) (distinct same_slot (map slot_of own))
-      (every-distinct P same_slot [] (map slot_of own)
-        (every-map P slot_of own (λ b has e. any-is (λ b. is_value x b.wanted) b bounds (from-filter (λ b. nat_eq b.key.first k) b bounds has).0 (ap (is_value x) e ∙ eq-eqb x x refl))))
+    (every-distinct P same_slot [] (map slot_of own)
+    (every-map P slot_of own (λ b has e. any-is (λ b. is_value x b.wanted) b bounds (from-filter (λ b. nat_eq b.key.first k) b bounds has).0 (ap (is_value x) e ∙ eq-eqb x x refl))))
 
 every-one : {X : Type 0} (P : X → Type 0) (xs : List X) (x : X) → Every P xs → Has x xs → P x
 every-one P [] x all has = absurd has

@@ -1,11 +1,10 @@
 -- Lines that bring operands into registers keep the rules on lines.
-use Rattle.std.proofs.Common.{◌≡◌, ℕ, zero, suc, ◌+◌, ◌*◌, ◌/◌, ◌^◌, ◌<◌, ◌≤◌, Bool, true, false, List, [], ◌∷◌, ◌++◌, length, map, Option, Some, None, refl, sym, ap, subst, ◌∙◌, ◌⊎◌, inl, inr, arith, lit≤}
-use Rattle.std.specs.Prelude.{filter, nat_eq, slice_get, slice_index_or, unwrap_or, IsSomeAnd, IsTrue, ◌==◌, ◌||◌}
+use Rattle.std.proofs.Common.{◌≡◌, ℕ, suc, ◌+◌, ◌*◌, ◌/◌, ◌<◌, ◌≤◌, true, List, [], ◌∷◌, ◌++◌, length, map, Option, Some, None, refl, sym, ap, subst, ◌∙◌, inl, inr, arith, lit≤}
+use Rattle.std.specs.Prelude.{filter, nat_eq, slice_get, unwrap_or, IsSomeAnd}
 use Rattle.std.specs.List.{AllByRecursion, list_any}
 use Rattle.std.proofs.lemmas.Bool.{cases_Bool, cond-true, cond-false, eqb-true, or_cases}
 use Rattle.vg_base.specs.declared.width.Width.{Width}
 use Rattle.vg_base.specs.declared.width.Width.TheVariants.{W8, W16, W32, W64}
-use Rattle.vg_base.specs.Bits.{bytes}
 use Rattle.vg_base.specs.Width.{bits_of}
 use Rattle.vg_bits.specs.BitList.{IsBytes}
 use Rattle.vg_bits.proofs.ByteLists.{IsBytes-bytes, length-bytes}
@@ -21,7 +20,7 @@ use Rattle.vg_shapes.specs.declared.ssa.Ssa.{Ssa}
 use Rattle.vg_shapes.specs.declared.wanted.Wanted.{Wanted}
 use Rattle.vg_shapes.specs.declared.wanted.Wanted.TheVariants.{Value, Constant, Nothing}
 use Rattle.vg_shapes.specs.Description.{Description}
-use Rattle.vg_shapes.specs.Operands.{AreSlots, IsOperand, IsSlot, MayBeWanted}
+use Rattle.vg_shapes.specs.Operands.{AreSlots, IsSlot, MayBeWanted}
 use Rattle.vg_packing.specs.declared.recipe.Recipe.{Recipe}
 use Rattle.vg_packing.specs.declared.recipe.Recipe.TheVariants as recipe
 use Rattle.vg_packing.specs.Held.{register_of}
@@ -71,8 +70,8 @@ slots-fit ssa bits low (s ∷ ss) most are =
     let kept = filter (λ s. wants_value s.wanted) ss in
     let rest = slots-fit ssa bits (s.low + s.width) ss most are.2 in
     elim (cases_Bool (wants_value s.wanted)) [
-    | inr f ↦ subst Goal (sym (cond-false (wants_value s.wanted) (s ∷ kept) kept f)) rest
-    | inl t ↦ subst Goal (sym (cond-true (wants_value s.wanted) (s ∷ kept) kept t)) (slot-fits ssa bits s most are.1 t, rest)
+      | inr f ↦ subst Goal (sym (cond-false (wants_value s.wanted) (s ∷ kept) kept f)) rest
+      | inl t ↦ subst Goal (sym (cond-true (wants_value s.wanted) (s ∷ kept) kept t)) (slot-fits ssa bits s most are.1 t, rest)
     ]
 
 inserts-types : (j : Job) (d : Draft) (b : Before) (bits r : ℕ) (ss : List Slot) → Typed j d b → slice_get b.vectors r ≡ Some bits → r + 1 ≡ d.vectors → SlotsKnown j d ss → AllByRecursion (InsertFits j.ssa bits) ss
@@ -87,13 +86,16 @@ inserts-types j d b bits r (s ∷ ss) h has last known fits =
     let rest = inserts-types j (with_vectors d 1) c bits (r + 1) ss (typed-vector j d b bits h) (get-last b.vectors (r + 1) bits (h.vectors ∙ sym last)) (omega arith) known.2 fits.1 in
     let all : d.vectors + 1 + length ss ≡ d.vectors + suc (length ss) = omega arith in
     let there : r + 1 + length ss ≡ r + suc (length ss) = omega arith in
-    let t = rest.1.typed in
-    (rest.0, record {
-      fit = λ others x. (ok, rest.1.fit others x);
-      typed = record { params = t.params; scalars = t.scalars; vectors = t.vectors ∙ all; names = t.names; held = t.held; built = t.built };
-      grown = λ k x g. rest.1.grown k x (get-more b.vectors (bits ∷ []) k x g);
-      headers = rest.1.headers;
-    }, subst (λ k. slice_get rest.0.vectors k ≡ Some bits) there rest.2)
+    let t = rest.1.typed in (
+      rest.0,
+      record {
+        fit = λ others x. (ok, rest.1.fit others x);
+        typed = record { params = t.params; scalars = t.scalars; vectors = t.vectors ∙ all; names = t.names; held = t.held; built = t.built };
+        grown = λ k x g. rest.1.grown k x (get-more b.vectors (bits ∷ []) k x g);
+        headers = rest.1.headers;
+      },
+      subst (λ k. slice_get rest.0.vectors k ≡ Some bits) there rest.2,
+    )
 
 -- ---- constants
 
@@ -185,14 +187,18 @@ place-types j headers d b o recipe.Inserts described same h ready fits given =
     let ok = constants-fit own r in
     let c = more_vector b w in
     let rest = inserts-types j (with_vectors d 1) c w d.vectors ss (typed-vector j d b w h) (get-last b.vectors d.vectors w h.vectors) refl ready (slots-fit j.ssa w 0 own.slots r.most given.slots) in
-    let last = d.vectors + length ss in
-    (rest.0, record {
-      types = record {
-        fit = λ others x. (ok.0, subst (λ k. AreLines (more_vector b k) (inserts j d w d.vectors ss ++ others)) (sym ok.1) (rest.1.fit others x));
-        typed = typed-built j (with_vectors (with_vectors d 1) (length ss)) rest.0 o last rest.1.typed rest.2;
-        grown = λ k x g. rest.1.grown k x (get-more b.vectors (w ∷ []) k x g);
-        headers = rest.1.headers };
-      wide = rest.2 })
+    let last = d.vectors + length ss in (
+      rest.0,
+      record {
+        types = record {
+          fit = λ others x. (ok.0, subst (λ k. AreLines (more_vector b k) (inserts j d w d.vectors ss ++ others)) (sym ok.1) (rest.1.fit others x));
+          typed = typed-built j (with_vectors (with_vectors d 1) (length ss)) rest.0 o last rest.1.typed rest.2;
+          grown = λ k x g. rest.1.grown k x (get-more b.vectors (w ∷ []) k x g);
+          headers = rest.1.headers;
+        };
+        wide = rest.2;
+      },
+    )
 
 build-types : (j : Job) (headers : List Header) (d : Draft) (b : Before) (o : ℕ) → AreFit j headers → IsPlanned j → o < length j.operands → b.headers ≡ headers → Typed j d b → Ready j d o
     → (after : Before) × Placed j b o (build j d o).lines (build j d o).draft (build j d o).register after
@@ -217,7 +223,10 @@ builds-types j headers d b (o ∷ os) fit planned low same h ready =
     let e = (build j d o).draft in
     let rest = builds-types j headers e first.0 os fit planned low.1 (one.types.headers ∙ same) one.types.typed (all-kept j d e os keeps.0 keeps.1 ready.1) in
     let others = rest.1 in
-    let here : slice_get rest.0.vectors (build j d o).register ≡ Some (operand_at j o).register = others.types.grown (build j d o).register (operand_at j o).register one.wide in
-    (rest.0, record {
-      types = types-then j b first.0 rest.0 (build j d o).lines (build_all j e os).lines e (build_all j e os).draft one.types others.types;
-      wide = λ i. here i ∷ others.wide i })
+    let here : slice_get rest.0.vectors (build j d o).register ≡ Some (operand_at j o).register = others.types.grown (build j d o).register (operand_at j o).register one.wide in (
+      rest.0,
+      record {
+        types = types-then j b first.0 rest.0 (build j d o).lines (build_all j e os).lines e (build_all j e os).draft one.types others.types;
+        wide = λ i. here i ∷ others.wide i;
+      },
+    )

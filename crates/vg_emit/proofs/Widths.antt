@@ -1,22 +1,19 @@
 -- The widths of what lines define.
 use Rattle.std.proofs.Common.{◌≡◌, ℕ, zero, suc, ◌+◌, ◌*◌, ◌/◌, ◌^◌, ◌<◌, ◌≤◌, Bool, true, false, List, [], ◌∷◌, ◌++◌, length, map, Option, Some, None, refl, sym, ap, subst, ◌∙◌, ◌⊎◌, inl, inr, arith, append_assoc}
-use Rattle.std.specs.Prelude.{filter, nat_lt, slice_get, slice_set, unwrap_or, IsSomeAnd}
+use Rattle.std.specs.Prelude.{slice_get, unwrap_or, IsSomeAnd}
 use Rattle.std.specs.List.{AllByRecursion}
 use Rattle.std.specs.Option.{option_map}
 use Rattle.std.proofs.lemmas.Bool.{cases_Bool, cond-true, cond-false, le-ltb, lt-ltb}
 use Rattle.std.proofs.lemmas.List.{length_push}
 use Rattle.vg_base.specs.declared.width.Width.{Width}
 use Rattle.vg_base.specs.declared.width.Width.TheVariants.{W8, W16, W32, W64}
-use Rattle.vg_base.specs.Trap.{◌>>=◌}
 use Rattle.vg_base.specs.Width.{bits_of}
-use Rattle.vg_pseudo.specs.declared.header.Header.{Header}
 use Rattle.vg_program.specs.declared.line.Line.{Line}
 use Rattle.vg_program.specs.declared.line.Line.TheVariants as line
 use Rattle.vg_program.specs.declared.operand.Operand.TheVariants.{Register}
 use Rattle.vg_program.specs.declared.param.Param.{Param}
-use Rattle.vg_program.specs.Before.{Before, with_defined}
+use Rattle.vg_program.specs.Before.{Before}
 use Rattle.vg_program.specs.Params as params
-use Rattle.vg_program.specs.Text.{defined}
 use Rattle.vg_program.specs.Valid.{AreLines, HasWidth, IsLane, IsLine, width_of}
 use Rattle.vg_shapes.specs.declared.ssa.Ssa.{Ssa}
 use Rattle.vg_shapes.specs.declared.ssa.SsaParam.{SsaParam}

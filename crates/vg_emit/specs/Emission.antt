@@ -1,6 +1,5 @@
 -- The lines of packs and units in an order.
-use Rattle.std.specs.Prelude.{ℕ, zero, ◌+◌, ◌*◌, ◌/◌, ◌^◌, Bool, List, [], ◌∷◌, ◌++◌, length, map, filter, Option, Some, None, pos, unwrap_or, nat_eq, nat_lt, slice_get, slice_index, slice_index_or, if◌then◌else◌}
-use Rattle.std.specs.Option.{option_map_or}
+use Rattle.std.specs.Prelude.{ℕ, ◌+◌, ◌*◌, ◌/◌, ◌^◌, Bool, List, [], ◌∷◌, ◌++◌, length, map, filter, Option, Some, None, pos, unwrap_or, nat_eq, nat_lt, slice_index, slice_index_or, if◌then◌else◌}
 use Rattle.vg_base.specs.Bits.{bytes}
 use Rattle.vg_base.specs.declared.address.Address.{Address}
 use Rattle.vg_base.specs.declared.width.Width.{Width}

@@ -1,5 +1,5 @@
 -- What lines can be emitted from: packs that are right for a kernel, and recipes that take what stands.
-use Rattle.std.specs.Prelude.{◌≡◌, ◌<◌, ℕ, List, [], ◌∷◌, length, filter_map, nat_eq, slice_get, IsTrue}
+use Rattle.std.specs.Prelude.{◌<◌, ℕ, List, [], ◌∷◌, length, filter_map, nat_eq, IsTrue}
 use Rattle.std.specs.List.{AllByRecursion, list_any}
 use Rattle.vg_shapes.specs.declared.operand.Operand.{Operand}
 use Rattle.vg_shapes.specs.declared.pack.Pack.{Pack as Packed}

@@ -1,5 +1,5 @@
 -- The program that is emitted for packs, with a recipe for each of their operands, in an order.
-use Rattle.std.specs.Prelude.{◌≡◌, ℕ, suc, ◌+◌, ◌<◌, ◌&&◌, ◌||◌, not, Bool, List, [], ◌∷◌, ◌++◌, length, map, flat_map, sum_by, is_some, if◌then◌else◌}
+use Rattle.std.specs.Prelude.{ℕ, suc, ◌+◌, ◌&&◌, ◌||◌, not, Bool, List, [], ◌∷◌, ◌++◌, length, map, flat_map, sum_by, is_some, if◌then◌else◌}
 use Rattle.vg_base.specs.Trap.{◌>>=◌}
 use Rattle.vg_plans.specs.Levels.{distinct}
 use Rattle.vg_plans.specs.World.{is_in}

@@ -1,12 +1,10 @@
 -- Two words copied from one pointer to another, as one pack of loads and one of stores.
-use Rattle.std.specs.Prelude.{◌≡◌, ℕ, Bool, true, false, List, [], ◌∷◌, pos, codes}
+use Rattle.std.specs.Prelude.{◌≡◌, ℕ, true, false, List, [], ◌∷◌, pos, codes}
 use Rattle.vg_base.specs.declared.address.Address.{Address}
 use Rattle.vg_base.specs.declared.width.Width.TheVariants.{W32}
-use Rattle.vg_program.specs.declared.line.Line.{Line}
 use Rattle.vg_program.specs.declared.line.Line.TheVariants as line
 use Rattle.vg_program.specs.declared.vector_size.VectorSize.TheVariants.{B8}
 use Rattle.vg_program.specs.Meaning.{Instructions}
-use Rattle.vg_program.specs.Text.{text_of}
 use Rattle.vg_shapes.specs.declared.order.Node.{Node}
 use Rattle.vg_shapes.specs.declared.order.Node.TheVariants.{PackAt}
 use Rattle.vg_shapes.specs.declared.pack.Pack.{Pack as Packed}
