@@ -25,3 +25,4 @@ pub mod Widths
 pub mod Validity
 pub mod Keeping
 pub mod Rules
+pub mod Described

@@ -2,6 +2,8 @@
 use Rattle.std.specs.Prelude.{◌≡◌, ℕ, ◌*◌, ◌<◌, ◌≤◌, ◌^◌, List, length, map, slice_get, Option, Some, None, IsSomeAnd, IsTrue}
 use Rattle.std.specs.List.{AllByRecursion}
 use Rattle.vg_pseudo.specs.declared.header.Header.{Header}
+use Rattle.vg_program.specs.declared.line.Line.{Line}
+use Rattle.vg_program.specs.declared.line.Line.TheVariants as line
 use Rattle.vg_program.specs.Cost.{cost_of}
 use Rattle.vg_program.specs.Valid.{header_of, IsConstant, IsImm, KeepsRules}
 use Rattle.vg_program.specs.Vectors.{constant_bits}
@@ -71,3 +73,21 @@ EmittedKeepsRules =
     AreFit (job_of ds matches ssa packs recipes) headers →
     cost_of (program_of ds matches ssa packs recipes order) < 2 ^ 32 →
     KeepsRules headers (program_of ds matches ssa packs recipes order)
+
+-- a call is that of a description; what else its line has is not looked at
+abbrev pub IsDescribed : List Description → Line → Type 0
+IsDescribed ds (line.Call name registers imm bits cost) =
+    (e : ℕ) × (d : Description) × (slice_get ds e ≡ Some d) × (name ≡ d.name) × (imm ≡ d.imm)
+IsDescribed ds _ = Unit {0}
+
+abbrev pub CallsDescribed : List Description → List Line → Type 0
+CallsDescribed ds ls = AllByRecursion (IsDescribed ds) ls
+
+-- the program that is emitted for packs calls described instances alone
+abbrev pub EmittedCallsDescribed : Type 0
+EmittedCallsDescribed =
+    (headers : List Header) (ds : List Description) (matches : List Match) (ssa : Ssa)
+    (packs : List Packed) (recipes : List Recipe) (order : List Node) →
+    IsPlanned (job_of ds matches ssa packs recipes) → IsOrder ssa matches packs order →
+    AreFit (job_of ds matches ssa packs recipes) headers →
+    CallsDescribed ds (program_of ds matches ssa packs recipes order).lines

@@ -1,7 +1,7 @@
 //! What emitted programs promise.
 
 ghost use Rattle.vg_emit.specs.Costs.{EmittedCostsThePlan};
-ghost use Rattle.vg_emit.specs.Fit.{EmittedKeepsRules};
+ghost use Rattle.vg_emit.specs.Fit.{EmittedCallsDescribed, EmittedKeepsRules};
 ghost use Rattle.vg_emit.specs.Laws.{EmittedMeansUnits};
 ghost use Rattle.vg_emit.specs.TwoWords.{TwoLines, TwoWordsMeanUnits};
 
@@ -33,4 +33,9 @@ pub fn emitted_programs_cost_their_plans()
 /// text is, where the descriptions are those of the instructions.
 pub fn emitted_programs_keep_the_rules()
     ensures { EmittedKeepsRules }
+{}
+
+/// A law: the program that is emitted for packs calls described instances alone.
+pub fn emitted_programs_call_described_instances()
+    ensures { EmittedCallsDescribed }
 {}

@@ -9,6 +9,7 @@
 mod law;
 
 pub use law::{
-    emitted_programs_cost_their_plans, emitted_programs_keep_the_rules,
-    emitted_programs_mean_their_units, two_words_are_two_lines, two_words_mean_their_units,
+    emitted_programs_call_described_instances, emitted_programs_cost_their_plans,
+    emitted_programs_keep_the_rules, emitted_programs_mean_their_units, two_words_are_two_lines,
+    two_words_mean_their_units,
 };
