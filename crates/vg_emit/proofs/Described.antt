@@ -1,11 +1,9 @@
 -- Emitted programs call described instances alone.
-use Rattle.std.proofs.Common.{◌≡◌, ℕ, zero, suc, ◌+◌, ◌<◌, Bool, true, false, List, [], ◌∷◌, ◌++◌, length, Option, Some, None, refl, sym, ap, subst, ◌∙◌, inl, inr, arith}
-use Rattle.std.specs.Prelude.{slice_get, slice_index_or}
+use Rattle.std.proofs.Common.{ℕ, ◌+◌, ◌<◌, List, [], ◌∷◌, ◌++◌, length, Option, Some, None, refl, sym, subst, inl, inr}
 use Rattle.std.specs.List.{AllByRecursion}
-use Rattle.std.proofs.lemmas.Bool.{cases_Bool, cases_lt, cond-true, cond-false}
+use Rattle.std.proofs.lemmas.Bool.{cases_Bool, cond-true, cond-false}
 use Rattle.vg_base.specs.declared.width.Width.{Width}
 use Rattle.vg_program.specs.declared.line.Line.{Line}
-use Rattle.vg_program.specs.declared.line.Line.TheVariants as line
 use Rattle.vg_program.specs.declared.operand.Operand.{Operand as Number}
 use Rattle.vg_shapes.specs.declared.match_table.Match.{Match}
 use Rattle.vg_shapes.specs.declared.operand.Slot.{Slot}
@@ -23,8 +21,8 @@ use Rattle.vg_packing.specs.declared.recipe.Recipe.{Recipe}
 use Rattle.vg_packing.specs.declared.recipe.Recipe.TheVariants as recipe
 use Rattle.vg_packing.specs.Held.{lane_width_of}
 use Rattle.vg_emit.specs.Draft.{Draft, Made, found, with_name}
-use Rattle.vg_emit.specs.Emission.{Job, build, build_all, constant_bytes, description_at, emitted, extracts, inserts, no_description, node_lines, number_for, operand_at, operation_line, pack_at, pack_line, pack_lines, place, place_once, recipe_at, takes_at, unit_lines, value_slots, width_for, with_pack}
-use Rattle.vg_emit.specs.Fit.{AreFit, CallsDescribed, EmittedCallsDescribed, IsDescribed, RecipeFits}
+use Rattle.vg_emit.specs.Emission.{Job, build, build_all, description_at, emitted, extracts, inserts, no_description, number_for, operand_at, operation_line, pack_at, pack_line, pack_lines, place, place_once, recipe_at, takes_at, unit_lines, value_slots, width_for, with_pack}
+use Rattle.vg_emit.specs.Fit.{CallsDescribed, EmittedCallsDescribed, IsDescribed, RecipeFits}
 use Rattle.vg_emit.specs.Planned.{IsPack, IsPlanned}
 use Rattle.vg_emit.specs.Program.{begin, job_of, ordered}
 use Rattle.vg_emit.proofs.Jobs.{get-there, IsNode, kind-at, order-nodes}
