@@ -5,6 +5,10 @@
 #![tactic(auto)]
 
 mod groups;
+mod lanes;
+mod loads;
 mod placed;
+mod producing;
 
 pub use groups::store_groups;
+pub use producing::producers;
