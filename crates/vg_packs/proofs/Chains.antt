@@ -48,7 +48,7 @@ front-all [] t = refl
 front-all (None ∷ found) t = absurd (cc)
 front-all (Some u ∷ found) t = ap (λ us. u ∷ us) (front-all found t)
 
-length-stores : (ssa : Ssa) (a : Address) (w : Width) (r n : ℕ) → length (stores_from ssa a w r n) ≡ n
+pub length-stores : (ssa : Ssa) (a : Address) (w : Width) (r n : ℕ) → length (stores_from ssa a w r n) ≡ n
 length-stores ssa a w r zero = refl
 length-stores ssa a w r (suc n) = let h = length-stores ssa (behind a (size_of w)) w r n in omega (arith, h)
 
@@ -125,6 +125,9 @@ abbrev grouped : Ssa → ℕ → List PlacedStore → List Packed
 grouped ssa size stores =
     flat_map (λ l. group_from (links_of (placed ssa)) (size / size_of l.width) l) (map (link_in (placed ssa)) stores)
 
+pub own-place : (a : Address) (w : Width) (x : Wanted) → stores_to a w (Some (Store a w x)) ≡ true
+own-place a w x = rw (eq-itself a.pointer, (Decides-int_eq a.offset a.offset).1 refl, eq-itself (bits_of w)) refl
+
 group-here : (ssa : Ssa) (size v : ℕ) (u : Option Work) → unit_at ssa v ≡ u → arguments ssa ≤ v → v < arguments ssa + length ssa.units
     → grouped ssa size (placed_as v (λ a w. stores_before ssa a w v) u) ≡ group_of ssa size v u
 group-here ssa size v None e l m = refl
@@ -139,9 +142,6 @@ group-here ssa size v (Some (Store a w x)) e l m =
     append-nil _
     ∙ ap (λ us. if nat_le 2 n && nat_eq (length us) n then Stores us ∷ [] else []) (run-here ssa a w r v n at)
     ∙ group-front (stores_from ssa a w r n) n (length-stores ssa a w r n)
-  where
-    own-place : (a : Address) (w : Width) (x : Wanted) → stores_to a w (Some (Store a w x)) ≡ true
-    own-place a w x = rw (eq-itself a.pointer, (Decides-int_eq a.offset a.offset).1 refl, eq-itself (bits_of w)) refl
 
 grouped-append : (ssa : Ssa) (size : ℕ) (xs ys : List PlacedStore)
     → grouped ssa size (xs ++ ys) ≡ grouped ssa size xs ++ grouped ssa size ys

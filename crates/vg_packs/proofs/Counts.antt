@@ -8,7 +8,7 @@ use Rattle.vg_shapes.specs.Order.{numbers_from, one_if}
 abbrev pub count_below : (ℕ → Bool) → ℕ → ℕ → ℕ → ℕ
 count_below p f n v = length (filter (λ u. nat_lt u v && p u) (numbers_from f n))
 
-lt-is : (a b : ℕ) → a < b → nat_lt a b ≡ true
+pub lt-is : (a b : ℕ) → a < b → nat_lt a b ≡ true
 lt-is a b l = grind (arith, nat_tests, l)
 
 lt-not : (a b : ℕ) → b ≤ a → nat_lt a b ≡ false

@@ -6,9 +6,14 @@
 
 mod groups;
 mod lanes;
+mod law;
 mod loads;
+mod needs;
 mod placed;
 mod producing;
+mod walk;
 
 pub use groups::store_groups;
+pub use law::store_groups_are_listed;
 pub use producing::producers;
+pub use walk::stays_plan;
