@@ -1,0 +1,10 @@
+pub mod Chains
+pub mod Counts
+pub mod Cycles
+pub mod LaneLists
+pub mod Listed
+pub mod LoadLists
+pub mod Making
+pub mod NodeUnits
+pub mod Placing
+pub mod Pushes

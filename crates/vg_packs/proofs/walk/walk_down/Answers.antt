@@ -1,0 +1,47 @@
+use Rattle.std.proofs.Common.{◌≡◌, ◌<◌, All, ◌++◌, ◌∷◌, [], ◌∙◌, sym, subst, length, inl, refl}
+use Rattle.vg_plans.specs.World.{is_in}
+use Rattle.vg_plans.proofs.Members.{has-right}
+use Rattle.vg_shapes.specs.Pack.{units_of}
+use Rattle.vg_packs.specs.Walk.{Pushed, node_needs}
+use Rattle.vg_packs.proofs.Cycles.{all-from}
+use Rattle.vg_packs.proofs.NodeUnits.{node-units}
+use Rattle.vg_packs.proofs.Pushes.{Searches, begins, goes-on, finds}
+use Rattle.vg_packs.proofs.walk.walk_down.Goals as goal
+
+pub units-init : goal.units-init
+units-init c =
+    let p = subst (λ s. Pushed c.args.starts.now c.args.marks.now s c.push_new.new.marks c.push_new.new.stack.items) c.new-stack.ensures.items c.in_ok-push_new.ensures in
+    begins (node_needs c.args.table.now c.args.ssa.now c.args.deps.now c.args.plan.now) (λ v. is_in v (units_of c.args.pack.now))
+    (length c.args.marks.now) c.args.starts.now c.args.marks.now c.push_new.new.marks c.push_new.new.stack.items
+    refl c.requires.settled c.requires.starts_inside p
+
+pub units-preserved : goal.units-preserved
+units-preserved c =
+    let ns = node_needs c.args.table.now c.args.ssa.now c.args.deps.now c.args.plan.now in
+    let n = length c.args.marks.now in
+    let v = c.in-Some.v in
+    let s = subst (Searches ns (λ v. is_in v (units_of c.args.pack.now)) n c.args.starts.now c.units.marks) c.in-Some.ensures.items c.units.invariant in
+    let p = subst (λ l. Pushed l c.units.marks c.pop.new.self.items c.push_new-in-Some.new.marks c.push_new-in-Some.new.stack.items)
+    (c.as_slice.ensures.value ∙ c.in_ok-needs.ensures) c.in_ok-push_new-2.ensures
+    in
+    goes-on ns (λ v. is_in v (units_of c.args.pack.now)) n c.args.starts.now c.units.marks c.push_new-in-Some.new.marks
+    c.pop.new.self.items c.push_new-in-Some.new.stack.items v s (sym c.has_unit-own.ensures ∙ c.if-own.false)
+    (all-from n (ns v) (λ x h. c.requires.units_inside x (node-units c.args.table.now c.args.ssa.now c.args.deps.now c.requires.names c.args.plan.now v x h)))
+    p
+
+pub returns-then-own-clause-way : goal.returns-then-own-clause-way
+returns-then-own-clause-way c = λ t.
+    let ns = node_needs c.args.table.now c.args.ssa.now c.args.deps.now c.args.plan.now in
+    let n = length c.args.marks.now in
+    let s = subst (Searches ns (λ v. is_in v (units_of c.args.pack.now)) n c.args.starts.now c.units.marks) c.in-Some.ensures.items c.units.invariant in
+    finds ns (λ v. is_in v (units_of c.args.pack.now)) n c.args.starts.now c.units.marks c.pop.new.self.items c.in-Some.v s
+    (sym c.has_unit-own.ensures ∙ c.if-own.true)
+
+pub push_new-requires-in-Some : goal.push_new-requires-in-Some
+push_new-requires-in-Some c =
+    let ns = node_needs c.args.table.now c.args.ssa.now c.args.deps.now c.args.plan.now in
+    let v = c.in-Some.v in
+    subst (λ l. All (λ x. x < length c.units.marks) l) (sym (c.as_slice.ensures.value ∙ c.in_ok-needs.ensures))
+    (all-from (length c.units.marks) (ns v) (λ x h.
+      subst (λ m. x < m) (sym c.units.invariant.long)
+      (c.requires.units_inside x (node-units c.args.table.now c.args.ssa.now c.args.deps.now c.requires.names c.args.plan.now v x h))))

@@ -1,0 +1,25 @@
+-- Lanes beside the slots that an operand wants.
+use Rattle.std.specs.Prelude.{ℕ, Bool, true, false, List, [], ◌∷◌, Option, Some, None, is_some}
+use Rattle.vg_packing.specs.SameAs.{same_slot}
+use Rattle.vg_packing.specs.Wants.{slot}
+use Rattle.vg_shapes.specs.declared.match_table.Match.{Match}
+use Rattle.vg_shapes.specs.declared.operand.Slot.{Slot}
+use Rattle.vg_shapes.specs.declared.wanted.Wanted.TheVariants.{Value}
+use Rattle.vg_shapes.specs.Pack.{match_at}
+
+-- a lane has no value, or is the first of these slots
+abbrev pub begins_with : List Slot → ℕ → ℕ → Option ℕ → Bool
+begins_with wanted low width None = true
+begins_with [] low width (Some v) = false
+begins_with (s ∷ ss) low width (Some v) = same_slot s (slot low width (Value v))
+
+-- the slots behind a lane
+abbrev pub rest_behind : List Slot → Option ℕ → List Slot
+rest_behind wanted None = wanted
+rest_behind [] (Some v) = []
+rest_behind (s ∷ ss) (Some v) = ss
+
+-- a lane of a description matches the value that it has, if any
+abbrev pub is_matched : List Match → ℕ → ℕ → Option ℕ → Bool
+is_matched matches d lane None = true
+is_matched matches d lane (Some v) = is_some (match_at matches d lane v)

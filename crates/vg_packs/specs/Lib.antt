@@ -1,0 +1,5 @@
+pub mod Lanes
+pub mod Laws
+pub mod Making
+pub mod Placed
+pub mod Walk

@@ -1,0 +1,35 @@
+-- When loads, and when a call, can be what an operand wants.
+use Rattle.std.specs.Prelude.{ℕ, ◌*◌, ◌/◌, ◌&&◌, Bool, List, [], ◌∷◌, length, map, Option, Some, nat_eq, nat_le}
+use Rattle.std.specs.Cmp.Lexicographic.{pointwise}
+use Rattle.std.specs.List.{list_all}
+use Rattle.vg_packing.specs.Held.{lanes_from}
+use Rattle.vg_packing.specs.Producers.{agree, all_differ, are_beside, are_matched}
+use Rattle.vg_packing.specs.SameAs.{same_slot}
+use Rattle.vg_packing.specs.Taken.{first_width, operands_of, register_for}
+use Rattle.vg_packing.specs.Wants.{wants_value}
+use Rattle.vg_shapes.specs.declared.match_table.Match.{Match}
+use Rattle.vg_shapes.specs.declared.operand.Slot.{Slot}
+use Rattle.vg_shapes.specs.declared.pack.Pack.TheVariants.{Call}
+use Rattle.vg_shapes.specs.declared.ssa.Ssa.{Ssa}
+use Rattle.vg_shapes.specs.Description.{Description}
+use Rattle.vg_shapes.specs.Pack.{is_pack_size}
+
+-- a pack can have these slots, which want these values
+abbrev pub may_be_lanes : List Slot → List ℕ → Bool
+may_be_lanes slots us =
+    nat_le 2 (length slots) && (list_all (λ s. wants_value s.wanted) slots && all_differ us)
+
+-- loads of these units are exactly these slots of a register of this width
+abbrev pub are_wanted_loads : Ssa → ℕ → List Slot → List ℕ → Bool
+are_wanted_loads ssa register slots us =
+    let width = first_width ssa us in
+    is_pack_size (length us * width / 8)
+    && (nat_eq (register_for us width) register
+    && (pointwise same_slot slots (lanes_from 0 width (map Some us)) && are_beside ssa us))
+
+-- a call of an instance in these lanes is exactly these slots, and its lanes agree on its leaves
+abbrev pub is_wanted_call : List Description → List Match → Ssa → List Slot → ℕ → ℕ → List (Option ℕ) → Bool
+is_wanted_call ds matches ssa slots d width lanes =
+    pointwise same_slot slots (lanes_from 0 width lanes)
+    && (are_matched matches d 0 lanes
+    && list_all (λ q. agree q.slots) (operands_of ds matches ssa (Call d lanes)))

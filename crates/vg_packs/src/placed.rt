@@ -1,0 +1,138 @@
+//! The stores of a kernel by their places in memory.
+
+ghost use Rattle.std.specs.Prelude.{◌≡◌, ◌++◌, ◌/◌, IfOk, OnOk, filter, length, map, position, slice_get, Option};
+ghost use Rattle.vg_base.specs.Width.{size_of};
+ghost use Rattle.vg_shapes.specs.Units.{arguments, unit_at};
+ghost use Rattle.vg_packs.specs.Placed.{is_next, link_behind, link_in, links_of, placed, placed_from, placed_here, stands_at};
+
+use std::alloc::{AllocError, Global};
+use vg_base::{Address, Width};
+use vg_packing::units::unit_at;
+use vg_shapes::{Ssa, Unit};
+
+/// The greatest number of integer parameters, and of units, of a kernel whose stores are placed.
+const MOST: usize = 1 << 24;
+
+/// A store, where it stores, and how many stores of its width to its place stand before it.
+#[derive(Clone, Copy, Debug)]
+pub(crate) struct PlacedStore {
+    /// The number of its unit.
+    pub unit: u32,
+    pub address: Address,
+    pub width: Width,
+    pub rank: usize,
+}
+
+/// A store, and the one of the same width and rank at the place behind it, by its index among stores.
+#[derive(Clone, Copy, Debug)]
+pub(crate) struct Link {
+    /// The number of its unit.
+    pub unit: u32,
+    pub width: Width,
+    pub next: Option<usize>,
+}
+
+impl PlacedStore {
+    /// Whether it is a store of this width to this place.
+    fn stands_at(&self, address: Address, width: Width) -> bool
+        ensures { result ≡ stands_at address width self.now }
+    {
+        self.address.pointer == address.pointer
+            && (self.address.offset == address.offset && self.width.bits() == width.bits())
+    }
+
+    /// Whether another store has its width and rank and stands right behind it in memory.
+    fn is_next(&self, other: &PlacedStore) -> bool
+        ensures { result ≡ is_next self.now other.now }
+    {
+        let behind = i64::from(self.address.offset) + i64::from(self.width.size());
+        other.rank == self.rank
+            && (other.address.pointer == self.address.pointer
+                && (i64::from(other.address.offset) == behind
+                    && other.width.bits() == self.width.bits()))
+    }
+}
+
+fn count_at(stores: &[PlacedStore], address: Address, width: Width) -> usize
+    ensures { result ≡ length (filter (stands_at address width) stores.now) }
+{
+    stores
+        .iter()
+        .filter(|s| s.stands_at(address, width))
+        .count()
+}
+
+/// Appends a unit that is a store, with the number of those that stand before it at its place.
+fn push_store(
+    stores: &mut Vec<PlacedStore>,
+    number: u32,
+    unit: Option<Unit>,
+) -> Result<(), AllocError>
+    ensures { OnOk result (stores.new.items ≡ stores.old.items ++ placed_here stores.old.items number unit) }
+{
+    match unit {
+        None => Ok(()),
+        Some(Unit::Load { .. }) => Ok(()),
+        Some(Unit::Operation { .. }) => Ok(()),
+        Some(Unit::Store { address, width, .. }) => {
+            let rank = count_at(stores.as_slice(), address, width);
+            stores.push(PlacedStore {
+                unit: number,
+                address,
+                width,
+                rank,
+            })?;
+            Ok(())
+        }
+    }
+}
+
+/// The stores of a kernel, in order. Takes one look at two stores each.
+pub(crate) fn placed_stores(alloc: Global, ssa: &Ssa) -> Result<Vec<PlacedStore>, AllocError>
+    ensures { IfOk result (λ stores. stores.items ≡ placed ssa.now) }
+{
+    let first = ssa.arguments();
+    let count = ssa.units.as_slice().len();
+    if first > MOST || count > MOST {
+        return Err(AllocError);
+    }
+    let mut stores = Vec::new(alloc);
+    'units: for index in 0..count {
+        let number = (first + index) as u32;
+        push_store(&mut stores, number, unit_at(ssa, number))?;
+    }
+    Ok(stores)
+}
+
+fn next_of(stores: &[PlacedStore], store: &PlacedStore) -> Option<usize>
+    ensures { result ≡ position (is_next store.now) stores.now }
+{
+    stores.iter().position(|s| store.is_next(s))
+}
+
+fn link_in(stores: &[PlacedStore], store: &PlacedStore) -> Link
+    ensures { result ≡ link_in stores.now store.now }
+{
+    Link {
+        unit: store.unit,
+        width: store.width,
+        next: next_of(stores, store),
+    }
+}
+
+/// Stores with those that stand right behind them. Takes one look at two stores each.
+pub(crate) fn links_of(alloc: Global, stores: &[PlacedStore]) -> Result<Vec<Link>, AllocError>
+    ensures { IfOk result (λ links. links.items ≡ links_of stores.now) }
+{
+    stores.iter().map(|s| link_in(stores, s)).collect(alloc)
+}
+
+/// The store behind one, if there is one.
+pub(crate) fn link_behind(links: &[Link], next: Option<usize>) -> Option<Link>
+    ensures { result ≡ link_behind links.now next }
+{
+    match next {
+        None => None,
+        Some(index) => links.get(index).copied(),
+    }
+}
