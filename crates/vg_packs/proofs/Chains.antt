@@ -1,6 +1,6 @@
 -- Runs along links are the stores at places beside each other, and their groups the store groups.
-use Rattle.std.proofs.Common.{◌≡◌, ℕ, zero, suc, ◌+◌, ◌-◌, ◌/◌, ◌<◌, ◌≤◌, Bool, true, false, List, [], ◌∷◌, ◌++◌, length, filter, map, take, drop, refl, sym, ◌∙◌, ap, subst, inl, inr, arith, append_assoc, append-nil}
-use Rattle.std.specs.Prelude.{◌&&◌, cond, find, if◌then◌else◌, is_some, nat_eq, nat_le, option_map, position, Option, Some, None, slice_get}
+use Rattle.std.proofs.Common.{◌≡◌, ℕ, zero, suc, ◌+◌, ◌-◌, ◌/◌, ◌<◌, ◌≤◌, Bool, true, false, List, [], ◌∷◌, ◌++◌, length, map, refl, sym, ◌∙◌, ap, subst, inl, inr, arith, append_assoc, append-nil}
+use Rattle.std.specs.Prelude.{◌&&◌, find, if◌then◌else◌, is_some, nat_eq, nat_le, option_map, position, Option, Some, None, slice_get}
 use Rattle.std.specs.List.{filter_map, flat_map, list_all}
 use Rattle.std.proofs.lemmas.Bool.{cases_Bool}
 use Rattle.std.proofs.lemmas.Bool.Decides.{nat_tests, Decides-int_eq}
@@ -10,7 +10,7 @@ use Rattle.vg_base.specs.declared.address.Address.{Address}
 use Rattle.vg_base.specs.declared.width.Width.{Width}
 use Rattle.vg_base.specs.Width.{bits_of, size_of}
 use Rattle.vg_packing.proofs.SameTests.{eq-itself}
-use Rattle.vg_packing.specs.Groups.{group_of, groups_of, store_groups, stores_at, stores_from, unit_numbers}
+use Rattle.vg_packing.specs.Groups.{group_of, groups_of, store_groups, stores_at, stores_from}
 use Rattle.vg_shapes.specs.declared.pack.Pack.{Pack as Packed}
 use Rattle.vg_shapes.specs.declared.pack.Pack.TheVariants.{Stores}
 use Rattle.vg_shapes.specs.declared.ssa.Ssa.{Ssa}
@@ -61,7 +61,7 @@ group-front : (found : List (Option ℕ)) (count : ℕ) → length found ≡ cou
     ≡ (if nat_le 2 (length found) && list_all is_some found then Stores (filter_map (λ u. u) found) ∷ [] else [])
 group-front found count e =
     subst (λ c. (if nat_le 2 c && nat_eq (length (front found)) c then Stores (front found) ∷ [] else [])
-      ≡ (if nat_le 2 (length found) && list_all is_some found then Stores (filter_map (λ u. u) found) ∷ [] else [])) e
+    ≡ (if nat_le 2 (length found) && list_all is_some found then Stores (filter_map (λ u. u) found) ∷ [] else [])) e
     (rw (front-whole found) (elim (cases_Bool (list_all is_some found)) [
       | inl t ↦
           rw t
@@ -84,7 +84,7 @@ store-found ssa a w r =
 runs-of : (ssa : Ssa) (n : ℕ) (a : Address) (w : Width) (r : ℕ) (o : Option PlacedStore)
     → find (is_ranked a w r) (placed ssa) ≡ o
     → ((s : PlacedStore) → run_from (links_of (placed ssa)) n (link_behind (links_of (placed ssa)) (position (is_next s) (placed ssa)))
-      ≡ front (stores_from ssa (behind s.address (size_of s.width)) s.width s.rank n))
+    ≡ front (stores_from ssa (behind s.address (size_of s.width)) s.width s.rank n))
     → ((s : PlacedStore) → o ≡ Some s → is_ranked a w r s ≡ true)
     → run_from (links_of (placed ssa)) (suc n) (option_map (link_in (placed ssa)) o)
     ≡ front (option_map unit_of o ∷ stores_from ssa (behind a (size_of w)) w r n)

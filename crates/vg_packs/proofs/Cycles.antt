@@ -1,15 +1,14 @@
 -- A pack closes a cycle behind a plan exactly where a walk down from its needs comes back to it.
-use Rattle.std.proofs.Common.{◌≡◌, ℕ, zero, suc, ◌+◌, ◌-◌, ◌<◌, ◌≤◌, ◌⊎◌, Bool, true, false, not, List, [], ◌∷◌, ◌++◌, length, get_or, refl, sym, ◌∙◌, ap, subst, inl, inr, arith, Ok, Err, IfOk, Result}
-use Rattle.std.specs.Prelude.{◌&&◌, ◌||◌, All, filter, nat_eq, nat_lt, replicate, slice_get, Option, Some, None, is_some, flat_map, if◌then◌else◌}
+use Rattle.std.proofs.Common.{◌≡◌, ℕ, zero, suc, ◌+◌, ◌-◌, ◌<◌, ◌≤◌, Bool, true, false, not, List, [], ◌∷◌, ◌++◌, length, get_or, refl, sym, ◌∙◌, ap, subst, inl, inr, arith, Ok, Err, IfOk, Result}
+use Rattle.std.specs.Prelude.{◌&&◌, ◌||◌, All, filter, nat_eq, nat_lt, replicate, slice_get, Option, Some, None, is_some}
 use Rattle.std.specs.List.{filter_map, list_any}
 use Rattle.std.proofs.lemmas.Bool.{cases_Bool}
 use Rattle.std.proofs.lemmas.Bool.Decides.{nat_tests}
-use Rattle.std.proofs.lemmas.List.{get_or-replicate, length-replicate}
 use Rattle.vg_plans.specs.Cycle.{IsAway, IsNew, Reaches, there as stands, down as leads}
 use Rattle.vg_plans.specs.Members.{Has}
-use Rattle.vg_plans.specs.World.{World, has_no_cycle, is_in, is_packed, needs, stays_plan}
-use Rattle.vg_plans.proofs.Members.{any-is, from-filter, has-filter, together}
-use Rattle.vg_plans.proofs.Reach.{cycle-behind, has-in, in-has, no-cycle-behind}
+use Rattle.vg_plans.specs.World.{World, has_no_cycle, is_in, is_packed, stays_plan}
+use Rattle.vg_plans.proofs.Members.{any-is, from-filter, has-filter}
+use Rattle.vg_plans.proofs.Reach.{cycle-behind, in-has, no-cycle-behind}
 use Rattle.vg_packing.proofs.Inside.{units-listed}
 use Rattle.vg_packing.specs.Packing.{needs_of, packing}
 use Rattle.vg_shapes.specs.declared.match_table.Match.{Match}
@@ -18,7 +17,7 @@ use Rattle.vg_shapes.specs.declared.pack.Pack.{Pack as Packed}
 use Rattle.vg_shapes.specs.declared.ssa.Ssa.{Ssa}
 use Rattle.vg_shapes.specs.Depends.{numbers_below}
 use Rattle.vg_shapes.specs.Pack.{units_of}
-use Rattle.vg_shapes.specs.Units.{arguments, is_unit, unit_at}
+use Rattle.vg_shapes.specs.Units.{arguments, is_unit}
 use Rattle.vg_packs.specs.Walk.{HasWay, IsApart, IsAt, IsFree, IsSettled, LeadsApart, NameUnits, Way, there, down, is_in_plan, is_lane_in, node_needs}
 use Rattle.vg_packs.proofs.NodeUnits.{node-units, pack-units}
 

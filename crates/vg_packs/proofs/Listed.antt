@@ -1,14 +1,14 @@
 -- Each listed store group is one, and each store group is listed.
-use Rattle.std.proofs.Common.{◌≡◌, ℕ, zero, suc, ◌+◌, ◌-◌, ◌*◌, ◌/◌, ◌<◌, ◌≤◌, ◌⊎◌, Bool, true, false, List, [], ◌∷◌, ◌++◌, length, filter, map, refl, sym, ◌∙◌, ap, subst, inl, inr, arith, mul-div_cancel}
+use Rattle.std.proofs.Common.{◌≡◌, ℕ, zero, suc, ◌+◌, ◌*◌, ◌/◌, ◌<◌, ◌≤◌, Bool, true, false, List, [], ◌∷◌, length, filter, map, refl, sym, ◌∙◌, ap, subst, inl, inr, arith, mul-div_cancel}
 use Rattle.std.specs.Prelude.{◌&&◌, if◌then◌else◌, IsTrue, is_some, nat_eq, nat_le, nat_lt, Option, Some, None, slice_get}
-use Rattle.std.specs.List.{filter_map, flat_map, list_all}
+use Rattle.std.specs.List.{filter_map, list_all}
 use Rattle.std.proofs.lemmas.Bool.{cases_Bool}
 use Rattle.std.proofs.lemmas.Bool.Decides.{nat_tests}
 use Rattle.vg_base.specs.declared.address.Address.{Address}
 use Rattle.vg_base.specs.declared.width.Width.{Width}
 use Rattle.vg_base.specs.declared.width.Width.TheVariants.{W8, W16, W32, W64}
 use Rattle.vg_base.specs.Width.{size_of}
-use Rattle.vg_packing.proofs.SameTests.{both-true, eq-itself}
+use Rattle.vg_packing.proofs.SameTests.{both-true}
 use Rattle.vg_packing.specs.Groups.{group_of, groups_of, store_groups, stores_at, stores_from, unit_numbers}
 use Rattle.vg_plans.specs.Members.{Has}
 use Rattle.vg_plans.proofs.Lists.{has-flat_map}
@@ -21,7 +21,7 @@ use Rattle.vg_shapes.specs.declared.unit.Unit.{Unit as Work}
 use Rattle.vg_shapes.specs.declared.unit.Unit.TheVariants.{Load, Store, Operation}
 use Rattle.vg_shapes.specs.declared.wanted.Wanted.{Wanted}
 use Rattle.vg_shapes.specs.Order.{numbers_from}
-use Rattle.vg_shapes.specs.Pack.{AreStores, HaveRank, IsStoreGroup, behind, is_pack_size, stores_before, stores_to}
+use Rattle.vg_shapes.specs.Pack.{AreStores, HaveRank, behind, is_pack_size, stores_before, stores_to}
 use Rattle.vg_shapes.specs.Units.{arguments, is_unit, unit_at}
 use Rattle.vg_packs.specs.Laws.{GroupsAreListed, IsGroup}
 use Rattle.vg_packs.proofs.Chains.{length-stores, own-place}

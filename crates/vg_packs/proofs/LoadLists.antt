@@ -1,6 +1,6 @@
 -- Loads beside each other, one after the other.
-use Rattle.std.proofs.Common.{◌≡◌, ℕ, ◌+◌, ◌<◌, ◌≤◌, Bool, true, false, List, [], ◌∷◌, ℤ, pos, ◌+ℤ◌, drop, get_or, length, refl, sym, ◌∙◌, ap, arith}
-use Rattle.std.specs.Prelude.{◌&&◌, Option}
+use Rattle.std.proofs.Common.{◌≡◌, ℕ, ◌+◌, ◌<◌, ◌≤◌, Bool, true, false, List, ℤ, pos, ◌+ℤ◌, drop, get_or, length, sym, ◌∙◌, ap}
+use Rattle.std.specs.Prelude.{Option}
 use Rattle.std.proofs.lemmas.List.{drop_all, drop_more}
 use Rattle.std.proofs.Math.IntN.{+ℤ_assoc, +ℤ_comm, +ℤ_idl, pos-+ℤ-pos}
 use Rattle.vg_base.specs.declared.address.Address.{Address}

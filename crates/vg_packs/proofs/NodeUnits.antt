@@ -1,6 +1,6 @@
 -- Units of packs, and on what packs and units depend.
-use Rattle.std.proofs.Common.{◌≡◌, ℕ, ◌+◌, ◌<◌, ◌≤◌, ◌⊎◌, Bool, true, false, List, [], ◌∷◌, ◌++◌, length, refl, sym, ◌∙◌, ap, subst, inl, inr, arith}
-use Rattle.std.specs.Prelude.{◌||◌, filter, nat_eq, Option, Some, None, flat_map, if◌then◌else◌}
+use Rattle.std.proofs.Common.{◌≡◌, ℕ, true, List, [], ◌∷◌, refl, ap, inl, inr}
+use Rattle.std.specs.Prelude.{◌||◌, nat_eq, Option, Some, None, flat_map}
 use Rattle.std.specs.List.{filter_map, list_any}
 use Rattle.std.proofs.lemmas.Bool.{cases_Bool}
 use Rattle.vg_plans.specs.Members.{Has}
@@ -13,7 +13,7 @@ use Rattle.vg_shapes.specs.declared.match_table.Match.{Match}
 use Rattle.vg_shapes.specs.declared.pack.Pack.{Pack as Packed}
 use Rattle.vg_shapes.specs.declared.pack.Pack.TheVariants.{Stores, Loads, Call}
 use Rattle.vg_shapes.specs.declared.ssa.Ssa.{Ssa}
-use Rattle.vg_shapes.specs.DepList.{is_listed, row_of}
+use Rattle.vg_shapes.specs.DepList.{row_of}
 use Rattle.vg_shapes.specs.Pack.{bounds_from, units_of}
 use Rattle.vg_shapes.specs.Units.{is_unit}
 use Rattle.vg_packs.specs.Walk.{is_in_plan, is_lane_of, needs_for, node_needs, NameUnits}

@@ -17,7 +17,7 @@ use Rattle.vg_shapes.specs.declared.unit.Unit.TheVariants.{Load, Store, Operatio
 use Rattle.vg_shapes.specs.Order.{numbers_from, one_if}
 use Rattle.vg_shapes.specs.Pack.{stores_before, stores_to}
 use Rattle.vg_shapes.specs.Units.{arguments, unit_at}
-use Rattle.vg_packing.proofs.SameTests.{both-true, eq-itself}
+use Rattle.vg_packing.proofs.SameTests.{both-true}
 use Rattle.vg_packs.specs.declared.placed.Link.{Link}
 use Rattle.vg_packs.specs.declared.placed.PlacedStore.{PlacedStore}
 use Rattle.vg_packs.specs.Placed.{is_ranked, link_behind, placed_as, placed_from, placed_here, stands_at}
@@ -110,9 +110,9 @@ placed-more ssa first k v old new f l e o n =
     let made : ℕ → List PlacedStore = λ u. placed_as u (λ a w. stores_before ssa a w u) (unit_at ssa u) in
     let ranks : (a : Address) (w : Width) → length (filter (stands_at a w) old) ≡ stores_before ssa a w v =
     λ a w.
-      ap (λ xs. length (filter (stands_at a w) xs)) (o ∙ ap (λ m. placed_from ssa m k) f)
-      ∙ rank-counted ssa a w k (omega (arith, l))
-      ∙ ap (stores_before ssa a w) (ap (λ m. m + k) (sym f) ∙ sym e)
+    ap (λ xs. length (filter (stands_at a w) xs)) (o ∙ ap (λ m. placed_from ssa m k) f)
+    ∙ rank-counted ssa a w k (omega (arith, l))
+    ∙ ap (stores_before ssa a w) (ap (λ m. m + k) (sym f) ∙ sym e)
     in
     let s : k + 1 ≡ suc k = omega arith in
     let whole : placed_from ssa first (k + 1) ≡ placed_from ssa first k ++ made (first + k) =
@@ -156,7 +156,7 @@ found-step ssa a w v (Some (Store b x y)) d qs xs rest =
           ap (λ c. stores_before ssa c x v) same.0 ∙ ap (λ z. stores_before ssa a z v) same.1
           in
           found-there ssa a w v b x d qs xs t rank (λ k.
-            subst (λ n. unit_found a w (stores_before ssa a w v + one_if n + k) qs ≡ slice_get xs k) t (rest k))
+          subst (λ n. unit_found a w (stores_before ssa a w v + one_if n + k) qs ≡ slice_get xs k) t (rest k))
           ∙ ap (λ n. slice_get (cond n (v ∷ xs) xs) d) (sym t)
       | inr f ↦
           let e : stores_before ssa a w v + 0 + d ≡ stores_before ssa a w v + d = omega arith in
@@ -189,9 +189,9 @@ ranked-found ssa a w v (suc n) d h =
     found-step ssa a w v (unit_at ssa v) d (placed_from ssa (v + 1) n)
     (filter (λ u. stores_to a w (unit_at ssa u)) (numbers_from (v + 1) n))
     (λ k.
-      subst (λ m. unit_found a w (m + k) (placed_from ssa (v + 1) n) ≡ slice_get (filter (λ u. stores_to a w (unit_at ssa u)) (numbers_from (v + 1) n)) k)
-      (h v (omega arith) (omega arith))
-      (ranked-found ssa a w (v + 1) n k (λ u l m. h u (omega (arith, l)) (omega (arith, m)))))
+    subst (λ m. unit_found a w (m + k) (placed_from ssa (v + 1) n) ≡ slice_get (filter (λ u. stores_to a w (unit_at ssa u)) (numbers_from (v + 1) n)) k)
+    (h v (omega arith) (omega arith))
+    (ranked-found ssa a w (v + 1) n k (λ u l m. h u (omega (arith, l)) (omega (arith, m)))))
 
 -- ---- by index
 

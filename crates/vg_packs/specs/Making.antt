@@ -1,5 +1,5 @@
 -- When loads, and when a call, can be what an operand wants.
-use Rattle.std.specs.Prelude.{ℕ, ◌*◌, ◌/◌, ◌&&◌, Bool, List, [], ◌∷◌, length, map, Option, Some, nat_eq, nat_le}
+use Rattle.std.specs.Prelude.{ℕ, ◌*◌, ◌/◌, ◌&&◌, Bool, List, length, map, Option, Some, nat_eq, nat_le}
 use Rattle.std.specs.Cmp.Lexicographic.{pointwise}
 use Rattle.std.specs.List.{list_all}
 use Rattle.vg_packing.specs.Held.{lanes_from}

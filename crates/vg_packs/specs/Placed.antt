@@ -1,5 +1,5 @@
 -- The stores of a kernel by their places in memory, and which stands behind which.
-use Rattle.std.specs.Prelude.{ℕ, zero, suc, ◌+◌, ◌/◌, ◌&&◌, Bool, List, [], ◌∷◌, ◌++◌, length, filter, map, Option, Some, None, nat_eq, nat_le, position, slice_get, if◌then◌else◌}
+use Rattle.std.specs.Prelude.{ℕ, zero, suc, ◌/◌, ◌&&◌, Bool, List, [], ◌∷◌, length, filter, map, Option, Some, None, nat_eq, nat_le, position, slice_get, if◌then◌else◌}
 use Rattle.std.specs.List.{flat_map}
 use Rattle.std.specs.Ordering.{int_eq}
 use Rattle.vg_base.specs.declared.address.Address.{Address}

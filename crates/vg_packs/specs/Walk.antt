@@ -1,5 +1,5 @@
 -- Ways from units down to those of a pack.
-use Rattle.std.specs.Prelude.{◌≡◌, ℕ, ◌+◌, ◌⊎◌, Bool, true, false, List, [], ◌∷◌, length, filter, get_or, nat_eq, Option, Some, None, flat_map, if◌then◌else◌}
+use Rattle.std.specs.Prelude.{◌≡◌, ℕ, ◌+◌, ◌⊎◌, Bool, true, false, List, [], ◌∷◌, length, get_or, nat_eq, Option, Some, None, flat_map, if◌then◌else◌}
 use Rattle.std.specs.List.{list_any}
 use Rattle.vg_plans.specs.Members.{Has}
 use Rattle.vg_plans.specs.World.{has_no_cycle, is_in}
@@ -8,7 +8,6 @@ use Rattle.vg_shapes.specs.declared.match_table.Match.{Match}
 use Rattle.vg_shapes.specs.declared.pack.Pack.{Pack as Packed}
 use Rattle.vg_shapes.specs.declared.ssa.Ssa.{Ssa}
 use Rattle.vg_shapes.specs.DepList.{is_listed, row_of}
-use Rattle.vg_shapes.specs.Description.{Description}
 use Rattle.vg_shapes.specs.Pack.{units_of}
 use Rattle.vg_shapes.specs.Units.{is_unit}
 

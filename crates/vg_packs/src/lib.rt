@@ -1,5 +1,5 @@
-//! Packs and plans of kernels: the store groups of a kernel, the packs that produce an operand, whether
-//! a pack may follow a plan, and the plain plan.
+//! Packs and plans of kernels: the store groups of a kernel, the packs that produce an operand, and
+//! whether a plan stays one with a pack behind it.
 //!
 //! `specs/Placed.antt` says how the stores of a kernel are linked to those beside them in memory.
 #![tactic(auto)]

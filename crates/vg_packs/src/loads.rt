@@ -22,10 +22,12 @@ fn loads_from(unit: Option<Unit>, first: Address, bytes: u64, width: Width) -> b
         None => false,
         Some(Unit::Store { .. }) => false,
         Some(Unit::Operation { .. }) => false,
-        Some(Unit::Load {
-            address,
-            width: loaded,
-        }) => {
+        Some(
+            Unit::Load {
+                address,
+                width: loaded,
+            },
+        ) => {
             address.pointer == first.pointer
                 && (i128::from(address.offset) == i128::from(first.offset) + i128::from(bytes)
                     && loaded.bits() == width.bits())
@@ -103,7 +105,9 @@ pub(crate) fn are_wanted_loads(
     let lanes = some_lanes(alloc, units)?;
     let lanes = lanes.as_slice();
     let bytes = units.len() as u128 * u128::from(width) / 8;
-    Ok(is_pack_size(bytes)
-        && (register_for(units, width) == register
-            && (are_lanes(slots, lanes, width) && are_beside(ssa, units))))
+    Ok(
+        is_pack_size(bytes)
+            && (register_for(units, width) == register
+                && (are_lanes(slots, lanes, width) && are_beside(ssa, units))),
+    )
 }

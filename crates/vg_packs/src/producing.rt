@@ -156,7 +156,17 @@ fn push_calls(
     }
     let mut number = 0;
     'descriptions: for description in descriptions {
-        push_call(alloc, packs, descriptions, table, ssa, operand, slots, number, description)?;
+        push_call(
+            alloc,
+            packs,
+            descriptions,
+            table,
+            ssa,
+            operand,
+            slots,
+            number,
+            description,
+        )?;
         number += 1;
     }
     Ok(())

@@ -1,4 +1,4 @@
-use Rattle.std.proofs.Common.{◌≡◌, ◌+◌, ◌<◌, ◌∙◌, All, IfOk, true, false, ap, sym, subst, length}
+use Rattle.std.proofs.Common.{◌≡◌, ◌<◌, ◌∙◌, All, IfOk, true, false, ap, sym, subst, length}
 use Rattle.std.proofs.lemmas.List.{length-replicate}
 use Rattle.vg_plans.specs.World.{is_in}
 use Rattle.vg_packing.specs.Packing.{needs_of}
@@ -22,8 +22,8 @@ walk_down-requires-clause-starts_inside c =
     in
     subst (λ l. All (λ x. x < length c.as_mut_slice.result.now) l) (sym (c.as_slice.ensures.value ∙ c.in_ok-starts.ensures))
     (all-from (length c.as_mut_slice.result.now) (needs_of c.args.table.now c.args.ssa.now c.args.deps.now c.args.pack.now) (λ x h.
-      subst (λ m. x < m) (sym long)
-      (unit-inside c.args.ssa.now x (pack-units c.args.table.now c.args.ssa.now c.args.deps.now c.requires.names c.args.pack.now x h))))
+    subst (λ m. x < m) (sym long)
+    (unit-inside c.args.ssa.now x (pack-units c.args.table.now c.args.ssa.now c.args.deps.now c.requires.names c.args.pack.now x h))))
 
 pub returns-clause-way : goal.returns-clause-way
 returns-clause-way c =

@@ -1,6 +1,5 @@
-use Rattle.std.proofs.Common.{◌≡◌, ◌<◌, All, ◌++◌, ◌∷◌, [], ◌∙◌, sym, subst, length, inl, refl}
+use Rattle.std.proofs.Common.{◌<◌, All, ◌∙◌, sym, subst, length, refl}
 use Rattle.vg_plans.specs.World.{is_in}
-use Rattle.vg_plans.proofs.Members.{has-right}
 use Rattle.vg_shapes.specs.Pack.{units_of}
 use Rattle.vg_packs.specs.Walk.{Pushed, node_needs}
 use Rattle.vg_packs.proofs.Cycles.{all-from}
@@ -43,5 +42,5 @@ push_new-requires-in-Some c =
     let v = c.in-Some.v in
     subst (λ l. All (λ x. x < length c.units.marks) l) (sym (c.as_slice.ensures.value ∙ c.in_ok-needs.ensures))
     (all-from (length c.units.marks) (ns v) (λ x h.
-      subst (λ m. x < m) (sym c.units.invariant.long)
-      (c.requires.units_inside x (node-units c.args.table.now c.args.ssa.now c.args.deps.now c.requires.names c.args.plan.now v x h))))
+    subst (λ m. x < m) (sym c.units.invariant.long)
+    (c.requires.units_inside x (node-units c.args.table.now c.args.ssa.now c.args.deps.now c.requires.names c.args.plan.now v x h))))
