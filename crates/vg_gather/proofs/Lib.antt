@@ -1,0 +1,3 @@
+pub mod Constants
+pub mod Held
+pub mod Inserts

@@ -1,0 +1,48 @@
+-- What recipes promise of the operands of packs.
+use Rattle.std.specs.Prelude.{◌≡◌, ℕ, ◌<◌, ◌^◌, true, List, Some}
+use Rattle.vg_base.specs.Bits.{bits_of_bytes}
+use Rattle.vg_shapes.specs.declared.operand.Operand.{Operand}
+use Rattle.vg_shapes.specs.declared.pack.Pack.{Pack as Packed}
+use Rattle.vg_shapes.specs.declared.ssa.Ssa.{Ssa}
+use Rattle.vg_shapes.specs.Description.{Description}
+use Rattle.vg_shapes.specs.Operands.{IsOperand}
+use Rattle.vg_shapes.specs.Order.{Stands}
+use Rattle.vg_shapes.specs.Sound.{value_bits}
+use Rattle.vg_packing.specs.Held.{holds}
+use Rattle.vg_packing.specs.Wants.{is_constant, wanted_values}
+use Rattle.vg_emit.specs.Emission.{constant_bytes, value_slots}
+use Rattle.vg_emit.specs.Planned.{values_of}
+use Rattle.vg_emit.specs.Promises.{Fills, Holds, inserted}
+
+-- the number of each value of a kernel is below 2 to the value's width
+abbrev pub AreInWidths : Ssa → (ℕ → ℕ) → Type 0
+AreInWidths ssa numbers = (v w : ℕ) → value_bits ssa v ≡ Some w → numbers v < 2 ^ w
+
+-- the register of the constants of a sound operand, with the values that it wants put in, fills it
+abbrev pub InsertsFill : Type 0
+InsertsFill =
+    (ssa : Ssa) (numbers : ℕ → ℕ) (o : Operand) → IsOperand ssa o → AreInWidths ssa numbers →
+    Fills numbers o (inserted numbers (value_slots o) (bits_of_bytes (constant_bytes o)))
+
+-- where no slot of a sound operand wants a value, the register of its constants fills it
+abbrev pub ConstantsFill : Type 0
+ConstantsFill =
+    (ssa : Ssa) (numbers : ℕ → ℕ) (o : Operand) → IsOperand ssa o → is_constant o ≡ true →
+    Fills numbers o (bits_of_bytes (constant_bytes o))
+
+-- a register that holds a pack fills each operand that the pack holds
+abbrev pub HoldersFill : Type 0
+HoldersFill =
+    (ds : List Description) (ssa : Ssa) (numbers : ℕ → ℕ) (p : Packed) (o : Operand)
+    (register : List ℕ) → holds ds ssa p o ≡ true → Holds ds ssa numbers p register →
+    Fills numbers o register
+
+-- a pack gives a value that an operand wants
+abbrev pub GivesWanted : Operand → Packed → Type 0
+GivesWanted o p = (x : ℕ) × Stands x (wanted_values o) × Stands x (values_of p)
+
+-- a pack that holds an operand does
+abbrev pub HoldersGive : Type 0
+HoldersGive =
+    (ds : List Description) (ssa : Ssa) (p : Packed) (o : Operand) → holds ds ssa p o ≡ true →
+    GivesWanted o p

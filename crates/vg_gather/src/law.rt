@@ -1,0 +1,24 @@
+//! What recipes promise of operands.
+
+ghost use Rattle.vg_gather.specs.Laws.{ConstantsFill, HoldersFill, HoldersGive, InsertsFill};
+
+/// A law that costs nothing to call: a register of the constants of a sound operand, with the values
+/// that it wants put in, fills it.
+pub fn inserts_fill()
+    ensures { InsertsFill }
+{}
+
+/// A law: where no slot of a sound operand wants a value, a register of its constants fills it.
+pub fn constants_fill()
+    ensures { ConstantsFill }
+{}
+
+/// A law: a register that has the values of a pack fills each operand that the pack holds.
+pub fn holders_fill()
+    ensures { HoldersFill }
+{}
+
+/// A law: a pack that holds an operand gives a value that the operand wants.
+pub fn holders_give()
+    ensures { HoldersGive }
+{}
