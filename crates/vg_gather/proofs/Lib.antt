@@ -1,3 +1,4 @@
 pub mod Constants
 pub mod Held
 pub mod Inserts
+pub mod Prices

@@ -1,6 +1,8 @@
 -- What recipes promise of the operands of packs.
 use Rattle.std.specs.Prelude.{◌≡◌, ℕ, ◌<◌, ◌^◌, true, List, Some}
 use Rattle.vg_base.specs.Bits.{bits_of_bytes}
+use Rattle.vg_plans.specs.World.{inserted as inserted_into, recipe_cost}
+use Rattle.vg_shapes.specs.declared.match_table.Match.{Match}
 use Rattle.vg_shapes.specs.declared.operand.Operand.{Operand}
 use Rattle.vg_shapes.specs.declared.pack.Pack.{Pack as Packed}
 use Rattle.vg_shapes.specs.declared.ssa.Ssa.{Ssa}
@@ -9,10 +11,14 @@ use Rattle.vg_shapes.specs.Operands.{IsOperand}
 use Rattle.vg_shapes.specs.Order.{Stands}
 use Rattle.vg_shapes.specs.Sound.{value_bits}
 use Rattle.vg_packing.specs.Held.{holds}
+use Rattle.vg_packing.specs.Packing.{packing}
 use Rattle.vg_packing.specs.Wants.{is_constant, wanted_values}
+use Rattle.vg_emit.specs.Costs.{cost_of_recipe}
 use Rattle.vg_emit.specs.Emission.{constant_bytes, value_slots}
 use Rattle.vg_emit.specs.Planned.{values_of}
+use Rattle.vg_emit.specs.Program.{inserted_by}
 use Rattle.vg_emit.specs.Promises.{Fills, Holds, inserted}
+use Rattle.vg_gather.specs.Recipes.{recipe_of}
 
 -- the number of each value of a kernel is below 2 to the value's width
 abbrev pub AreInWidths : Ssa → (ℕ → ℕ) → Type 0
@@ -46,3 +52,17 @@ abbrev pub HoldersGive : Type 0
 HoldersGive =
     (ds : List Description) (ssa : Ssa) (p : Packed) (o : Operand) → holds ds ssa p o ≡ true →
     GivesWanted o p
+
+-- a recipe costs what the plan counts for its operand
+abbrev pub RecipesCostThePlan : Type 0
+RecipesCostThePlan =
+    (ds : List Description) (matches : List Match) (ssa : Ssa) (deps : List (ℕ × ℕ))
+    (plan : List Packed) (o : Operand) →
+    cost_of_recipe ds o (recipe_of ds ssa plan o) ≡ recipe_cost (packing ds matches ssa deps) plan o
+
+-- a recipe inserts what the plan inserts into its operand
+abbrev pub RecipesInsertThePlan : Type 0
+RecipesInsertThePlan =
+    (ds : List Description) (matches : List Match) (ssa : Ssa) (deps : List (ℕ × ℕ))
+    (plan : List Packed) (o : Operand) →
+    inserted_by (recipe_of ds ssa plan o) o ≡ inserted_into (packing ds matches ssa deps) plan o

@@ -1,6 +1,6 @@
 //! What recipes promise of operands.
 
-ghost use Rattle.vg_gather.specs.Laws.{ConstantsFill, HoldersFill, HoldersGive, InsertsFill};
+ghost use Rattle.vg_gather.specs.Laws.{ConstantsFill, HoldersFill, HoldersGive, InsertsFill, RecipesCostThePlan, RecipesInsertThePlan};
 
 /// A law that costs nothing to call: a register of the constants of a sound operand, with the values
 /// that it wants put in, fills it.
@@ -21,4 +21,14 @@ pub fn holders_fill()
 /// A law: a pack that holds an operand gives a value that the operand wants.
 pub fn holders_give()
     ensures { HoldersGive }
+{}
+
+/// A law: the recipe of an operand costs what the plan counts for it.
+pub fn recipes_cost_the_plan()
+    ensures { RecipesCostThePlan }
+{}
+
+/// A law: the recipe of an operand inserts what the plan inserts into it.
+pub fn recipes_insert_the_plan()
+    ensures { RecipesInsertThePlan }
 {}
