@@ -1,12 +1,13 @@
 -- What recipes promise of the operands of packs.
 use Rattle.std.specs.Prelude.{◌≡◌, ℕ, ◌<◌, ◌^◌, true, List, Some}
+use Rattle.std.specs.List.{AllByRecursion}
 use Rattle.vg_base.specs.Bits.{bits_of_bytes}
 use Rattle.vg_plans.specs.World.{inserted as inserted_into, recipe_cost}
 use Rattle.vg_shapes.specs.declared.match_table.Match.{Match}
 use Rattle.vg_shapes.specs.declared.operand.Operand.{Operand}
 use Rattle.vg_shapes.specs.declared.pack.Pack.{Pack as Packed}
 use Rattle.vg_shapes.specs.declared.ssa.Ssa.{Ssa}
-use Rattle.vg_shapes.specs.Description.{Description}
+use Rattle.vg_shapes.specs.Description.{Description, IsPackable}
 use Rattle.vg_shapes.specs.Operands.{IsOperand}
 use Rattle.vg_shapes.specs.Order.{Stands}
 use Rattle.vg_shapes.specs.Sound.{value_bits}
@@ -14,8 +15,8 @@ use Rattle.vg_packing.specs.Held.{holds}
 use Rattle.vg_packing.specs.Packing.{packing}
 use Rattle.vg_packing.specs.Wants.{is_constant, wanted_values}
 use Rattle.vg_emit.specs.Costs.{cost_of_recipe}
-use Rattle.vg_emit.specs.Emission.{constant_bytes, value_slots}
-use Rattle.vg_emit.specs.Planned.{values_of}
+use Rattle.vg_emit.specs.Emission.{Job, constant_bytes, value_slots}
+use Rattle.vg_emit.specs.Planned.{TakesGiven, values_of}
 use Rattle.vg_emit.specs.Program.{inserted_by}
 use Rattle.vg_emit.specs.Promises.{Fills, Holds, inserted}
 use Rattle.vg_gather.specs.Recipes.{recipe_of}
@@ -66,3 +67,9 @@ RecipesInsertThePlan =
     (ds : List Description) (matches : List Match) (ssa : Ssa) (deps : List (ℕ × ℕ))
     (plan : List Packed) (o : Operand) →
     inserted_by (recipe_of ds ssa plan o) o ≡ inserted_into (packing ds matches ssa deps) plan o
+
+-- where descriptions are sound, what a recipe takes for a sound operand stands in registers before
+abbrev pub RecipesTakeGiven : Type 0
+RecipesTakeGiven =
+    (j : Job) (o : Operand) → AllByRecursion IsPackable j.descriptions → IsOperand j.ssa o →
+    TakesGiven j o (recipe_of j.descriptions j.ssa j.packs o)

@@ -1,6 +1,6 @@
 //! What recipes promise of operands.
 
-ghost use Rattle.vg_gather.specs.Laws.{ConstantsFill, HoldersFill, HoldersGive, InsertsFill, RecipesCostThePlan, RecipesInsertThePlan};
+ghost use Rattle.vg_gather.specs.Laws.{ConstantsFill, HoldersFill, HoldersGive, InsertsFill, RecipesCostThePlan, RecipesInsertThePlan, RecipesTakeGiven};
 
 /// A law that costs nothing to call: a register of the constants of a sound operand, with the values
 /// that it wants put in, fills it.
@@ -31,4 +31,10 @@ pub fn recipes_cost_the_plan()
 /// A law: the recipe of an operand inserts what the plan inserts into it.
 pub fn recipes_insert_the_plan()
     ensures { RecipesInsertThePlan }
+{}
+
+/// A law: where descriptions are sound, the packs that the recipe of a sound operand takes give values
+/// that the operand wants.
+pub fn recipes_take_given()
+    ensures { RecipesTakeGiven }
 {}

@@ -10,5 +10,5 @@ mod law;
 
 pub use law::{
     constants_fill, holders_fill, holders_give, inserts_fill, recipes_cost_the_plan,
-    recipes_insert_the_plan,
+    recipes_insert_the_plan, recipes_take_given,
 };
