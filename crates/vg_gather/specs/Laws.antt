@@ -1,5 +1,5 @@
 -- What recipes promise of the operands of packs.
-use Rattle.std.specs.Prelude.{◌≡◌, ℕ, ◌<◌, ◌^◌, true, List, Some}
+use Rattle.std.specs.Prelude.{◌≡◌, ℕ, ◌<◌, ◌^◌, true, List, Some, length}
 use Rattle.std.specs.List.{AllByRecursion}
 use Rattle.vg_base.specs.Bits.{bits_of_bytes}
 use Rattle.vg_plans.specs.World.{inserted as inserted_into, recipe_cost}
@@ -14,12 +14,12 @@ use Rattle.vg_shapes.specs.Sound.{value_bits}
 use Rattle.vg_packing.specs.Held.{holds}
 use Rattle.vg_packing.specs.Packing.{packing}
 use Rattle.vg_packing.specs.Wants.{is_constant, wanted_values}
-use Rattle.vg_emit.specs.Costs.{cost_of_recipe}
-use Rattle.vg_emit.specs.Emission.{Job, constant_bytes, value_slots}
+use Rattle.vg_emit.specs.Costs.{AreCounted, cost_of_recipe}
+use Rattle.vg_emit.specs.Emission.{Job, constant_bytes, operand_at, recipe_at, value_slots}
 use Rattle.vg_emit.specs.Planned.{TakesGiven, values_of}
-use Rattle.vg_emit.specs.Program.{inserted_by}
+use Rattle.vg_emit.specs.Program.{inserted_by, job_of, operands_in}
 use Rattle.vg_emit.specs.Promises.{Fills, Holds, inserted}
-use Rattle.vg_gather.specs.Recipes.{recipe_of}
+use Rattle.vg_gather.specs.Recipes.{recipe_of, recipes_of}
 
 -- the number of each value of a kernel is below 2 to the value's width
 abbrev pub AreInWidths : Ssa → (ℕ → ℕ) → Type 0
@@ -73,3 +73,25 @@ abbrev pub RecipesTakeGiven : Type 0
 RecipesTakeGiven =
     (j : Job) (o : Operand) → AllByRecursion IsPackable j.descriptions → IsOperand j.ssa o →
     TakesGiven j o (recipe_of j.descriptions j.ssa j.packs o)
+
+-- the recipes of the operands of packs are counted by the plan of the packs
+abbrev pub PlansCountRecipes : Type 0
+PlansCountRecipes =
+    (ds : List Description) (matches : List Match) (ssa : Ssa) (deps : List (ℕ × ℕ))
+    (packs : List Packed) →
+    AreCounted
+    (job_of ds matches ssa packs (recipes_of ds matches ssa packs))
+    (packing ds matches ssa deps)
+
+-- the recipes of a job take what stands in registers before
+abbrev pub AllTakeGiven : Job → Type 0
+AllTakeGiven j =
+    (o : ℕ) → o < length j.operands → TakesGiven j (operand_at j o) (recipe_at j o)
+
+-- those of the operands of packs do, where descriptions and operands are sound
+abbrev pub PlansTakeGiven : Type 0
+PlansTakeGiven =
+    (ds : List Description) (matches : List Match) (ssa : Ssa) (packs : List Packed) →
+    AllByRecursion IsPackable ds →
+    AllByRecursion (IsOperand ssa) (operands_in ds matches ssa packs) →
+    AllTakeGiven (job_of ds matches ssa packs (recipes_of ds matches ssa packs))

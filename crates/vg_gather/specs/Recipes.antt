@@ -2,6 +2,7 @@
 use Rattle.std.specs.Prelude.{ℕ, suc, Bool, List, [], ◌∷◌, length, map, filter, nat_eq, slice_index_or, if◌then◌else◌}
 use Rattle.std.specs.List.{flat_map, list_all, list_any, position_or_len}
 use Rattle.vg_plans.specs.Levels.{first_least}
+use Rattle.vg_shapes.specs.declared.match_table.Match.{Match}
 use Rattle.vg_shapes.specs.declared.operand.Operand.{Operand}
 use Rattle.vg_shapes.specs.declared.operand.Slot.{Slot}
 use Rattle.vg_shapes.specs.declared.pack.Pack.{Pack as Packed}
@@ -13,6 +14,7 @@ use Rattle.vg_packing.specs.Held.{holds}
 use Rattle.vg_packing.specs.Shuffles.{moved_from, parts_from, shuffle_of}
 use Rattle.vg_packing.specs.Wants.{is_constant, wanted_slots}
 use Rattle.vg_emit.specs.Emission.{constant_bytes, no_description}
+use Rattle.vg_emit.specs.Program.{operands_in}
 
 -- the index of the first pack that holds an operand; the number of packs where none does
 abbrev pub holder : List Description → Ssa → List Packed → Operand → ℕ
@@ -80,3 +82,7 @@ recipe_of ds ssa plan o =
     if list_any (λ p. holds ds ssa p o) plan then recipe.Reuse (holder ds ssa plan o)
     else if is_constant o then recipe.Constant (constant_bytes o)
     else shuffled ds ssa plan o (ready_from ds ssa plan o 0 ds)
+
+-- the recipes of the operands of packs, in the order in which the packs take them
+abbrev pub recipes_of : List Description → List Match → Ssa → List Packed → List Recipe
+recipes_of ds matches ssa packs = map (recipe_of ds ssa packs) (operands_in ds matches ssa packs)

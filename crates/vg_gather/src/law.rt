@@ -1,6 +1,6 @@
 //! What recipes promise of operands.
 
-ghost use Rattle.vg_gather.specs.Laws.{ConstantsFill, HoldersFill, HoldersGive, InsertsFill, RecipesCostThePlan, RecipesInsertThePlan, RecipesTakeGiven};
+ghost use Rattle.vg_gather.specs.Laws.{ConstantsFill, HoldersFill, HoldersGive, InsertsFill, PlansCountRecipes, PlansTakeGiven, RecipesCostThePlan, RecipesInsertThePlan, RecipesTakeGiven};
 
 /// A law that costs nothing to call: a register of the constants of a sound operand, with the values
 /// that it wants put in, fills it.
@@ -37,4 +37,15 @@ pub fn recipes_insert_the_plan()
 /// that the operand wants.
 pub fn recipes_take_given()
     ensures { RecipesTakeGiven }
+{}
+
+/// A law: the plan of packs counts the recipes of their operands, each for what it costs and inserts.
+pub fn plans_count_recipes()
+    ensures { PlansCountRecipes }
+{}
+
+/// A law: where descriptions and operands are sound, the recipes of the operands of packs take what
+/// stands in registers before.
+pub fn plans_take_given()
+    ensures { PlansTakeGiven }
 {}
