@@ -1,7 +1,7 @@
 -- The bits of a register of constants: each slot has its constant.
-use Rattle.std.proofs.Common.{◌≡◌, ℕ, zero, suc, ◌+◌, ◌-◌, ◌*◌, ◌/◌, ◌%◌, ◌^◌, ◌<◌, ◌≤◌, List, [], ◌∷◌, refl, sym, ap, ◌∙◌, arith}
+use Rattle.std.proofs.Common.{◌≡◌, ℕ, ◌+◌, ◌-◌, ◌*◌, ◌/◌, ◌%◌, ◌^◌, ◌<◌, ◌≤◌, List, [], ◌∷◌, refl, ap, ◌∙◌, arith}
 use Rattle.std.specs.List.{AllByRecursion}
-use Rattle.std.proofs.Math.Nat.{mod-eq_of_lt, pow-le-pow_right}
+use Rattle.std.proofs.Math.Nat.{pow-le-pow_right}
 use Rattle.std.proofs.lemmas.Nat.{mod_low, mul-add-lt, pow-add, pow_pos, shr_high}
 use Rattle.vg_shapes.specs.declared.operand.Slot.{Slot}
 use Rattle.vg_shapes.specs.declared.ssa.Ssa.{Ssa}
@@ -58,12 +58,13 @@ high ssa n low (s ∷ ss) all =
     let between = s.low - low in
     let here : s.low ≡ between + low = (let h = all.0 in omega arith) in
     let there : s.low + s.width ≡ between + s.width + low = (let h = all.0 in omega arith) in
-    let c = digit_of s.wanted in
-    (c * 2 ^ between + rest.0 * 2 ^ (between + s.width),
-    (λ i. constant-digit s s.wanted i + rest.1 i)
-    ∙ (λ i. c * 2 ^ here i + rest.0 * 2 ^ there i)
-    ∙ (λ i. c * pow-add 2 between low i + rest.0 * pow-add 2 (between + s.width) low i)
-    ∙ two_parts c rest.0 (2 ^ between) (2 ^ (between + s.width)) (2 ^ low))
+    let c = digit_of s.wanted in (
+      c * 2 ^ between + rest.0 * 2 ^ (between + s.width),
+      (λ i. constant-digit s s.wanted i + rest.1 i)
+          ∙ (λ i. c * 2 ^ here i + rest.0 * 2 ^ there i)
+          ∙ (λ i. c * pow-add 2 between low i + rest.0 * pow-add 2 (between + s.width) low i)
+          ∙ two_parts c rest.0 (2 ^ between) (2 ^ (between + s.width)) (2 ^ low),
+    )
   where
     two_parts : (c k p q l : ℕ) → c * (p * l) + k * (q * l) ≡ (c * p + k * q) * l
     two_parts c k p q l = grind arith
@@ -90,6 +91,7 @@ constants-still ssa n low a whole (s ∷ ss) all below e =
     let k = mul-add-lt c (2 ^ l) a (2 ^ w) fits under in
     let m = pow-add 2 l w in
     omega arith
-    in
-    (still s.wanted _ (ap (λ m. m / 2 ^ l % 2 ^ w) parts ∙ digit a c rest.0 l w under fits),
-    constants-still ssa n (l + w) (c * 2 ^ l + a) whole ss all.2 next joined)
+    in (
+      still s.wanted _ (ap (λ m. m / 2 ^ l % 2 ^ w) parts ∙ digit a c rest.0 l w under fits),
+      constants-still ssa n (l + w) (c * 2 ^ l + a) whole ss all.2 next joined,
+    )

@@ -1,12 +1,10 @@
 -- A pack that holds an operand has each value that is wanted at its place.
-use Rattle.std.proofs.Common.{◌≡◌, ℕ, zero, suc, ◌+◌, ◌*◌, ◌<◌, ◌≤◌, Bool, true, false, List, [], ◌∷◌, ◌++◌, length, Option, Some, None, refl, sym, ap, subst, ◌∙◌, ◌⊎◌, inl, inr, arith}
-use Rattle.std.specs.Prelude.{◌&&◌, ◌||◌, ◌==◌, not, filter_map, nat_eq, option_to_list}
+use Rattle.std.proofs.Common.{◌≡◌, ℕ, ◌+◌, ◌*◌, true, List, [], ◌∷◌, Option, Some, None, refl, sym, ap, subst, ◌∙◌, ◌⊎◌, inl, inr, arith}
+use Rattle.std.specs.Prelude.{◌==◌, not, filter_map, nat_eq}
 use Rattle.std.specs.List.{AllByRecursion, list_all, list_any}
 use Rattle.std.proofs.lemmas.Bool.{eqb-true, or_cases}
 use Rattle.vg_base.specs.Bits.{num}
 use Rattle.vg_bits.specs.Range.{range}
-use Rattle.vg_program.specs.Meaning.{lane_number}
-use Rattle.vg_shapes.specs.declared.operand.Operand.{Operand}
 use Rattle.vg_shapes.specs.declared.operand.Slot.{Slot}
 use Rattle.vg_shapes.specs.declared.pack.Pack.{Pack as Packed}
 use Rattle.vg_shapes.specs.declared.ssa.Ssa.{Ssa}
@@ -14,15 +12,15 @@ use Rattle.vg_shapes.specs.declared.wanted.Wanted.{Wanted}
 use Rattle.vg_shapes.specs.declared.wanted.Wanted.TheVariants.{Value, Constant, Nothing}
 use Rattle.vg_shapes.specs.Description.{Description}
 use Rattle.vg_shapes.specs.Operands.{lanes_of}
-use Rattle.vg_shapes.specs.Order.{count_of, one_if, Stands}
-use Rattle.vg_packing.specs.Held.{held_slots, holds, is_filled, lane_width_of, lanes_from, register_of}
+use Rattle.vg_shapes.specs.Order.{one_if, Stands}
+use Rattle.vg_packing.specs.Held.{is_filled, lane_width_of, lanes_from, register_of}
 use Rattle.vg_packing.specs.SameAs.{same_slot}
-use Rattle.vg_packing.specs.Wants.{is_wanted, slot, value_of, wanted_values, wants_value}
+use Rattle.vg_packing.specs.Wants.{is_wanted, slot, value_of, wants_value}
 use Rattle.vg_packing.proofs.SameTests.{both-true, slot-is}
 use Rattle.vg_order_laws.proofs.Sequences.{counts-itself}
 use Rattle.vg_emit.specs.Planned.{values_of}
-use Rattle.vg_emit.specs.Promises.{Fills, Holds, IsWanted, LanesHave, SlotHas}
-use Rattle.vg_gather.specs.Laws.{GivesWanted, HoldersFill, HoldersGive}
+use Rattle.vg_emit.specs.Promises.{IsWanted, LanesHave, SlotHas}
+use Rattle.vg_gather.specs.Laws.{HoldersFill, HoldersGive}
 
 -- ---- a slot among those of lanes
 

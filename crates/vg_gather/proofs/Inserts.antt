@@ -1,10 +1,10 @@
 -- Inserts into slots that are apart leave in each slot what was put there, and leave other slots alone.
-use Rattle.std.proofs.Common.{◌≡◌, ℕ, zero, suc, ◌+◌, ◌*◌, ◌/◌, ◌%◌, ◌^◌, ◌<◌, ◌≤◌, Bool, true, false, List, [], ◌∷◌, length, Some, refl, sym, ap, subst, ◌∙◌, ◌⊎◌, inl, inr, arith}
+use Rattle.std.proofs.Common.{◌≡◌, ℕ, ◌+◌, ◌*◌, ◌/◌, ◌%◌, ◌^◌, ◌<◌, ◌≤◌, Bool, true, false, List, [], ◌∷◌, length, refl, sym, ap, subst, ◌∙◌, inl, inr, arith}
 use Rattle.std.specs.Prelude.{◌||◌, filter, nat_eq, not}
 use Rattle.std.specs.List.{AllByRecursion, list_any}
 use Rattle.std.proofs.Math.Nat.{mod-eq_of_lt}
-use Rattle.std.proofs.lemmas.Bool.{cases_Bool, eqb-true, or_cases}
-use Rattle.vg_base.specs.Bits.{bits, bits_of_bytes, bytes, num}
+use Rattle.std.proofs.lemmas.Bool.{eqb-true, or_cases}
+use Rattle.vg_base.specs.Bits.{bits, bits_of_bytes, num}
 use Rattle.vg_base.proofs.Bits.{length-bits}
 use Rattle.vg_bits.specs.BitList.{IsBits}
 use Rattle.vg_bits.specs.Range.{range, replaced}
@@ -18,7 +18,7 @@ use Rattle.vg_shapes.specs.declared.ssa.Ssa.{Ssa}
 use Rattle.vg_shapes.specs.declared.wanted.Wanted.{Wanted}
 use Rattle.vg_shapes.specs.declared.wanted.Wanted.TheVariants.{Value, Constant, Nothing}
 use Rattle.vg_shapes.specs.Operands.{AreSlots, IsOperand, MayBeWanted}
-use Rattle.vg_packing.specs.Wants.{is_constant, slot, wants_value}
+use Rattle.vg_packing.specs.Wants.{slot, wants_value}
 use Rattle.vg_emit.specs.Emission.{constant_bytes, constants_of, value_slots}
 use Rattle.vg_emit.specs.Promises.{Fills, inserted, IsWanted, SlotHas}
 use Rattle.vg_gather.specs.Laws.{AreInWidths, ConstantsFill, InsertsFill}
@@ -97,10 +97,11 @@ still-behind : (ssa : Ssa) (n low : ℕ) (ss : List Slot) (register : List ℕ) 
 still-behind ssa n low [] register l w v all e inside below h = tt
 still-behind ssa n low (s ∷ ss) register l w v all e inside below h =
     let first = all.0 in
-    let within = (all.1).inside in
-    (subst (IsStill s.wanted)
-    (sym (get-put_beside l w v register (omega arith) s.low s.width (omega arith) (inr (omega arith)))) h.0,
-    still-behind ssa n (s.low + s.width) ss register l w v all.2 e inside (omega arith) h.1)
+    let within = (all.1).inside in (
+      subst (IsStill s.wanted)
+          (sym (get-put_beside l w v register (omega arith) s.low s.width (omega arith) (inr (omega arith)))) h.0,
+      still-behind ssa n (s.low + s.width) ss register l w v all.2 e inside (omega arith) h.1,
+    )
 
 -- ---- slots are filled
 
@@ -108,17 +109,18 @@ fills-first : (ssa : Ssa) (numbers : ℕ → ℕ) (n l w : ℕ) (x : Wanted) (ss
     → AreInWidths ssa numbers → l + w ≤ n → MayBeWanted ssa w x → AreSlots ssa n (l + w) ss
     → length register ≡ n → IsStill x (got l w register) → AllByRecursion (HasStill register) ss
     → ((r : List ℕ) → length r ≡ n → AllByRecursion (HasStill r) ss
-      → AllByRecursion (SlotHas numbers (inserted numbers (values ss) r)) ss)
+    → AllByRecursion (SlotHas numbers (inserted numbers (values ss) r)) ss)
     → AllByRecursion (SlotHas numbers (inserted numbers (values (slot l w x ∷ ss)) register)) (slot l w x ∷ ss)
 fills-first ssa numbers n l w (Value v) ss register wide inside may all e here h rest =
     let new = replaced l (bits w (numbers v)) register in
     let long = length-put l w (numbers v) n register inside e in
     let fits : numbers v < 2 ^ w = wide v w may in
-    let top : l + w ≤ l + w = omega arith in
-    (inserted-beside ssa numbers n (l + w) ss new l w all long top
-    ∙ get-put_same l w (numbers v) register (omega arith)
-    ∙ mod-eq_of_lt fits,
-    rest new long (still-behind ssa n (l + w) ss register l w (numbers v) all e inside top h))
+    let top : l + w ≤ l + w = omega arith in (
+      inserted-beside ssa numbers n (l + w) ss new l w all long top
+          ∙ get-put_same l w (numbers v) register (omega arith)
+          ∙ mod-eq_of_lt fits,
+      rest new long (still-behind ssa n (l + w) ss register l w (numbers v) all e inside top h),
+    )
 fills-first ssa numbers n l w (Constant m c) ss register wide inside may all e here h rest =
     (inserted-beside ssa numbers n (l + w) ss register l w all e (omega arith) ∙ here, rest register e h)
 fills-first ssa numbers n l w Nothing ss register wide inside may all e here h rest =
@@ -158,9 +160,10 @@ all-have : (ssa : Ssa) (n low c : ℕ) (ss : List Slot) → AreSlots ssa n low s
     → AllByRecursion (λ s. IsStill s.wanted (c / 2 ^ s.low % 2 ^ s.width)) ss
     → AllByRecursion (HasStill (bits n c)) ss
 all-have ssa n low c [] all h = tt
-all-have ssa n low c (s ∷ ss) all h =
-    (subst (IsStill s.wanted) (sym (num-range-bits s.low s.width n c (all.1).inside)) h.0,
-    all-have ssa n (s.low + s.width) c ss all.2 h.1)
+all-have ssa n low c (s ∷ ss) all h = (
+  subst (IsStill s.wanted) (sym (num-range-bits s.low s.width n c (all.1).inside)) h.0,
+  all-have ssa n (s.low + s.width) c ss all.2 h.1,
+)
 
 constants-stand : (ssa : Ssa) (o : Operand) → IsOperand ssa o
     → AllByRecursion (HasStill (bits o.register (constants_of o.slots))) o.slots

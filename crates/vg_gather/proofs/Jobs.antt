@@ -34,11 +34,11 @@ plans-count-recipes ds matches ssa deps packs =
     record {
       each = length-map os f;
       cost = λ o low.
-      ap (cost_of_recipe ds (slice_index_or os o none)) (recipe-at f os o low)
-      ∙ recipes-cost-the-plan ds matches ssa deps packs (slice_index_or os o none);
+          ap (cost_of_recipe ds (slice_index_or os o none)) (recipe-at f os o low)
+          ∙ recipes-cost-the-plan ds matches ssa deps packs (slice_index_or os o none);
       inserts = λ o low.
-      ap (λ r. inserted_by r (slice_index_or os o none)) (recipe-at f os o low)
-      ∙ recipes-insert-the-plan ds matches ssa deps packs (slice_index_or os o none);
+          ap (λ r. inserted_by r (slice_index_or os o none)) (recipe-at f os o low)
+          ∙ recipes-insert-the-plan ds matches ssa deps packs (slice_index_or os o none);
     }
 
 pub plans-take-given : PlansTakeGiven

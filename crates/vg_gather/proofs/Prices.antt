@@ -1,5 +1,5 @@
 -- What recipes cost and insert is what the plan counts.
-use Rattle.std.proofs.Common.{◌≡◌, ℕ, zero, suc, ◌+◌, ◌<◌, ◌≤◌, Bool, true, false, List, [], ◌∷◌, ◌++◌, length, refl, sym, ap, ◌∙◌, ◌⊎◌, inl, inr, arith}
+use Rattle.std.proofs.Common.{◌≡◌, ℕ, suc, ◌+◌, ◌<◌, ◌≤◌, Bool, true, false, List, [], ◌∷◌, ◌++◌, length, refl, sym, ap, ◌∙◌, inl, inr, arith}
 use Rattle.std.specs.Prelude.{◌&&◌, ◌||◌, cond, filter, filter_map, min, nat_eq, nat_le, nat_lt, slice_index_or}
 use Rattle.std.specs.List.{AllByRecursion, flat_map, list_all, list_any}
 use Rattle.std.proofs.lemmas.Bool.{cases_Bool}
@@ -117,7 +117,7 @@ least-ready ds matches ssa deps plan o d cost (e ∷ es) there =
 
 values-first : (width l w : ℕ) (x : Wanted) (ss : List Slot)
     → (list_all (is_lane_slot width) (filter (λ s. is_wanted s.wanted) ss) ≡ true
-      → length (filter_map (λ s. value_of s.wanted) ss) ≡ length (filter (λ s. is_wanted s.wanted) ss))
+    → length (filter_map (λ s. value_of s.wanted) ss) ≡ length (filter (λ s. is_wanted s.wanted) ss))
     → list_all (is_lane_slot width) (filter (λ s. is_wanted s.wanted) (slot l w x ∷ ss)) ≡ true
     → length (filter_map (λ s. value_of s.wanted) (slot l w x ∷ ss))
     ≡ length (filter (λ s. is_wanted s.wanted) (slot l w x ∷ ss))
@@ -162,7 +162,7 @@ ready-step can P false s d numbers first h = h
 pub ready-all : (ds : List Description) (ssa : Ssa) (plan : List Packed) (o : Operand) (P : ℕ → Type 0) (d : ℕ) (es : List Description)
     → There ds d es
     → ((n : ℕ) (e : Description) → e ≡ description_in ds n → can_make o e ≡ true
-      → can_be_had ds ssa plan (made o e) ≡ true → P n)
+    → can_be_had ds ssa plan (made o e) ≡ true → P n)
     → AllByRecursion P (ready_from ds ssa plan o d es)
 ready-all ds ssa plan o P d [] there each = tt
 ready-all ds ssa plan o P d (e ∷ es) there each =

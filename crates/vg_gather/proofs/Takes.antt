@@ -1,5 +1,5 @@
 -- Each pack that a recipe takes gives a value that the operand wants.
-use Rattle.std.proofs.Common.{◌≡◌, ℕ, zero, suc, ◌+◌, ◌<◌, ◌≤◌, Bool, true, false, List, [], ◌∷◌, ◌++◌, length, map, Option, Some, None, refl, sym, ap, subst, ◌∙◌, ◌⊎◌, inl, inr, arith}
+use Rattle.std.proofs.Common.{◌≡◌, ℕ, zero, suc, ◌+◌, ◌<◌, ◌≤◌, Bool, true, false, List, [], ◌∷◌, ◌++◌, length, map, Option, Some, None, refl, sym, ap, subst, ◌∙◌, inl, inr, arith}
 use Rattle.std.specs.Prelude.{◌||◌, ◌==◌, cond, filter, filter_map, nat_eq, nat_lt, not, slice_get, slice_index_or}
 use Rattle.std.specs.List.{AllByRecursion, flat_map, list_all, list_any, position_or_len}
 use Rattle.std.proofs.lemmas.Bool.{cases_Bool, eqb-true}
@@ -15,7 +15,7 @@ use Rattle.vg_shapes.specs.declared.wanted.Wanted.{Wanted}
 use Rattle.vg_shapes.specs.declared.wanted.Wanted.TheVariants.{Value, Constant, Nothing}
 use Rattle.vg_shapes.specs.Description.{Description, IsLane, IsPackable}
 use Rattle.vg_shapes.specs.Operands.{IsOperand}
-use Rattle.vg_shapes.specs.Order.{count_of, one_if, Stands}
+use Rattle.vg_shapes.specs.Order.{one_if, Stands}
 use Rattle.vg_packing.specs.declared.recipe.Recipe.{Recipe}
 use Rattle.vg_packing.specs.declared.recipe.Recipe.TheVariants as recipe
 use Rattle.vg_packing.specs.Held.{holds}
@@ -23,12 +23,12 @@ use Rattle.vg_packing.specs.Shuffles.{moved_from, moved_leaf, parts_from}
 use Rattle.vg_packing.specs.Wants.{is_constant, is_wanted, slot, value_of, wanted_slots, wanted_values, wants_value}
 use Rattle.vg_packing.proofs.SameTests.{both-true}
 use Rattle.vg_order_laws.proofs.Sequences.{counts-itself}
-use Rattle.vg_emit.specs.Emission.{constant_bytes, Job, no_description}
+use Rattle.vg_emit.specs.Emission.{constant_bytes, Job}
 use Rattle.vg_emit.specs.Planned.{TakesGiven}
 use Rattle.vg_gather.specs.Laws.{GivesWanted, RecipesTakeGiven}
 use Rattle.vg_gather.specs.Recipes.{can_be_had, description_in, holder, packs_from, packs_of, part, ready_from, shuffled, spare}
 use Rattle.vg_gather.proofs.Held.{holders-give}
-use Rattle.vg_gather.proofs.Prices.{can_make, made, Makes, makes, ready-all, there-all}
+use Rattle.vg_gather.proofs.Prices.{can_make, made, makes, ready-all, there-all}
 
 -- ---- the first pack that passes
 
@@ -59,11 +59,12 @@ wanted-first : (vs : List ℕ) (l w : ℕ) (x : Wanted) (ss : List Slot)
     → ((v : ℕ) → Stands v (values_in (slot l w x ∷ ss)) → Stands v vs)
     → (((v : ℕ) → Stands v (values_in ss) → Stands v vs) → AllByRecursion (Inside vs) (filter (λ s. is_wanted s.wanted) ss))
     → AllByRecursion (Inside vs) (filter (λ s. is_wanted s.wanted) (slot l w x ∷ ss))
-wanted-first vs l w (Value v) ss into rest =
-    ((λ u e. (let same : u ≡ v = cc in
+wanted-first vs l w (Value v) ss into rest = (
+  (λ u e. (let same : u ≡ v = cc in
       let here : one_if (u == v) ≡ 1 = ap (λ k. one_if (u == k)) (sym same) ∙ counts-itself u in
       into u (omega arith))),
-    rest (λ u h. into u (omega arith)))
+  rest (λ u h. into u (omega arith)),
+)
 wanted-first vs l w (Constant m c) ss into rest = ((λ u e. absurd (cc)), rest into)
 wanted-first vs l w Nothing ss into rest = rest into
 
@@ -120,11 +121,12 @@ moved_of o e = flat_map (moved_from e) (wanted_slots o)
 part-gives : (o : Operand) (e : Description) (k register : ℕ) (p : Packed)
     → GivesWanted (part (moved_of o e) k register) p → GivesWanted o p
 part-gives o e k register p g =
-    let inside = moved-inside (wanted_values o) e (wanted_slots o) (wanted-inside (wanted_values o) o.slots (λ v h. h)) in
-    (g.0,
-    standing (wanted_values o) (part (moved_of o e) k register).slots g.0
-    (picked-inside (wanted_values o) k (moved_of o e) inside) g.1,
-    g.2)
+    let inside = moved-inside (wanted_values o) e (wanted_slots o) (wanted-inside (wanted_values o) o.slots (λ v h. h)) in (
+      g.0,
+      standing (wanted_values o) (part (moved_of o e) k register).slots g.0
+          (picked-inside (wanted_values o) k (moved_of o e) inside) g.1,
+      g.2,
+    )
 
 -- ---- the packs of a shuffle
 
@@ -316,9 +318,9 @@ recipes-take-given j o packable is =
     (λ any. holders-give ds j.ssa (slice_index_or j.packs (holder ds j.ssa j.packs o) (Stores [])) o (first-passes (λ p. holds ds j.ssa p o) j.packs any))
     tt
     (λ varies. shuffled-takes j o ready is
-      (ready-all ds j.ssa j.packs o
-      (λ n. AllByRecursion (IsGood ds j.ssa j.packs o (description_in ds n)) (packs_of ds j.ssa j.packs o (description_in ds n)))
-      0 ds (there-all ds)
-      (λ n e here can had.
-        subst (λ e. AllByRecursion (IsGood ds j.ssa j.packs o e) (packs_of ds j.ssa j.packs o e)) here
-        (packs-of-good ds j.ssa j.packs o e (subst IsPackable (sym here) (packable-in ds n packable)) varies can had))))
+    (ready-all ds j.ssa j.packs o
+    (λ n. AllByRecursion (IsGood ds j.ssa j.packs o (description_in ds n)) (packs_of ds j.ssa j.packs o (description_in ds n)))
+    0 ds (there-all ds)
+    (λ n e here can had.
+    subst (λ e. AllByRecursion (IsGood ds j.ssa j.packs o e) (packs_of ds j.ssa j.packs o e)) here
+    (packs-of-good ds j.ssa j.packs o e (subst IsPackable (sym here) (packable-in ds n packable)) varies can had))))
