@@ -1,0 +1,14 @@
+//! How the operands of plans are brought into registers: which recipe each operand takes, and that the
+//! recipe keeps what is asked of it where lines are emitted.
+//!
+//! `specs/Recipes.antt` says which recipe an operand takes beside the packs of a plan, and
+//! `specs/Laws.antt` says what registers of constants, with values put in, and registers of packs
+//! promise of an operand.
+#![tactic(auto)]
+
+mod law;
+
+pub use law::{
+    constants_fill, holders_fill, holders_give, inserts_fill, plans_count_recipes,
+    plans_take_given, recipes_cost_the_plan, recipes_insert_the_plan, recipes_take_given,
+};
