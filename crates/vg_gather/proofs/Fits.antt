@@ -1,19 +1,12 @@
 -- The register that a recipe gives is as wide as its operand's.
-use Rattle.std.proofs.Common.{◌≡◌, ℕ, zero, suc, ◌+◌, ◌*◌, ◌/◌, ◌<◌, ◌≤◌, Bool, true, false, List, [], ◌∷◌, length, map, refl, sym, ap, subst, ◌∙◌, ◌⊎◌, inl, inr, arith}
-use Rattle.std.specs.Prelude.{◌||◌, cond, nat_eq, slice_index_or}
-use Rattle.std.specs.List.{AllByRecursion, flat_map, list_all, list_any}
-use Rattle.std.proofs.lemmas.Bool.{cases_Bool, eqb-true, or_cases}
+use Rattle.std.proofs.Common.{◌≡◌, ℕ, ◌/◌, ◌<◌, true, List, [], ◌∷◌, refl, sym, ap, subst, ◌∙◌, inl, inr}
+use Rattle.std.specs.Prelude.{nat_eq}
+use Rattle.std.specs.List.{AllByRecursion, list_any}
+use Rattle.std.proofs.lemmas.Bool.{eqb-true, or_cases}
 use Rattle.vg_bits.specs.BitList.{IsBytes}
 use Rattle.vg_bits.proofs.ByteLists.{IsBytes-bytes, length-bytes}
-use Rattle.vg_program.specs.Valid.{IsConstant}
 use Rattle.vg_program.specs.Vectors.{constant_bits, is_register_size}
-use Rattle.vg_shapes.specs.declared.operand.Operand.{Operand}
-use Rattle.vg_shapes.specs.declared.pack.Pack.{Pack as Packed}
-use Rattle.vg_shapes.specs.declared.pack.Pack.TheVariants.{Stores}
-use Rattle.vg_shapes.specs.declared.ssa.Ssa.{Ssa}
-use Rattle.vg_shapes.specs.Description.{Description, IsPackable}
-use Rattle.vg_shapes.specs.Operands.{IsOperand}
-use Rattle.vg_packing.specs.Held.{holds, register_of}
+use Rattle.vg_packing.specs.Held.{register_of}
 use Rattle.vg_packing.proofs.SameTests.{both-true}
 use Rattle.vg_emit.specs.Emission.{constant_bytes, constants_of}
 use Rattle.vg_gather.specs.Laws.{ConstantsFit, HoldersFit}
@@ -45,12 +38,13 @@ is-register n h = elim (or_cases (nat_eq n 128) _ h) [
 pub constants-fit : ConstantsFit
 constants-fit ssa o is =
     let r = is-register o.register is.register in
-    let long = length-bytes (o.register / 8) (constants_of o.slots) in
-    (record {
-      size = ap is_register_size long ∙ r.size;
-      bytes = are-bytes (constant_bytes o) (IsBytes-bytes (o.register / 8) (constants_of o.slots));
-    },
-    ap constant_bits long ∙ r.bits)
+    let long = length-bytes (o.register / 8) (constants_of o.slots) in (
+      record {
+        size = ap is_register_size long ∙ r.size;
+        bytes = are-bytes (constant_bytes o) (IsBytes-bytes (o.register / 8) (constants_of o.slots));
+      },
+      ap constant_bits long ∙ r.bits,
+    )
 
 pub holders-fit : HoldersFit
 holders-fit ds ssa p o held =
