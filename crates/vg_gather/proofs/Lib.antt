@@ -1,4 +1,5 @@
 pub mod Constants
+pub mod Fits
 pub mod Held
 pub mod Inserts
 pub mod Jobs

@@ -3,6 +3,8 @@ use Rattle.std.specs.Prelude.{◌≡◌, ℕ, ◌<◌, ◌^◌, true, List, Some
 use Rattle.std.specs.List.{AllByRecursion}
 use Rattle.vg_base.specs.Bits.{bits_of_bytes}
 use Rattle.vg_plans.specs.World.{inserted as inserted_into, recipe_cost}
+use Rattle.vg_program.specs.Valid.{IsConstant}
+use Rattle.vg_program.specs.Vectors.{constant_bits}
 use Rattle.vg_shapes.specs.declared.match_table.Match.{Match}
 use Rattle.vg_shapes.specs.declared.operand.Operand.{Operand}
 use Rattle.vg_shapes.specs.declared.pack.Pack.{Pack as Packed}
@@ -11,7 +13,7 @@ use Rattle.vg_shapes.specs.Description.{Description, IsPackable}
 use Rattle.vg_shapes.specs.Operands.{IsOperand}
 use Rattle.vg_shapes.specs.Order.{Stands}
 use Rattle.vg_shapes.specs.Sound.{value_bits}
-use Rattle.vg_packing.specs.Held.{holds}
+use Rattle.vg_packing.specs.Held.{holds, register_of}
 use Rattle.vg_packing.specs.Packing.{packing}
 use Rattle.vg_packing.specs.Wants.{is_constant, wanted_values}
 use Rattle.vg_emit.specs.Costs.{AreCounted, cost_of_recipe}
@@ -95,3 +97,15 @@ PlansTakeGiven =
     AllByRecursion IsPackable ds →
     AllByRecursion (IsOperand ssa) (operands_in ds matches ssa packs) →
     AllTakeGiven (job_of ds matches ssa packs (recipes_of ds matches ssa packs))
+
+-- the constants of a sound operand are those of a register as wide as the operand
+abbrev pub ConstantsFit : Type 0
+ConstantsFit =
+    (ssa : Ssa) (o : Operand) → IsOperand ssa o →
+    IsConstant (constant_bytes o) × (constant_bits (length (constant_bytes o)) ≡ o.register)
+
+-- the register of a pack is as wide as each operand that the pack holds
+abbrev pub HoldersFit : Type 0
+HoldersFit =
+    (ds : List Description) (ssa : Ssa) (p : Packed) (o : Operand) → holds ds ssa p o ≡ true →
+    register_of ds ssa p ≡ o.register

@@ -1,6 +1,6 @@
 //! What recipes promise of operands.
 
-ghost use Rattle.vg_gather.specs.Laws.{ConstantsFill, HoldersFill, HoldersGive, InsertsFill, PlansCountRecipes, PlansTakeGiven, RecipesCostThePlan, RecipesInsertThePlan, RecipesTakeGiven};
+ghost use Rattle.vg_gather.specs.Laws.{ConstantsFill, ConstantsFit, HoldersFill, HoldersFit, HoldersGive, InsertsFill, PlansCountRecipes, PlansTakeGiven, RecipesCostThePlan, RecipesInsertThePlan, RecipesTakeGiven};
 
 /// A law that costs nothing to call: a register of the constants of a sound operand, with the values
 /// that it wants put in, fills it.
@@ -48,4 +48,14 @@ pub fn plans_count_recipes()
 /// stands in registers before.
 pub fn plans_take_given()
     ensures { PlansTakeGiven }
+{}
+
+/// A law: the constants of a sound operand are those of a register as wide as the operand.
+pub fn constants_fit()
+    ensures { ConstantsFit }
+{}
+
+/// A law: the register of a pack is as wide as each operand that the pack holds.
+pub fn holders_fit()
+    ensures { HoldersFit }
 {}

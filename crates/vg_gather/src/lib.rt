@@ -9,6 +9,7 @@
 mod law;
 
 pub use law::{
-    constants_fill, holders_fill, holders_give, inserts_fill, plans_count_recipes,
-    plans_take_given, recipes_cost_the_plan, recipes_insert_the_plan, recipes_take_given,
+    constants_fill, constants_fit, holders_fill, holders_fit, holders_give, inserts_fill,
+    plans_count_recipes, plans_take_given, recipes_cost_the_plan, recipes_insert_the_plan,
+    recipes_take_given,
 };
