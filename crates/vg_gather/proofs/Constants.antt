@@ -8,7 +8,7 @@ use Rattle.vg_shapes.specs.declared.ssa.Ssa.{Ssa}
 use Rattle.vg_shapes.specs.declared.wanted.Wanted.{Wanted}
 use Rattle.vg_shapes.specs.declared.wanted.Wanted.TheVariants.{Value, Constant, Nothing}
 use Rattle.vg_shapes.specs.Operands.{AreSlots, MayBeWanted}
-use Rattle.vg_emit.specs.Emission.{constant_of, constants_of}
+use Rattle.vg_emission.specs.Emission.{constant_of, constants_of}
 
 -- the constant that is wanted, 0 where none is
 abbrev pub digit_of : Wanted → ℕ

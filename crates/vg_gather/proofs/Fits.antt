@@ -8,7 +8,7 @@ use Rattle.vg_bits.proofs.ByteLists.{IsBytes-bytes, length-bytes}
 use Rattle.vg_program.specs.Vectors.{constant_bits, is_register_size}
 use Rattle.vg_packing.specs.Held.{register_of}
 use Rattle.vg_packing.proofs.SameTests.{both-true}
-use Rattle.vg_emit.specs.Emission.{constant_bytes, constants_of}
+use Rattle.vg_emission.specs.Emission.{constant_bytes, constants_of}
 use Rattle.vg_gather.specs.Laws.{ConstantsFit, HoldersFit}
 
 are-bytes : (bs : List ℕ) → IsBytes bs → AllByRecursion (λ x. x < 256) bs

@@ -18,8 +18,8 @@ use Rattle.vg_packing.specs.SameAs.{same_slot}
 use Rattle.vg_packing.specs.Wants.{is_wanted, slot, value_of, wants_value}
 use Rattle.vg_packing.proofs.SameTests.{both-true, slot-is}
 use Rattle.vg_order_laws.proofs.Sequences.{counts-itself}
-use Rattle.vg_emit.specs.Planned.{values_of}
-use Rattle.vg_emit.specs.Promises.{IsWanted, LanesHave, SlotHas}
+use Rattle.vg_emission.specs.Planned.{values_of}
+use Rattle.vg_emission.specs.Promises.{IsWanted, LanesHave, SlotHas}
 use Rattle.vg_gather.specs.Laws.{HoldersFill, HoldersGive}
 
 -- ---- a slot among those of lanes

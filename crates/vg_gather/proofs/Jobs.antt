@@ -6,9 +6,9 @@ use Rattle.std.proofs.lemmas.List.{get_or-map, length-map}
 use Rattle.vg_shapes.specs.declared.operand.Operand.{Operand}
 use Rattle.vg_packing.specs.declared.recipe.Recipe.{Recipe}
 use Rattle.vg_packing.specs.declared.recipe.Recipe.TheVariants as recipe
-use Rattle.vg_emit.specs.Costs.{cost_of_recipe}
-use Rattle.vg_emit.specs.Planned.{TakesGiven}
-use Rattle.vg_emit.specs.Program.{inserted_by, job_of, operands_in}
+use Rattle.vg_emission.specs.Costs.{cost_of_recipe}
+use Rattle.vg_emission.specs.Planned.{TakesGiven}
+use Rattle.vg_emission.specs.Program.{inserted_by, job_of, operands_in}
 use Rattle.vg_gather.specs.Laws.{PlansCountRecipes, PlansTakeGiven}
 use Rattle.vg_gather.specs.Recipes.{recipe_of, recipes_of}
 use Rattle.vg_gather.proofs.Prices.{recipes-cost-the-plan, recipes-insert-the-plan}

@@ -21,9 +21,9 @@ use Rattle.vg_packing.specs.Packing.{packing}
 use Rattle.vg_packing.specs.Shuffles.{is_lane_slot, is_shuffle, moved_from, parts_from, shuffle_of}
 use Rattle.vg_packing.specs.Wants.{is_constant, is_wanted, slot, value_of, wanted_slots, wanted_values}
 use Rattle.vg_packing.proofs.SameTests.{both-true}
-use Rattle.vg_emit.specs.Costs.{cost_of_recipe}
-use Rattle.vg_emit.specs.Emission.{constant_bytes, no_description}
-use Rattle.vg_emit.specs.Program.{inserted_by}
+use Rattle.vg_emission.specs.Costs.{cost_of_recipe}
+use Rattle.vg_emission.specs.Emission.{constant_bytes, no_description}
+use Rattle.vg_emission.specs.Program.{inserted_by}
 use Rattle.vg_gather.specs.Laws.{RecipesCostThePlan, RecipesInsertThePlan}
 use Rattle.vg_gather.specs.Recipes.{can_be_had, description_in, holder, ready_from, shuffled}
 

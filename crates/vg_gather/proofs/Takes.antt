@@ -23,8 +23,8 @@ use Rattle.vg_packing.specs.Shuffles.{moved_from, moved_leaf, parts_from}
 use Rattle.vg_packing.specs.Wants.{is_constant, is_wanted, slot, value_of, wanted_slots, wanted_values, wants_value}
 use Rattle.vg_packing.proofs.SameTests.{both-true}
 use Rattle.vg_order_laws.proofs.Sequences.{counts-itself}
-use Rattle.vg_emit.specs.Emission.{constant_bytes, Job}
-use Rattle.vg_emit.specs.Planned.{TakesGiven}
+use Rattle.vg_emission.specs.Emission.{constant_bytes, Job}
+use Rattle.vg_emission.specs.Planned.{TakesGiven}
 use Rattle.vg_gather.specs.Laws.{GivesWanted, RecipesTakeGiven}
 use Rattle.vg_gather.specs.Recipes.{can_be_had, description_in, holder, packs_from, packs_of, part, ready_from, shuffled, spare}
 use Rattle.vg_gather.proofs.Held.{holders-give}

@@ -16,11 +16,11 @@ use Rattle.vg_shapes.specs.Sound.{value_bits}
 use Rattle.vg_packing.specs.Held.{holds, register_of}
 use Rattle.vg_packing.specs.Packing.{packing}
 use Rattle.vg_packing.specs.Wants.{is_constant, wanted_values}
-use Rattle.vg_emit.specs.Costs.{AreCounted, cost_of_recipe}
-use Rattle.vg_emit.specs.Emission.{Job, constant_bytes, operand_at, recipe_at, value_slots}
-use Rattle.vg_emit.specs.Planned.{TakesGiven, values_of}
-use Rattle.vg_emit.specs.Program.{inserted_by, job_of, operands_in}
-use Rattle.vg_emit.specs.Promises.{Fills, Holds, inserted}
+use Rattle.vg_emission.specs.Costs.{AreCounted, cost_of_recipe}
+use Rattle.vg_emission.specs.Emission.{Job, constant_bytes, operand_at, recipe_at, value_slots}
+use Rattle.vg_emission.specs.Planned.{TakesGiven, values_of}
+use Rattle.vg_emission.specs.Program.{inserted_by, job_of, operands_in}
+use Rattle.vg_emission.specs.Promises.{Fills, Holds, inserted}
 use Rattle.vg_gather.specs.Recipes.{recipe_of, recipes_of}
 
 -- the number of each value of a kernel is below 2 to the value's width

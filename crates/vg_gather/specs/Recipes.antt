@@ -13,8 +13,8 @@ use Rattle.vg_packing.specs.declared.recipe.Recipe.TheVariants as recipe
 use Rattle.vg_packing.specs.Held.{holds}
 use Rattle.vg_packing.specs.Shuffles.{moved_from, parts_from, shuffle_of}
 use Rattle.vg_packing.specs.Wants.{is_constant, wanted_slots}
-use Rattle.vg_emit.specs.Emission.{constant_bytes, no_description}
-use Rattle.vg_emit.specs.Program.{operands_in}
+use Rattle.vg_emission.specs.Emission.{constant_bytes, no_description}
+use Rattle.vg_emission.specs.Program.{operands_in}
 
 -- the index of the first pack that holds an operand; the number of packs where none does
 abbrev pub holder : List Description → Ssa → List Packed → Operand → ℕ

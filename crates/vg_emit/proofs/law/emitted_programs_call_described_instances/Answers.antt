@@ -1,5 +1,0 @@
-use Rattle.vg_emit.proofs.Described.{emitted-calls-described}
-use Rattle.vg_emit.proofs.law.emitted_programs_call_described_instances.Goals as goal
-
-pub returns : goal.returns
-returns c = emitted-calls-described

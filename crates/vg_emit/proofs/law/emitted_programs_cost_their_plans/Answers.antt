@@ -1,5 +1,0 @@
-use Rattle.vg_emit.proofs.PlanTotals.{emitted-costs-the-plan}
-use Rattle.vg_emit.proofs.law.emitted_programs_cost_their_plans.Goals as goal
-
-pub returns : goal.returns
-returns c = emitted-costs-the-plan

@@ -1,5 +1,0 @@
-use Rattle.vg_emit.proofs.Meanings.{emitted-means-units}
-use Rattle.vg_emit.proofs.law.emitted_programs_mean_their_units.Goals as goal
-
-pub returns : goal.returns
-returns c = emitted-means-units

@@ -1,5 +1,0 @@
-use Rattle.std.proofs.Common.{refl}
-use Rattle.vg_emit.proofs.law.two_words_are_two_lines.Goals as goal
-
-pub returns : goal.returns
-returns c = refl
