@@ -6,4 +6,5 @@ pub mod Laws
 pub mod Planned
 pub mod Program
 pub mod Promises
+pub mod Truth
 pub mod TwoWords
