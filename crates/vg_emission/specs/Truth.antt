@@ -1,13 +1,26 @@
--- When a description is true of what calls give.
-use Rattle.std.specs.Prelude.{◌≡◌, ℕ, ◌+◌, List, [], ◌∷◌, length, map}
+-- Which descriptions packs may call, and when one is true of what calls give.
+use Rattle.std.specs.Prelude.{◌≡◌, ℕ, ◌+◌, List, [], ◌∷◌, length, map, nat_eq, IsTrue}
+use Rattle.std.specs.List.{AllByRecursion, list_any}
 use Rattle.vg_bits.specs.BitList.{IsBits}
 use Rattle.vg_program.specs.Meaning.{Instructions, lane_number}
-use Rattle.vg_shapes.specs.Description.{Description}
+use Rattle.vg_shapes.specs.Description.{Description, IsPackable}
 use Rattle.vg_shapes.specs.Registers.{AllBits, env_of}
 use Rattle.vg_terms.specs.declared.value.Env.{Env}
 use Rattle.vg_terms.specs.Term.{Tree}
 use Rattle.vg_terms.specs.Value.{value}
+use Rattle.vg_emission.specs.Planned.{IsLaneWidth}
 use Rattle.vg_emission.specs.Promises.{answer}
+
+-- the width of a register
+abbrev pub IsRegisterWidth : ℕ → Type 0
+IsRegisterWidth n = IsTrue (list_any (nat_eq n) (128 ∷ 256 ∷ 512 ∷ []))
+
+-- a description that is packable, with lanes and registers of the widths that there are
+pub record IsCallable (d : Description) : Type 0 where
+  pub packable : IsPackable d
+  pub lane : IsLaneWidth d.lane_width
+  pub register : IsRegisterWidth d.register
+  pub params : AllByRecursion IsRegisterWidth d.params
 
 -- registers for parameters of these widths
 pub record AreRegisters (widths : List ℕ) (registers : List (List ℕ)) : Type 0 where
