@@ -1,0 +1,84 @@
+-- Numbers marked one list after the other.
+use Rattle.std.proofs.Common.{◌≡◌, ℕ, zero, suc, ◌+◌, ◌<◌, ◌≤◌, Bool, true, false, List, [], ◌∷◌, ◌++◌, length, get_or, take, refl, sym, ◌∙◌, ap, subst, inl, inr, arith, get_or-set_same, get_or-set_other}
+use Rattle.std.specs.Prelude.{set, nat_eq, ◌||◌, replicate}
+use Rattle.std.proofs.lemmas.List.{length-set, length-replicate, take_all, take_more}
+use Rattle.std.proofs.lemmas.List.Folds.{list_any-append}
+use Rattle.std.proofs.lemmas.Bool.{cases_Bool}
+use Rattle.std.proofs.lemmas.Bool.Decides.{nat_tests}
+use Rattle.vg_plans.specs.World.{is_in}
+use Rattle.vg_cost.specs.Marks.{Has, Marked}
+
+get_or_clear : (n v : ℕ) → get_or (replicate n false) v false ≡ false
+get_or_clear zero v = refl
+get_or_clear (suc n) zero = refl
+get_or_clear (suc n) (suc v) = get_or_clear n v
+
+pub marked_none : (marks : List Bool) → Marked [] marks marks
+marked_none marks = record { long = refl; each = λ v h. refl }
+
+or-swap : (a b c : Bool) → a || (b || c) ≡ (b || a) || c
+or-swap true true c = refl
+or-swap true false c = refl
+or-swap false true c = refl
+or-swap false false c = refl
+
+pub marked_more : (xs ys : List ℕ) (a b c : List Bool) → Marked xs a b → Marked ys b c → Marked (xs ++ ys) a c
+marked_more xs ys a b c p q = record {
+  long = q.long ∙ p.long;
+  each = λ v h.
+      let inside : v < length b = let l = p.long in omega arith in
+      q.each v inside ∙ ap (λ t. is_in v ys || t) (p.each v h) ∙ or-swap (is_in v ys) (is_in v xs) (get_or a v false)
+      ∙ ap (λ t. t || get_or a v false) (sym (list_any-append (nat_eq v) xs ys));
+}
+
+or-false : (b : Bool) → (b || false) ≡ b
+or-false true = refl
+or-false false = refl
+
+pub marked_set : (marks new : List Bool) (x : ℕ) → x < length marks → new ≡ set marks x true → Marked (x ∷ []) marks new
+marked_set marks new x inside e = subst (Marked (x ∷ []) marks) (sym e) (record {
+  long = length-set marks x true;
+  each = λ v h. elim (cases_Bool (nat_eq v x)) [
+    | inl t ↦
+        let same : x ≡ v = grind (arith, nat_tests, t) in
+        let here : get_or (set marks x true) v false ≡ true = subst (λ z. get_or (set marks x true) z false ≡ true) same (get_or-set_same marks x true false inside) in
+        here ∙ sym (ap (λ b. (b || false) || get_or marks v false) t)
+    | inr f ↦
+        let ne : v ≡ x → ⊥ = λ e. grind (arith, nat_tests, f, e) in
+        get_or-set_other marks x v true false ne ∙ sym (ap (λ b. (b || false) || get_or marks v false) f)
+  ];
+})
+
+pub marked_past : (marks new : List Bool) (x : ℕ) → length marks ≤ x → new ≡ marks → Marked (x ∷ []) marks new
+marked_past marks new x past e = subst (Marked (x ∷ []) marks) (sym e) (record {
+  long = refl;
+  each = λ v h.
+      let ne : v ≡ x → ⊥ = λ e. absurd (omega arith) in
+      let f : nat_eq v x ≡ false = grind (arith, nat_tests, ne, h, past) in
+      sym (ap (λ b. (b || false) || get_or marks v false) f);
+})
+
+pub marked_step : {X : Type 0} (F : List X → List ℕ) (xs : List X) (k : ℕ) (x d : X) (a b c : List Bool)
+    → ((ys zs : List X) → F (ys ++ zs) ≡ F ys ++ F zs) → k < length xs → x ≡ get_or xs k d
+    → Marked (F (take k xs)) a b → Marked (F (x ∷ [])) b c → Marked (F (take (k + 1) xs)) a c
+marked_step F xs k x d a b c app inside is p q =
+    let whole : take (k + 1) xs ≡ take k xs ++ x ∷ [] =
+    take_more xs k d inside ∙ ap (λ y. take k xs ++ y ∷ []) (sym is)
+    in
+    subst (λ ys. Marked (F ys) a c) (sym whole)
+    (subst (λ l. Marked l a c) (sym (app (take k xs) (x ∷ []))) (marked_more (F (take k xs)) (F (x ∷ [])) a b c p q))
+
+pub marked_all : {X : Type 0} (F : List X → List ℕ) (xs : List X) (k : ℕ) (a b : List Bool)
+    → length xs ≤ k → Marked (F (take k xs)) a b → Marked (F xs) a b
+marked_all F xs k a b past p = subst (λ ys. Marked (F ys) a b) (take_all k xs past) p
+
+-- marks that were all clear
+pub has_marked : (count : ℕ) (list : List ℕ) (clear marks : List Bool) → clear ≡ replicate count false
+    → Marked list clear marks → Has count list marks
+has_marked count list clear marks e m = record {
+  long = m.long ∙ ap length e ∙ length-replicate count false;
+  each = λ v h.
+      let inside : v < length clear = let l = ap length e ∙ length-replicate count false in omega arith in
+      let none : get_or clear v false ≡ false = ap (λ l. get_or l v false) e ∙ get_or_clear count v in
+      m.each v inside ∙ ap (λ b. is_in v list || b) none ∙ or-false (is_in v list);
+}

@@ -1,0 +1,3 @@
+pub mod Had
+pub mod Lines
+pub mod Marks

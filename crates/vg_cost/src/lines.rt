@@ -1,0 +1,137 @@
+//! The units and extracts that are written as scalars.
+
+ghost use Rattle.std.specs.Prelude.{◌≡◌, ◌+◌, ◌<◌, ℕ, [], ◌∷◌, IfOk, filter, filter_map, flat_map, get_or, false, is_some, length};
+ghost use Rattle.vg_cost.specs.Lines.{Lines, is_written, line_of, values_of};
+ghost use Rattle.vg_cost.specs.Marks.{Has, Marked};
+ghost use Rattle.vg_packing.specs.Packing.{falling_units, packing, used_by};
+ghost use Rattle.vg_packing.specs.Wants.{value_of};
+ghost use Rattle.vg_plans.specs.World.{scalar_lines};
+ghost use Rattle.vg_shapes.specs.Pack.{units_of};
+ghost use Rattle.vg_shapes.specs.Units.{arguments, unit_at};
+
+use crate::marks::{mark, packed_marks, value_marks};
+use crate::price::plus;
+use std::alloc::{AllocError, Global};
+use vg_packing::units::unit_at;
+use vg_packing::wants::value_of;
+use vg_shapes::{Pack, Ssa, Unit, Wanted};
+
+/// Marks a value, if one is wanted.
+fn mark_wanted(needed: &mut [bool], wanted: Wanted)
+    ensures { Marked (filter_map value_of (wanted ∷ [])) needed.old needed.new }
+{
+    match value_of(wanted) {
+        None => {}
+        Some(value) => mark(needed, value),
+    }
+}
+
+/// Marks the values that are wanted.
+fn mark_wants(needed: &mut [bool], wanted: &[Wanted])
+    ensures { Marked (filter_map value_of wanted.now) needed.old needed.new }
+{
+    'wanted: for x in wanted {
+        mark_wanted(needed, *x);
+    }
+}
+
+/// Marks the values that a unit uses.
+fn mark_used(needed: &mut [bool], unit: Unit)
+    ensures { Marked (used_by (Some unit)) needed.old needed.new }
+{
+    match unit {
+        Unit::Load { .. } => {}
+        Unit::Store { value, .. } => mark_wants(needed, &[value]),
+        Unit::Operation { operands, .. } => {
+            mark_wants(needed, &[operands.first, operands.second, operands.third])
+        }
+    }
+}
+
+/// Whether a unit that is in no pack is emitted: it is an access, or its value is needed.
+fn is_written(unit: Unit, packed: bool, needed: bool) -> bool
+    ensures { result ≡ is_written unit packed needed }
+{
+    !packed && (unit.access().is_some() || needed)
+}
+
+/// Marks what a unit uses where it is emitted.
+fn mark_written(marks: &mut [bool], unit: Unit, packed: bool, needed: bool)
+    ensures { Marked (values_of (Some unit) packed needed) marks.old marks.new }
+{
+    if is_written(unit, packed, needed) {
+        mark_used(marks, unit);
+    }
+}
+
+/// The lines of a unit: 1 where it is emitted or its value is extracted, else 0.
+fn line_of(unit: Unit, packed: bool, needed: bool) -> u64
+    ensures { result ≡ line_of (Some unit) packed needed }
+{
+    if is_written(unit, packed, needed) {
+        1
+    } else if packed && needed {
+        1
+    } else {
+        0
+    }
+}
+
+/// The lines of the unit of a number, if it is that of one. Marks what it uses where it is emitted.
+fn visit(marks: &mut [bool], unit: Option<Unit>, packed: bool, needed: bool) -> u64
+    ensures lines { result ≡ line_of unit packed needed }
+    ensures marks { Marked (values_of unit packed needed) marks.old marks.new }
+{
+    match unit {
+        None => 0,
+        Some(unit) => {
+            mark_written(marks, unit, packed, needed);
+            line_of(unit, packed, needed)
+        }
+    }
+}
+
+/// The lines of the units below a number, from the last down. Marks the values that are needed.
+fn lines_below(ssa: &Ssa, packed: &[bool], marks: &mut [bool], end: u32) -> Result<u64, AllocError>
+    requires packed_long { length packed.now ≡ end }
+    requires marks_long { length marks.old ≡ end }
+    ensures { IfOk result (λ c. Lines ssa.now packed.now marks.old end c) }
+{
+    let mut lines = 0u64;
+    let mut left = end;
+    'units: while left > 0 {
+        left -= 1;
+        let is_packed = packed[left as usize];
+        let is_needed = marks[left as usize];
+        let line = visit(marks, unit_at(ssa, left), is_packed, is_needed);
+        lines = plus(lines, line)?;
+    }
+    Ok(lines)
+}
+
+/// The first number behind those of all units, or want of memory where it has more than 32 bits.
+fn end_of_units(ssa: &Ssa) -> Result<u32, AllocError>
+    ensures { IfOk result (λ end. end ≡ arguments ssa.now + length ssa.now.units) }
+{
+    let count = ssa.units.as_slice().len();
+    match u32::try_from(ssa.arguments().saturating_add(count)) {
+        Ok(end) => Ok(end),
+        Err(_) => Err(AllocError),
+    }
+}
+
+/// The units of a kernel that are emitted, and the values of packs that are extracted, where inserts take
+/// these values.
+pub(crate) fn scalar_lines(
+    alloc: Global,
+    ssa: &Ssa,
+    packs: &[Pack],
+    inserted: &[u32],
+) -> Result<u64, AllocError>
+    ensures { IfOk result (λ c. c ≡ scalar_lines (packing [] [] ssa.now []) packs.now inserted.now (falling_units ssa.now)) }
+{
+    let end = end_of_units(ssa)?;
+    let packed = packed_marks(alloc, end as usize, packs)?;
+    let mut needed = value_marks(alloc, end as usize, inserted)?;
+    lines_below(ssa, packed.as_slice(), needed.as_mut_slice(), end)
+}
