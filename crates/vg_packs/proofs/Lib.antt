@@ -1,10 +1,14 @@
 pub mod Chains
 pub mod Counts
 pub mod Cycles
+pub mod Following
+pub mod Free
 pub mod LaneLists
 pub mod Listed
 pub mod LoadLists
 pub mod Making
 pub mod NodeUnits
+pub mod Once
 pub mod Placing
 pub mod Pushes
+pub mod Turns

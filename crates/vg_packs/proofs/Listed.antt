@@ -23,7 +23,7 @@ use Rattle.vg_shapes.specs.declared.wanted.Wanted.{Wanted}
 use Rattle.vg_shapes.specs.Order.{numbers_from}
 use Rattle.vg_shapes.specs.Pack.{AreStores, HaveRank, behind, is_pack_size, stores_before, stores_to}
 use Rattle.vg_shapes.specs.Units.{arguments, is_unit, unit_at}
-use Rattle.vg_packs.specs.Laws.{GroupsAreListed, IsGroup}
+use Rattle.vg_packs.specs.Laws.{IsGroup}
 use Rattle.vg_packs.proofs.Chains.{length-stores, own-place}
 use Rattle.vg_packs.proofs.Counts.{count_below, lt-is, none-below, nth-kept}
 use Rattle.vg_packs.proofs.Cycles.{unit-inside}
@@ -35,7 +35,7 @@ get-has x [] (suc k) e = absurd (cc)
 get-has x (y ∷ xs) zero e = inl (cc)
 get-has x (y ∷ xs) (suc k) e = inr (get-has x xs k e)
 
-from-first : (u f n : ℕ) → Has u (numbers_from f n) → f ≤ u
+pub from-first : (u f n : ℕ) → Has u (numbers_from f n) → f ≤ u
 from-first u f zero h = absurd h
 from-first u f (suc n) h = elim h [
   | inl e ↦ omega (arith, e)
@@ -115,20 +115,22 @@ stores-ranked ssa w r (suc n) a t =
     ranked-first ssa w a r (slice_get (stores_at ssa a w) r) (stores_from ssa (behind a (size_of w)) w r n) refl t
     (stores-ranked ssa w r n (behind a (size_of w)))
 
-length-all : (found : List (Option ℕ)) → list_all is_some found ≡ true → length (filter_map (λ u. u) found) ≡ length found
+pub length-all : (found : List (Option ℕ)) → list_all is_some found ≡ true → length (filter_map (λ u. u) found) ≡ length found
 length-all [] t = refl
 length-all (None ∷ found) t = absurd (cc)
 length-all (Some u ∷ found) t = let h = length-all found t in omega (arith, h)
 
 -- what is as wide as a size is that size
-abbrev Fills : ℕ → Type 0
-Fills size = (w : Width) → 2 ≤ size / size_of w → IsTrue (is_pack_size (size / size_of w * size_of w))
+abbrev pub Fills : ℕ → Type 0
+Fills size =
+    (w : Width) → 2 ≤ size / size_of w
+    → (size / size_of w * size_of w ≡ size) × IsTrue (is_pack_size size)
 
-if-one : (b : Bool) (q p : Packed) → Has p (if b then q ∷ [] else []) → (b ≡ true) × (q ≡ p)
+pub if-one : (b : Bool) (q p : Packed) → Has p (if b then q ∷ [] else []) → (b ≡ true) × (q ≡ p)
 if-one true q p h = elim h [ inl e ↦ (refl, e) | inr n ↦ absurd n ]
 if-one false q p h = absurd h
 
-group-right : (ssa : Ssa) (size v : ℕ) (u : Option Work) (p : Packed) → Fills size → Has p (group_of ssa size v u) → IsGroup ssa p
+pub group-right : (ssa : Ssa) (size v : ℕ) (u : Option Work) (p : Packed) → Fills size → Has p (group_of ssa size v u) → IsGroup ssa p
 group-right ssa size v None p f h = absurd h
 group-right ssa size v (Some (Load a w)) p f h = absurd h
 group-right ssa size v (Some (Operation op w k xs)) p f h = absurd h
@@ -144,41 +146,41 @@ group-right ssa size v (Some (Store a w x)) p f h =
     let l : 2 ≤ length us = let m = length-all found b.1 in grind (arith, nat_tests, b.0, m) in
     let two : 2 ≤ n = omega (arith, l, e) in
     let sized : IsTrue (is_pack_size (length us * size_of w)) =
-    subst (λ m. IsTrue (is_pack_size (m * size_of w))) (sym e) (f w two)
+    subst (λ m. IsTrue (is_pack_size m)) (sym (ap (λ m. m * size_of w) e ∙ (f w two).0)) (f w two).1
     in
     subst (IsGroup ssa) k.1 (w, a, s.0, r, s.1, s.2, l, sized)
 
 fills-64 : Fills 64
-fills-64 W8 l = refl
-fills-64 W16 l = refl
-fills-64 W32 l = refl
-fills-64 W64 l = refl
+fills-64 W8 l = (refl, refl)
+fills-64 W16 l = (refl, refl)
+fills-64 W32 l = (refl, refl)
+fills-64 W64 l = (refl, refl)
 
 fills-32 : Fills 32
-fills-32 W8 l = refl
-fills-32 W16 l = refl
-fills-32 W32 l = refl
-fills-32 W64 l = refl
+fills-32 W8 l = (refl, refl)
+fills-32 W16 l = (refl, refl)
+fills-32 W32 l = (refl, refl)
+fills-32 W64 l = (refl, refl)
 
 fills-16 : Fills 16
-fills-16 W8 l = refl
-fills-16 W16 l = refl
-fills-16 W32 l = refl
-fills-16 W64 l = refl
+fills-16 W8 l = (refl, refl)
+fills-16 W16 l = (refl, refl)
+fills-16 W32 l = (refl, refl)
+fills-16 W64 l = (refl, refl)
 
 fills-8 : Fills 8
-fills-8 W8 l = refl
-fills-8 W16 l = refl
-fills-8 W32 l = refl
-fills-8 W64 l = refl
+fills-8 W8 l = (refl, refl)
+fills-8 W16 l = (refl, refl)
+fills-8 W32 l = (refl, refl)
+fills-8 W64 l = absurd (omega arith)
 
 fills-4 : Fills 4
-fills-4 W8 l = refl
-fills-4 W16 l = refl
-fills-4 W32 l = refl
+fills-4 W8 l = (refl, refl)
+fills-4 W16 l = (refl, refl)
+fills-4 W32 l = (refl, refl)
 fills-4 W64 l = absurd (omega arith)
 
-fills-all : (size : ℕ) → Has size (64 ∷ 32 ∷ 16 ∷ 8 ∷ 4 ∷ []) → Fills size
+pub fills-all : (size : ℕ) → Has size (64 ∷ 32 ∷ 16 ∷ 8 ∷ 4 ∷ []) → Fills size
 fills-all size h = elim h [
   | inl e ↦ subst Fills e fills-64
   | inr h1 ↦ elim h1 [
@@ -198,13 +200,13 @@ fills-all size h = elim h [
 
 -- ---- the other way
 
-unit-number : (ssa : Ssa) (v : ℕ) → is_unit ssa v ≡ true → arguments ssa ≤ v
+pub unit-number : (ssa : Ssa) (v : ℕ) → is_unit ssa v ≡ true → arguments ssa ≤ v
 unit-number ssa v t = elim (cases_Bool (nat_lt v (arguments ssa))) [
   | inl e ↦ absurd (let f : is_unit ssa v ≡ false = rw e refl in cc)
   | inr f ↦ grind (arith, nat_tests, f)
 ]
 
-found-there : (ssa : Ssa) (a : Address) (w : Width) (x : Wanted) (k u : ℕ) → unit_at ssa u ≡ Some (Store a w x)
+pub found-there : (ssa : Ssa) (a : Address) (w : Width) (x : Wanted) (k u : ℕ) → unit_at ssa u ≡ Some (Store a w x)
     → stores_before ssa a w u ≡ k → slice_get (stores_at ssa a w) k ≡ Some u
 found-there ssa a w x k u e r =
     let test : ℕ → Bool = λ v. stores_to a w (unit_at ssa v) in
@@ -271,7 +273,7 @@ size-listed n t = elim (in-has n (4 ∷ 8 ∷ 16 ∷ 32 ∷ 64 ∷ []) t) [
   ]
 ]
 
-group-made : (ssa : Ssa) (us : List ℕ) (w : Width) (a : Address) (xs : List Wanted) (k : ℕ) → AreStores ssa w a us xs
+pub group-made : (ssa : Ssa) (us : List ℕ) (w : Width) (a : Address) (xs : List Wanted) (k : ℕ) → AreStores ssa w a us xs
     → HaveRank ssa w a k us → 2 ≤ length us → IsTrue (is_pack_size (length us * size_of w))
     → Has (Stores us) (store_groups ssa)
 group-made ssa [] w a xs k s r l z = absurd (omega (arith, l))
@@ -288,12 +290,3 @@ group-made ssa (u ∷ us) w a (x ∷ xs) k s r l z =
     has-flat_map (groups_of ssa) size (Stores (u ∷ us)) (64 ∷ 32 ∷ 16 ∷ 8 ∷ 4 ∷ []) (size-listed size z)
     (has-flat_map (λ v. group_of ssa size v (unit_at ssa v)) u (Stores (u ∷ us)) (unit_numbers ssa) there
     (group-there ssa size u (unit_at ssa u) a w x (u ∷ us) s.0 found l))
-
-pub groups-listed : (ssa : Ssa) → GroupsAreListed ssa
-groups-listed ssa = record {
-  right = λ p h.
-      let size = from-flat_map (groups_of ssa) p (64 ∷ 32 ∷ 16 ∷ 8 ∷ 4 ∷ []) h in
-      let first = from-flat_map (λ v. group_of ssa size.0 v (unit_at ssa v)) p (unit_numbers ssa) size.2 in
-      group-right ssa size.0 first.0 (unit_at ssa first.0) p (fills-all size.0 size.1) first.2;
-  whole = λ us g. group-made ssa us g.0 g.1 g.2 g.3 g.4 g.5 g.6 g.7;
-}

@@ -2,4 +2,5 @@ pub mod Lanes
 pub mod Laws
 pub mod Making
 pub mod Placed
+pub mod Plain
 pub mod Walk

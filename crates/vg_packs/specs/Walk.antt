@@ -1,5 +1,5 @@
 -- Ways from units down to those of a pack.
-use Rattle.std.specs.Prelude.{◌≡◌, ℕ, ◌+◌, ◌⊎◌, Bool, true, false, List, [], ◌∷◌, length, get_or, nat_eq, Option, Some, None, flat_map, if◌then◌else◌}
+use Rattle.std.specs.Prelude.{◌≡◌, ◌<◌, ℕ, ◌+◌, ◌⊎◌, Bool, true, false, List, [], ◌∷◌, length, get_or, nat_eq, Option, Some, None, flat_map, if◌then◌else◌}
 use Rattle.std.specs.List.{list_any}
 use Rattle.vg_plans.specs.Members.{Has}
 use Rattle.vg_plans.specs.World.{has_no_cycle, is_in}
@@ -32,6 +32,15 @@ node_needs matches ssa deps plan v =
 -- a list of dependences names units
 abbrev pub NameUnits : Ssa → List (ℕ × ℕ) → Type 0
 NameUnits ssa deps = (later earlier : ℕ) → is_listed deps later earlier ≡ true → is_unit ssa earlier ≡ true
+
+-- each dependence that it lists is on an earlier number
+abbrev pub NameEarlier : List (ℕ × ℕ) → Type 0
+NameEarlier deps = (later earlier : ℕ) → is_listed deps later earlier ≡ true → earlier < later
+
+-- a list of dependences names earlier units alone
+pub record NameEarlierUnits (ssa : Ssa) (deps : List (ℕ × ℕ)) : Type 0 where
+  pub units : NameUnits ssa deps
+  pub earlier : NameEarlier deps
 
 -- a plan has no cycle
 abbrev pub IsFree : List Match → Ssa → List (ℕ × ℕ) → List Packed → Type 0

@@ -1,19 +1,24 @@
-//! Packs and plans of kernels: the store groups of a kernel, the packs that produce an operand, and
-//! whether a plan stays one with a pack behind it.
+//! Packs and plans of kernels: the store groups of a kernel, the packs that produce an operand, whether a
+//! plan stays one with a pack behind it, which packs may follow it, and the plain plan.
 //!
 //! `specs/Placed.antt` says how the stores of a kernel are linked to those beside them in memory.
 #![tactic(auto)]
 
+mod follows;
 mod groups;
 mod lanes;
 mod law;
 mod loads;
 mod needs;
 mod placed;
+mod plain;
 mod producing;
+mod taking;
 mod walk;
 
+pub use follows::{compatible, tried};
 pub use groups::store_groups;
-pub use law::store_groups_are_listed;
+pub use law::{dependences_are_earlier, store_groups_are_listed};
+pub use plain::plain_plan;
 pub use producing::producers;
 pub use walk::stays_plan;

@@ -1,4 +1,4 @@
-use Rattle.vg_packs.proofs.Listed.{groups-listed}
+use Rattle.vg_packs.proofs.Once.{groups-listed}
 use Rattle.vg_packs.proofs.law.store_groups_are_listed.Goals as goal
 
 pub returns : goal.returns

@@ -1,0 +1,10 @@
+-- Turns of the plain plan.
+use Rattle.std.specs.Prelude.{◌≡◌, ℕ, suc, List}
+use Rattle.vg_plans.specs.PlainPlan.{walk}
+use Rattle.vg_plans.specs.World.{World}
+use Rattle.vg_shapes.specs.declared.operand.Operand.{Operand}
+use Rattle.vg_shapes.specs.declared.pack.Pack.{Pack as Packed}
+
+-- one turn leads from a plan and the operands that wait to another plan and others that wait
+abbrev pub IsTurn : World Packed Operand Operand → List Packed → List Operand → List Packed → List Operand → Type 0
+IsTurn w plan queue new_plan new_queue = (n : ℕ) → walk w (suc n) plan queue ≡ walk w n new_plan new_queue

@@ -1,0 +1,222 @@
+//! The plain plan.
+
+ghost use Rattle.std.specs.Prelude.{◌≡◌, ◌++◌, ◌||◌, ◌∷◌, [], find, flat_map, IfOk, OnOk, map};
+ghost use Rattle.std.specs.List.{list_any};
+ghost use Rattle.vg_plans.specs.PlainPlan.{with_groups};
+ghost use Rattle.vg_plans.specs.World.{stays_plan};
+ghost use Rattle.vg_packing.specs.Held.{holds};
+ghost use Rattle.vg_packing.specs.Packing.{packing, plain_of};
+ghost use Rattle.vg_packing.specs.Taken.{MatchesNear, operands_of};
+ghost use Rattle.vg_packing.specs.Wants.{is_constant};
+ghost use Rattle.vg_shapes.specs.Description.{description_of};
+ghost use Rattle.vg_packs.specs.Plain.{IsTurn};
+ghost use Rattle.vg_packs.specs.Walk.{IsFree, NameEarlierUnits, NameUnits};
+
+use crate::groups::store_groups;
+use crate::producing::producers;
+use crate::taking::taken_by;
+use crate::walk::stays_plan;
+use std::alloc::{AllocError, Global};
+use std::collections::VecDeque;
+use vg_packing::held::holds;
+use vg_packing::wants::is_constant;
+use vg_shapes::{DepList, Description, MatchTable, Operand, Pack, Ssa};
+
+/// The greatest number of units of a kernel that has a plain plan.
+const MOST: usize = 1 << 24;
+
+fn push_all(queue: &mut VecDeque<Operand>, operands: Vec<Operand>) -> Result<(), AllocError>
+    ensures { OnOk result (queue.new.items ≡ queue.old.items ++ operands.items) }
+{
+    'operands: for operand in operands {
+        queue.push_back(operand)?;
+    }
+    Ok(())
+}
+
+/// Appends the operands of a pack to those that wait.
+fn push_operands(
+    alloc: Global,
+    queue: &mut VecDeque<Operand>,
+    descriptions: &[Description],
+    table: &MatchTable,
+    ssa: &Ssa,
+    pack: &Pack,
+) -> Result<(), AllocError>
+    requires near { MatchesNear table.now }
+    ensures { OnOk result (queue.new.items ≡ queue.old.items ++ operands_of (map description_of descriptions.now) table.now ssa.now pack.now) }
+{
+    let operands = taken_by(alloc, descriptions, table, ssa, pack)?;
+    push_all(queue, operands)
+}
+
+/// The operands of the packs of a plan, in their order.
+fn first_queue(
+    alloc: Global,
+    descriptions: &[Description],
+    table: &MatchTable,
+    ssa: &Ssa,
+    plan: &[Pack],
+) -> Result<VecDeque<Operand>, AllocError>
+    requires near { MatchesNear table.now }
+    ensures { IfOk result (λ queue. queue.items ≡ flat_map (operands_of (map description_of descriptions.now) table.now ssa.now) plan.now) }
+{
+    let mut queue = VecDeque::new(alloc);
+    'packs: for pack in plan {
+        push_operands(alloc, &mut queue, descriptions, table, ssa, pack)?;
+    }
+    Ok(queue)
+}
+
+/// Puts a pack behind a plan, if the plan stays one with it.
+fn push_if_stays(
+    alloc: Global,
+    plan: &mut Vec<Pack>,
+    pack: Pack,
+    table: &MatchTable,
+    ssa: &Ssa,
+    deps: &DepList,
+) -> Result<(), AllocError>
+    requires names { NameUnits ssa.now deps.now }
+    requires free { IsFree table.now ssa.now deps.now plan.old.items }
+    ensures plan { OnOk result (plan.new.items ≡ with_groups (packing [] table.now ssa.now deps.now) plan.old.items (pack ∷ [])) }
+    ensures free { OnOk result (IsFree table.now ssa.now deps.now plan.new.items) }
+{
+    let stays = stays_plan(alloc, plan.as_slice(), &pack, table, ssa, deps)?;
+    if stays {
+        plan.push(pack)?;
+    }
+    Ok(())
+}
+
+/// The plan of each of these packs with which it stays one, one after the other.
+fn with_groups(
+    alloc: Global,
+    groups: Vec<Pack>,
+    table: &MatchTable,
+    ssa: &Ssa,
+    deps: &DepList,
+) -> Result<Vec<Pack>, AllocError>
+    requires earlier { NameEarlierUnits ssa.now deps.now }
+    ensures groups { IfOk result (λ plan. plan.items ≡ with_groups (packing [] table.now ssa.now deps.now) [] groups.items) }
+    ensures free { IfOk result (λ plan. IsFree table.now ssa.now deps.now plan.items) }
+{
+    let mut plan: Vec<Pack> = Vec::new(alloc);
+    'groups: for group in groups {
+        push_if_stays(alloc, &mut plan, group, table, ssa, deps)?;
+    }
+    Ok(plan)
+}
+
+/// Whether a pack of a plan holds an operand.
+fn is_reused(descriptions: &[Description], ssa: &Ssa, plan: &[Pack], operand: &Operand) -> bool
+    ensures { result ≡ list_any (λ p. holds (map description_of descriptions.now) ssa.now p operand.now) plan.now }
+{
+    plan.iter().any(|p| holds(descriptions, ssa, p, operand))
+}
+
+/// Whether an operand needs no pack: a pack of the plan holds it, or it wants no value.
+fn is_settled(descriptions: &[Description], ssa: &Ssa, plan: &[Pack], operand: &Operand) -> bool
+    ensures { result ≡ (list_any (λ p. holds (map description_of descriptions.now) ssa.now p operand.now) plan.now || is_constant operand.now) }
+{
+    is_reused(descriptions, ssa, plan, operand) || is_constant(operand)
+}
+
+/// The first of these packs with which a plan stays one.
+fn first_that_stays(
+    alloc: Global,
+    plan: &[Pack],
+    packs: Vec<Pack>,
+    table: &MatchTable,
+    ssa: &Ssa,
+    deps: &DepList,
+) -> Result<Option<Pack>, AllocError>
+    requires names { NameUnits ssa.now deps.now }
+    requires free { IsFree table.now ssa.now deps.now plan.now }
+    ensures { IfOk result (λ found. found ≡ find (stays_plan (packing [] table.now ssa.now deps.now) plan.now) packs.items) }
+{
+    'packs: for pack in packs {
+        let stays = stays_plan(alloc, plan, &pack, table, ssa, deps)?;
+        if stays {
+            return Ok(Some(pack));
+        }
+    }
+    Ok(None)
+}
+
+/// Takes one operand that waited: puts the first pack behind the plan that produces it and with which
+/// the plan stays one, unless it needs none, and has the operands of that pack wait.
+fn turn(
+    alloc: Global,
+    descriptions: &[Description],
+    table: &MatchTable,
+    ssa: &Ssa,
+    deps: &DepList,
+    plan: &mut Vec<Pack>,
+    queue: &mut VecDeque<Operand>,
+    operand: &Operand,
+) -> Result<(), AllocError>
+    requires near { MatchesNear table.now }
+    requires names { NameUnits ssa.now deps.now }
+    requires free { IsFree table.now ssa.now deps.now plan.old.items }
+    ensures turn { OnOk result (IsTurn (packing (map description_of descriptions.now) table.now ssa.now deps.now) plan.old.items (operand.now ∷ queue.old.items) plan.new.items queue.new.items) }
+    ensures free { OnOk result (IsFree table.now ssa.now deps.now plan.new.items) }
+{
+    if is_settled(descriptions, ssa, plan.as_slice(), operand) {
+        return Ok(());
+    }
+    let packs = producers(alloc, operand, descriptions, table, ssa)?;
+    let found = first_that_stays(alloc, plan.as_slice(), packs, table, ssa, deps)?;
+    match found {
+        None => Ok(()),
+        Some(pack) => {
+            push_operands(alloc, queue, descriptions, table, ssa, &pack)?;
+            plan.push(pack)?;
+            Ok(())
+        }
+    }
+}
+
+/// The plain plan of a kernel: each store group with which it stays a plan, then for each operand that
+/// waits, first in, first out, the first pack that produces it and with which it stays a plan. The
+/// dependences name earlier units alone, as those of a kernel do. Where a kernel has more than some 2^24 units there is no memory.
+pub fn plain_plan(
+    alloc: Global,
+    descriptions: &[Description],
+    table: &MatchTable,
+    ssa: &Ssa,
+    deps: &DepList,
+) -> Result<Vec<Pack>, AllocError>
+    requires near { MatchesNear table.now }
+    requires earlier { NameEarlierUnits ssa.now deps.now }
+    ensures plain { IfOk result (λ plan. plan.items ≡ plain_of (map description_of descriptions.now) table.now ssa.now deps.now) }
+    ensures free { IfOk result (λ plan. IsFree table.now ssa.now deps.now plan.items) }
+{
+    let count = ssa.units.as_slice().len();
+    if count > MOST {
+        return Err(AllocError);
+    }
+    let mut turns = 2 * count;
+    let groups = store_groups(alloc, ssa)?;
+    let mut plan = with_groups(alloc, groups, table, ssa, deps)?;
+    let mut queue = first_queue(alloc, descriptions, table, ssa, plan.as_slice())?;
+    'turns: while turns > 0 {
+        match queue.pop_front() {
+            None => return Ok(plan),
+            Some(operand) => {
+                turn(
+                    alloc,
+                    descriptions,
+                    table,
+                    ssa,
+                    deps,
+                    &mut plan,
+                    &mut queue,
+                    &operand,
+                )?;
+                turns -= 1;
+            }
+        }
+    }
+    Ok(plan)
+}
