@@ -26,7 +26,8 @@ pub fn plan_cost(
 ) -> Result<u64, AllocError>
     requires near { MatchesNear table.now }
     requires short { AllByRecursion IsShort plan.now }
-    ensures cost { IfOk result (λ c. (deps : List (ℕ × ℕ)) → c ≡ plan_cost (packing (map description_of descriptions.now) table.now ssa.now deps) plan.now) }
+    ensures cost { IfOk result (λ c. (deps : List (ℕ × ℕ)) → c ≡ plan_cost
+        (packing (map description_of descriptions.now) table.now ssa.now deps) plan.now) }
 {
     let packs = plan.as_slice();
     let price = prices(descriptions, packs)?;

@@ -9,7 +9,7 @@ mod cost;
 mod lines;
 mod marks;
 mod price;
-mod recipes;
-mod shuffle;
+pub mod recipes;
+pub mod shuffle;
 
 pub use cost::plan_cost;

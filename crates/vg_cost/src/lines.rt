@@ -128,7 +128,8 @@ pub(crate) fn scalar_lines(
     packs: &[Pack],
     inserted: &[u32],
 ) -> Result<u64, AllocError>
-    ensures { IfOk result (λ c. c ≡ scalar_lines (packing [] [] ssa.now []) packs.now inserted.now (falling_units ssa.now)) }
+    ensures { IfOk result (λ c. c ≡ scalar_lines (packing [] [] ssa.now []) packs.now inserted.now
+        (falling_units ssa.now)) }
 {
     let end = end_of_units(ssa)?;
     let packed = packed_marks(alloc, end as usize, packs)?;

@@ -33,7 +33,8 @@ fn price_of(descriptions: &[Description], pack: &Pack) -> u64
 
 /// What the lines of packs cost.
 pub(crate) fn prices(descriptions: &[Description], packs: &[Pack]) -> Result<u64, AllocError>
-    ensures { IfOk result (λ c. c ≡ sum_by (price_of (map description_of descriptions.now)) packs.now) }
+    ensures { IfOk result (λ c. c ≡ sum_by (price_of (map description_of descriptions.now))
+        packs.now) }
 {
     let mut sum = 0u64;
     'packs: for pack in packs {

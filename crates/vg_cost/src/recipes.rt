@@ -15,16 +15,23 @@ use vg_packing::held::holds;
 use vg_packing::wants::{is_constant, wanted_values};
 use vg_shapes::{Description, Operand, Pack, Ssa};
 
-/// Whether a pack holds an operand.
-fn is_reused(descriptions: &[Description], ssa: &Ssa, packs: &[Pack], operand: &Operand) -> bool
-    ensures { result ≡ is_reused (packing (map description_of descriptions.now) [] ssa.now []) packs.now operand.now }
+/// Whether one of these packs holds an operand.
+pub fn is_reused(descriptions: &[Description], ssa: &Ssa, packs: &[Pack], operand: &Operand) -> bool
+    ensures { result ≡ is_reused (packing (map description_of descriptions.now) [] ssa.now [])
+        packs.now operand.now }
 {
     packs.iter().any(|p| holds(descriptions, ssa, p, operand))
 }
 
-/// Whether each of the parts of a shuffle is held by a pack.
-fn are_reused(descriptions: &[Description], ssa: &Ssa, packs: &[Pack], parts: &[Operand]) -> bool
-    ensures { result ≡ list_all (is_reused (packing (map description_of descriptions.now) [] ssa.now []) packs.now) parts.now }
+/// Whether each of the parts of a shuffle is held by one of these packs.
+pub fn are_reused(
+    descriptions: &[Description],
+    ssa: &Ssa,
+    packs: &[Pack],
+    parts: &[Operand],
+) -> bool
+    ensures { result ≡ list_all (is_reused (packing (map description_of descriptions.now) [] ssa.now
+        []) packs.now) parts.now }
 {
     parts
         .iter()
@@ -41,7 +48,9 @@ fn push_had(
     operand: &Operand,
     description: &Description,
 ) -> Result<(), AllocError>
-    ensures { OnOk result (costs.new.items ≡ costs.old.items ++ costs_had (map description_of descriptions.now) ssa.now packs.now (shuffle_of operand.now (description_of description.now))) }
+    ensures { OnOk result (costs.new.items ≡ costs.old.items ++ costs_had
+        (map description_of descriptions.now) ssa.now packs.now
+        (shuffle_of operand.now (description_of description.now))) }
 {
     let shuffle = shuffle_of(alloc, operand, description)?;
     match shuffle {
@@ -63,7 +72,8 @@ fn costs_had(
     packs: &[Pack],
     operand: &Operand,
 ) -> Result<Vec<u32>, AllocError>
-    ensures { IfOk result (λ costs. costs.items ≡ costs_had (map description_of descriptions.now) ssa.now packs.now (shuffles (map description_of descriptions.now) operand.now)) }
+    ensures { IfOk result (λ costs. costs.items ≡ costs_had (map description_of descriptions.now)
+        ssa.now packs.now (shuffles (map description_of descriptions.now) operand.now)) }
 {
     let mut costs = Vec::new(alloc);
     'instances: for description in descriptions {
@@ -100,7 +110,8 @@ fn recipe_cost(
     packs: &[Pack],
     operand: &Operand,
 ) -> Result<u64, AllocError>
-    ensures { IfOk result (λ c. c ≡ recipe_cost (packing (map description_of descriptions.now) [] ssa.now []) packs.now operand.now) }
+    ensures { IfOk result (λ c. c ≡ recipe_cost
+        (packing (map description_of descriptions.now) [] ssa.now []) packs.now operand.now) }
 {
     if is_reused(descriptions, ssa, packs, operand) {
         return Ok(0);
@@ -122,7 +133,8 @@ pub(crate) fn recipe_costs(
     packs: &[Pack],
     operands: &[Operand],
 ) -> Result<u64, AllocError>
-    ensures { IfOk result (λ c. c ≡ sum_by (recipe_cost (packing (map description_of descriptions.now) [] ssa.now []) packs.now) operands.now) }
+    ensures { IfOk result (λ c. c ≡ sum_by (recipe_cost
+        (packing (map description_of descriptions.now) [] ssa.now []) packs.now) operands.now) }
 {
     let mut sum = 0u64;
     'operands: for operand in operands {
@@ -141,7 +153,8 @@ fn inserted(
     packs: &[Pack],
     operand: &Operand,
 ) -> Result<Vec<u32>, AllocError>
-    ensures { IfOk result (λ values. values.items ≡ inserted (packing (map description_of descriptions.now) [] ssa.now []) packs.now operand.now) }
+    ensures { IfOk result (λ values. values.items ≡ inserted
+        (packing (map description_of descriptions.now) [] ssa.now []) packs.now operand.now) }
 {
     if is_reused(descriptions, ssa, packs, operand) {
         return Ok(Vec::new(alloc));
@@ -164,7 +177,9 @@ pub(crate) fn all_inserted(
     packs: &[Pack],
     operands: &[Operand],
 ) -> Result<Vec<u32>, AllocError>
-    ensures { IfOk result (λ values. values.items ≡ flat_map (inserted (packing (map description_of descriptions.now) [] ssa.now []) packs.now) operands.now) }
+    ensures { IfOk result (λ values. values.items ≡ flat_map
+        (inserted (packing (map description_of descriptions.now) [] ssa.now []) packs.now)
+        operands.now) }
 {
     let mut values = Vec::new(alloc);
     'operands: for operand in operands {

@@ -18,9 +18,9 @@ use vg_terms::Term;
 /// A shuffle that can make an operand: what its call costs, and what the pack given to each parameter
 /// in use has to hold.
 #[derive(Drop)]
-pub(crate) struct Shuffle {
-    pub(crate) cost: u32,
-    pub(crate) parts: Vec<Operand>,
+pub struct Shuffle {
+    pub cost: u32,
+    pub parts: Vec<Operand>,
 }
 
 #[tactic(auto, using(crate::proofs::Zero::divided_by_none))]
@@ -69,7 +69,8 @@ fn bit_number(bit: i64) -> Result<u32, AllocError>
 /// Appends the leaf that a lane is, if it is one, as its parameter and a slot of it that wants what is
 /// wanted of the lane.
 fn push_leaf(moved: &mut Vec<(u32, Slot)>, lane: &Term, slot: &Slot) -> Result<(), AllocError>
-    ensures { OnOk result (moved.new.items ≡ moved.old.items ++ moved_leaf (Some (tree lane.now)) slot.now) }
+    ensures { OnOk result (moved.new.items ≡ moved.old.items ++ moved_leaf (Some (tree lane.now))
+        slot.now) }
 {
     match lane {
         Term::Leaf { width, key } => {
@@ -99,7 +100,8 @@ fn push_lane(
     number: u32,
     slot: &Slot,
 ) -> Result<(), AllocError>
-    ensures { OnOk result (moved.new.items ≡ moved.old.items ++ moved_leaf (slice_get (map tree lanes.now) number) slot.now) }
+    ensures { OnOk result (moved.new.items ≡ moved.old.items ++ moved_leaf
+        (slice_get (map tree lanes.now) number) slot.now) }
 {
     match lanes.get(number as usize) {
         None => Ok(()),
@@ -113,19 +115,22 @@ fn push_moved(
     description: &Description,
     slot: &Slot,
 ) -> Result<(), AllocError>
-    ensures { OnOk result (moved.new.items ≡ moved.old.items ++ moved_from (description_of description.now) slot.now) }
+    ensures { OnOk result (moved.new.items ≡ moved.old.items ++ moved_from
+        (description_of description.now) slot.now) }
 {
     let number = lane_of(slot.low, description.lane_width);
     push_lane(moved, description.lanes.as_slice(), number, slot)
 }
 
-/// The leaves that the lanes of slots are.
-fn moved_slots(
+/// The leaves that the lanes of slots are, each as its parameter and a slot of it that wants what is
+/// wanted of the lane.
+pub fn moved_slots(
     alloc: Global,
     description: &Description,
     slots: &[Slot],
 ) -> Result<Vec<(u32, Slot)>, AllocError>
-    ensures { IfOk result (λ moved. moved.items ≡ flat_map (moved_from (description_of description.now)) slots.now) }
+    ensures { IfOk result (λ moved. moved.items ≡ flat_map
+        (moved_from (description_of description.now)) slots.now) }
 {
     let mut moved = Vec::new(alloc);
     'slots: for slot in slots {
@@ -134,13 +139,14 @@ fn moved_slots(
     Ok(moved)
 }
 
-/// The slots of a parameter.
-fn own_slots(
+/// Of such leaves the slots of a parameter.
+pub fn own_slots(
     alloc: Global,
     moved: &[(u32, Slot)],
     parameter: usize,
 ) -> Result<Vec<Slot>, AllocError>
-    ensures { IfOk result (λ slots. slots.items ≡ map (λ m. m.1) (filter (λ m. nat_eq m.0 parameter) moved.now)) }
+    ensures { IfOk result (λ slots. slots.items ≡ map (λ m. m.1)
+        (filter (λ m. nat_eq m.0 parameter) moved.now)) }
 {
     moved
         .iter()
@@ -157,7 +163,8 @@ fn push_part(
     parameter: usize,
     register: u32,
 ) -> Result<(), AllocError>
-    ensures { OnOk result (parts.new.items ≡ parts.old.items ++ parts_from moved.now parameter (register ∷ [])) }
+    ensures { OnOk result (parts.new.items ≡ parts.old.items ++ parts_from moved.now parameter
+        (register ∷ [])) }
 {
     let own = own_slots(alloc, moved, parameter)?;
     if own.len() == 0 {
@@ -171,7 +178,7 @@ fn push_part(
 }
 
 /// What the pack given to each parameter in use has to hold.
-fn parts_of(
+pub fn parts_of(
     alloc: Global,
     moved: &[(u32, Slot)],
     params: &[u32],
@@ -189,23 +196,25 @@ fn parts_of(
 
 /// The shuffle of an instance that can make an operand, if there is one. It costs no more than inserts
 /// do.
-pub(crate) fn shuffle_of(
+pub fn shuffle_of(
     alloc: Global,
     operand: &Operand,
     description: &Description,
 ) -> Result<Option<Shuffle>, AllocError>
-    ensures { IfOk result (λ found. shuffle_list found ≡ shuffle_of operand.now (description_of description.now)) }
+    ensures { IfOk result (λ found. shuffle_list found ≡ shuffle_of operand.now
+        (description_of description.now)) }
 {
+    if description.register != operand.register || !is_shuffle(description) {
+        return Ok(None);
+    }
     let slots = wanted_slots(alloc, operand)?;
     let slots = slots.as_slice();
+    if !are_lane_slots(description.lane_width, slots) {
+        return Ok(None);
+    }
     let moved = moved_slots(alloc, description, slots)?;
     let moved = moved.as_slice();
-    let fits = is_shuffle(description)
-        && (description.register == operand.register
-            && (are_lane_slots(description.lane_width, slots)
-                && (moved.len() == slots.len()
-                    && description.cost as u128 <= 1 + slots.len() as u128)));
-    if !fits {
+    if moved.len() != slots.len() || description.cost as u128 > 1 + slots.len() as u128 {
         return Ok(None);
     }
     let parts = parts_of(alloc, moved, description.params.as_slice())?;

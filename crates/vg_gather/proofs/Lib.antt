@@ -1,7 +1,9 @@
+pub mod Carries
 pub mod Constants
 pub mod Fits
 pub mod Held
 pub mod Inserts
 pub mod Jobs
+pub mod ParameterSteps
 pub mod Prices
 pub mod Takes

@@ -1,2 +1,4 @@
+pub mod Adding
+pub mod Cheapest
 pub mod Laws
 pub mod Recipes

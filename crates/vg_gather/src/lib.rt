@@ -3,11 +3,16 @@
 //!
 //! `specs/Recipes.antt` says which recipe an operand takes beside the packs of a plan, and
 //! `specs/Laws.antt` says what registers of constants, with values put in, and registers of packs
-//! promise of an operand.
+//! promise of an operand. `specs/Adding.antt` says how bytes with a number added are made, and
+//! `specs/Cheapest.antt` which of several shuffles is taken.
 #![tactic(auto)]
 
+pub mod constant_bytes;
+pub mod gathering;
 mod law;
+pub mod shuffling;
 
+pub use gathering::{build_operand, recipes_of};
 pub use law::{
     constants_fill, constants_fit, holders_fill, holders_fit, holders_give, inserts_fill,
     plans_count_recipes, plans_take_given, recipes_cost_the_plan, recipes_insert_the_plan,
