@@ -14,9 +14,10 @@ use std::alloc::{AllocError, Global};
 use vg_packing::plan_operands::plan_operands;
 use vg_shapes::{Description, MatchTable, Plan, Ssa};
 
-/// What a plan costs: the lines of its packs, the recipes of the operands that they take, the units that
-/// are still emitted and the values that are extracted. It is the same whatever the units depend on.
-/// Fails for want of memory, and where the cost or a unit's number has too many bits to be counted.
+/// What a plan costs: the lines of its packs, the recipes of the operands that they take, the units
+/// that are still emitted and the values that are extracted. It is the same whatever the units
+/// depend on. Fails for want of memory, and where the cost or a unit's number has too many bits to
+/// be counted.
 pub fn plan_cost(
     alloc: Global,
     plan: &Plan,

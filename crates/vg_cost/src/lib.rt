@@ -1,8 +1,8 @@
 //! What plans cost.
 //!
 //! `specs/Had.antt` lists the costs of the shuffles that can be had, `specs/Marks.antt` says which
-//! numbers are marked, and `specs/Lines.antt` which lines units and extracts take by such marks. The
-//! cost of a plan is that of `vg_plans` over the packs of a kernel of `vg_packing`.
+//! numbers are marked, and `specs/Lines.antt` which lines units and extracts take by such marks.
+//! The cost of a plan is that of `vg_plans` over the packs of a kernel of `vg_packing`.
 #![tactic(auto)]
 
 mod cost;

@@ -120,8 +120,8 @@ fn end_of_units(ssa: &Ssa) -> Result<u32, AllocError>
     }
 }
 
-/// The units of a kernel that are emitted, and the values of packs that are extracted, where inserts take
-/// these values.
+/// The units of a kernel that are emitted, and the values of packs that are extracted, where
+/// inserts take these values.
 pub(crate) fn scalar_lines(
     alloc: Global,
     ssa: &Ssa,

@@ -15,8 +15,8 @@ use vg_packing::wants::{wanted_slots, wants_value};
 use vg_shapes::{Description, Operand, Slot};
 use vg_terms::Term;
 
-/// A shuffle that can make an operand: what its call costs, and what the pack given to each parameter
-/// in use has to hold.
+/// A shuffle that can make an operand: what its call costs, and what the pack given to each
+/// parameter in use has to hold.
 #[derive(Drop)]
 pub struct Shuffle {
     pub cost: u32,
@@ -66,8 +66,8 @@ fn bit_number(bit: i64) -> Result<u32, AllocError>
     Ok(bit.max(0) as u32)
 }
 
-/// Appends the leaf that a lane is, if it is one, as its parameter and a slot of it that wants what is
-/// wanted of the lane.
+/// Appends the leaf that a lane is, if it is one, as its parameter and a slot of it that wants what
+/// is wanted of the lane.
 fn push_leaf(moved: &mut Vec<(u32, Slot)>, lane: &Term, slot: &Slot) -> Result<(), AllocError>
     ensures { OnOk result (moved.new.items ≡ moved.old.items ++ moved_leaf (Some (tree lane.now))
         slot.now) }
@@ -122,8 +122,8 @@ fn push_moved(
     push_lane(moved, description.lanes.as_slice(), number, slot)
 }
 
-/// The leaves that the lanes of slots are, each as its parameter and a slot of it that wants what is
-/// wanted of the lane.
+/// The leaves that the lanes of slots are, each as its parameter and a slot of it that wants what
+/// is wanted of the lane.
 pub fn moved_slots(
     alloc: Global,
     description: &Description,
@@ -194,8 +194,8 @@ pub fn parts_of(
     Ok(parts)
 }
 
-/// The shuffle of an instance that can make an operand, if there is one. It costs no more than inserts
-/// do.
+/// The shuffle of an instance that can make an operand, if there is one. It costs no more than
+/// inserts do.
 pub fn shuffle_of(
     alloc: Global,
     operand: &Operand,

@@ -47,28 +47,82 @@ pub fn sum(first: u32, second: u32) -> Unit {
     }
 }
 
-/// A kernel of these units. It has three pointers, the last two noalias, and two integers, which have
-/// the numbers 0 and 1, so that the units are numbered from 2.
-pub fn kernel(alloc: Global, units: Vec<Unit>, terms: Vec<Term>) -> Result<Ssa, AllocError> {
+fn push_params(
+    alloc: Global,
+    params: &mut Vec<SsaParam>,
+    kinds: &[SsaParamKind],
+) -> Result<(), AllocError> {
+    for kind in kinds {
+        let name = Name::new(alloc, b"x")?;
+        params.push(SsaParam { name, kind: *kind })?;
+    }
+    Ok(())
+}
+
+/// A kernel of these units. It has three pointers, the last two noalias, and two integers, which
+/// have the numbers 0 and 1, so that units are numbered from 2.
+pub fn kernel(alloc: Global, units: &[Unit], terms: Vec<Term>) -> Result<Ssa, AllocError> {
     let mut params = Vec::new(alloc);
-    for noalias in [false, true, true] {
-        params.push(SsaParam {
-            name: Name::new(alloc, b"p")?,
-            kind: SsaParamKind::Pointer { noalias },
-        })?;
-    }
-    for _ in 0..2 {
-        params.push(SsaParam {
-            name: Name::new(alloc, b"x")?,
-            kind: SsaParamKind::Integer(Width::W32),
-        })?;
-    }
+    let kinds = [
+        SsaParamKind::Pointer { noalias: false },
+        SsaParamKind::Pointer { noalias: true },
+        SsaParamKind::Pointer { noalias: true },
+        SsaParamKind::Integer(Width::W32),
+        SsaParamKind::Integer(Width::W32),
+    ];
+    push_params(alloc, &mut params, &kinds)?;
     Ok(Ssa {
         name: Name::new(alloc, b"k")?,
         params: Items::from_vec(params),
-        units: Items::from_vec(units),
+        units: Items::from_vec(units.to_vec(alloc)?),
         terms: Items::from_vec(terms),
     })
+}
+
+/// The same where no lane of a description computes a value.
+pub fn unmatched(alloc: Global, units: &[Unit]) -> Result<Ssa, AllocError> {
+    kernel(alloc, units, Vec::new(alloc))
+}
+
+/// Two loads beside each other, 2 and 4, each stored behind it.
+pub fn copied(alloc: Global) -> Result<Ssa, AllocError> {
+    let units = [load(1, 0), store_value(0, 2), load(1, 4), store_value(4, 4)];
+    unmatched(alloc, &units)
+}
+
+/// Loads 2 and 3 beside each other, and what they load stored by 4 and 5 the other way round.
+pub fn turned(alloc: Global) -> Result<Ssa, AllocError> {
+    let units = [load(1, 0), load(1, 4), store_value(0, 3), store_value(4, 2)];
+    unmatched(alloc, &units)
+}
+
+/// The sums 4 and 7 of two loads each, and their stores.
+pub fn summed(alloc: Global) -> Result<Ssa, AllocError> {
+    let units = [
+        load(1, 0),
+        load(2, 0),
+        sum(2, 3),
+        load(1, 4),
+        load(2, 4),
+        sum(5, 6),
+        store_value(0, 4),
+        store_value(4, 7),
+    ];
+    let low = sum_of(alloc, value(2), value(3))?;
+    let high = sum_of(alloc, value(5), value(6))?;
+    let terms = vec![in alloc;
+        value(0),
+        value(1),
+        value(2),
+        value(3),
+        low,
+        value(5),
+        value(6),
+        high,
+        none(),
+        none(),
+    ]?;
+    kernel(alloc, &units, terms)
 }
 
 /// 32 bits of a parameter from a bit on.

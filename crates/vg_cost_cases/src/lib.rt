@@ -1,4 +1,5 @@
-//! Cases of costs: what plans of small kernels cost, each counted by hand.
+//! Cases of costs and recipes: what plans of small kernels cost, each counted by hand, and how
+//! operands are brought into registers.
 #![tactic(auto)]
 
 #[cfg(test)]
@@ -7,3 +8,5 @@ mod costs;
 mod kernels;
 #[cfg(test)]
 mod plans;
+#[cfg(test)]
+mod recipes;

@@ -1,9 +1,8 @@
 //! Plans by their packs, and what they cost.
 
-ghost use Rattle.std.specs.Prelude.{◌≡◌, true, ◌<◌, ◌^◌};
+ghost use Rattle.std.specs.Prelude.{◌≡◌, true};
 ghost use Rattle.std.specs.List.{AllByRecursion};
 ghost use Rattle.vg_packing.specs.Taken.{AreNear, IsShort, MatchesNear};
-ghost use Rattle.vg_shapes.specs.Leaves.{bit_number};
 
 use std::alloc::{AllocError, Global};
 use std::test::Fail;
@@ -11,23 +10,37 @@ use vg_cost::plan_cost;
 use vg_match::build;
 use vg_shapes::{Bound, Description, Lanes, Match, Pack, Plan, Ssa};
 
-/// A pack of stores.
-pub fn stores(alloc: Global, units: &[u32]) -> Result<Pack, AllocError> {
-    Ok(Pack::Stores(Lanes::from_slice(alloc, units)?))
+/// A pack of two units, the one in lane 0 first.
+#[derive(Clone, Copy)]
+pub enum Two {
+    Stores(u32, u32),
+    Loads(u32, u32),
+    /// Of the first description, which has four lanes.
+    Call(u32, u32),
 }
 
-/// A pack of loads.
-pub fn loads(alloc: Global, units: &[u32]) -> Result<Pack, AllocError> {
-    Ok(Pack::Loads(Lanes::from_slice(alloc, units)?))
+fn pack_of(alloc: Global, two: Two) -> Result<Pack, AllocError> {
+    match two {
+        Two::Stores(low, high) => Ok(Pack::Stores(Lanes::from_slice(alloc, &[low, high])?)),
+        Two::Loads(low, high) => Ok(Pack::Loads(Lanes::from_slice(alloc, &[low, high])?)),
+        Two::Call(low, high) => {
+            let lanes = Lanes::from_slice(alloc, &[Some(low), Some(high), None, None])?;
+            Ok(Pack::Call {
+                description: 0,
+                lanes,
+            })
+        }
+    }
 }
 
-/// A call of the first description for two units.
-pub fn call(alloc: Global, low: u32, high: u32) -> Result<Pack, AllocError> {
-    let lanes = Lanes::from_slice(alloc, &[Some(low), Some(high), None, None])?;
-    Ok(Pack::Call {
-        description: 0,
-        lanes,
-    })
+/// The plan of these packs.
+pub fn plan_of(alloc: Global, packs: &[Two]) -> Result<Plan, AllocError> {
+    let mut made = Vec::new(alloc);
+    for two in packs {
+        let pack = pack_of(alloc, *two)?;
+        made.push(pack)?;
+    }
+    Ok(Plan::from_vec(made))
 }
 
 fn is_short(pack: &Pack) -> bool
@@ -67,15 +80,15 @@ fn all_near(matches: &[Match]) -> bool
     }
 }
 
-/// What a plan of these packs costs. They are few lanes wide, and leaves stand near.
+/// What the plan of these packs costs.
 pub fn cost_of(
     alloc: Global,
     ssa: &Ssa,
     descriptions: &[Description],
-    packs: Vec<Pack>,
+    packs: &[Two],
 ) -> Result<u64, Fail> {
     let table = build(alloc, descriptions, ssa)?;
-    let plan = Plan::from_vec(packs);
+    let plan = plan_of(alloc, packs)?;
     if !are_short(plan.as_slice()) || !all_near(table.as_slice()) {
         return Err(Fail::new("a wide pack or a far leaf"));
     }

@@ -16,8 +16,8 @@ struct Rest {
     shift: u32,
 }
 
-/// A byte with what is to be added to it, and what is left for the bytes behind it, where the number
-/// begins in one of these.
+/// A byte with what is to be added to it, and what is left for the bytes behind it, where the
+/// number begins in one of these.
 fn skip_byte(byte: u8, rest: Rest) -> (u8, Rest)
     requires carry { rest.carry < 256 }
     requires high { 8 ≤ rest.shift }

@@ -35,10 +35,10 @@ fn build_shuffle(
     }
 }
 
-/// The recipe of an operand beside the packs of a plan: the register of the first pack that holds it;
-/// where none does and it wants no value, its constants; else the shuffle of least cost that can be
-/// had of what packs hold, the first of these; else inserts. Fails for want of memory, and where an
-/// index has more than 32 bits.
+/// The recipe of an operand beside the packs of a plan: the register of the first pack that holds
+/// it; where none does and it wants no value, its constants; else the shuffle of least cost that
+/// can be had of what packs hold, the first of these; else inserts. Fails for want of memory, and
+/// where an index has more than 32 bits.
 pub fn build_operand(
     alloc: Global,
     operand: &Operand,

@@ -95,8 +95,8 @@ fn cheaper(descriptions: &[Description], best: Option<u32>, number: u32) -> u32
     }
 }
 
-/// The number of the cheapest instance that is a shuffle which can make an operand of what packs hold,
-/// the first of these, if there is one.
+/// The number of the cheapest instance that is a shuffle which can make an operand of what packs
+/// hold, the first of these, if there is one.
 pub fn cheapest_shuffle(
     alloc: Global,
     descriptions: &[Description],
@@ -135,8 +135,8 @@ fn spare(
     }
 }
 
-/// The pack that the parameter of a number takes: the one that holds its part, or the spare one where
-/// it is not in use.
+/// The pack that the parameter of a number takes: the one that holds its part, or the spare one
+/// where it is not in use.
 fn pack_for(
     alloc: Global,
     descriptions: &[Description],
