@@ -21,11 +21,11 @@ use Rattle.vg_shapes.specs.Units.{arguments, is_unit}
 use Rattle.vg_packs.specs.Walk.{HasWay, IsApart, IsAt, IsFree, IsSettled, LeadsApart, NameUnits, Way, there, down, is_in_plan, is_lane_in, node_needs}
 use Rattle.vg_packs.proofs.NodeUnits.{node-units, pack-units}
 
-pub lanes_in : (plan : List Packed) (lanes : List (Option ℕ))
-    → list_any (is_lane_in plan) lanes ≡ list_any (is_in_plan plan) (filter_map (λ v. v) lanes)
-lanes_in plan [] = refl
-lanes_in plan (None ∷ lanes) = lanes_in plan lanes
-lanes_in plan (Some v ∷ lanes) = ap (λ b. is_in_plan plan v || b) (lanes_in plan lanes)
+pub lanes_in : (test : ℕ → Bool) (lanes : List (Option ℕ))
+    → list_any (is_lane_in test) lanes ≡ list_any test (filter_map (λ v. v) lanes)
+lanes_in test [] = refl
+lanes_in test (None ∷ lanes) = lanes_in test lanes
+lanes_in test (Some v ∷ lanes) = ap (λ b. test v || b) (lanes_in test lanes)
 
 -- ---- marks
 
@@ -85,12 +85,6 @@ at-has marks v t =
 
 has-at : (marks : List Bool) (v : ℕ) → Has v (marked marks) → IsAt marks v
 has-at marks v h = (from-filter (λ v. get_or marks v false) v (numbers_below (length marks)) h).1
-
-pub led : {E : Type 0} (result : Result Bool E) (ns : ℕ → List ℕ) (own : ℕ → Bool) (starts needed : List ℕ) (marks : List Bool)
-    → starts ≡ needed → IfOk result (λ r. r ≡ false → IsApart ns own starts marks)
-    → IfOk result (λ r. r ≡ false → LeadsApart ns own needed)
-led (Ok r) ns own starts needed marks e h = λ f. (marks, subst (λ l. IsApart ns own l marks) e (h f))
-led (Err x) ns own starts needed marks e h = h
 
 -- ---- cycles
 

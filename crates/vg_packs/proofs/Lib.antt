@@ -7,6 +7,7 @@ pub mod LaneLists
 pub mod Listed
 pub mod LoadLists
 pub mod Making
+pub mod Marking
 pub mod NodeUnits
 pub mod Once
 pub mod Placing

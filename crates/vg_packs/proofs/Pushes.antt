@@ -1,11 +1,12 @@
 -- Units marked and pushed one after the other, and what a walk down keeps.
 use Rattle.std.proofs.Common.{◌≡◌, ℕ, zero, suc, ◌+◌, ◌<◌, ◌⊎◌, Bool, true, false, List, [], ◌∷◌, ◌++◌, length, take, get_or, refl, sym, ◌∙◌, subst, inl, inr, arith, length-append, get_or-set_same, get_or-set_other}
 use Rattle.std.specs.Prelude.{set, All, nat_eq}
+use Rattle.std.specs.List.{list_any}
 use Rattle.std.proofs.lemmas.List.{take_more, length-set}
 use Rattle.std.proofs.lemmas.Bool.{cases_Bool}
 use Rattle.std.proofs.lemmas.Bool.Decides.{nat_tests}
 use Rattle.vg_plans.specs.Members.{Has}
-use Rattle.vg_plans.proofs.Members.{has-append, has-left, has-right}
+use Rattle.vg_plans.proofs.Members.{any-found, has-append, has-left, has-right}
 use Rattle.vg_packs.specs.Walk.{IsAt, Way, there, down, HasWay, IsApart, IsSettled, Pushed, count_open}
 
 true-not-false : (b : Bool) → b ≡ true → b ≡ false → ⊥
@@ -136,3 +137,11 @@ ends needs own bound starts marks s = record {
 
 pub finds : (needs : ℕ → List ℕ) (own : ℕ → Bool) (bound : ℕ) (starts : List ℕ) (marks : List Bool) (front : List ℕ) (v : ℕ) → Searches needs own bound starts marks (front ++ v ∷ []) → own v ≡ true → HasWay needs own starts
 finds needs own bound starts marks front v s t = s.leads v (s.on v (has-right v front (v ∷ []) (inl refl))) (there v t)
+
+pub finds-need : (needs : ℕ → List ℕ) (own : ℕ → Bool) (bound : ℕ) (starts : List ℕ) (marks : List Bool) (front : List ℕ) (v : ℕ) → Searches needs own bound starts marks (front ++ v ∷ []) → list_any own (needs v) ≡ true → HasWay needs own starts
+finds-need needs own bound starts marks front v s t =
+    let k = any-found own (needs v) t in
+    s.leads v (s.on v (has-right v front (v ∷ []) (inl refl))) (down v k.0 k.1 (there k.0 k.2))
+
+pub inside-here : (needs : ℕ → List ℕ) (own : ℕ → Bool) (bound : ℕ) (starts : List ℕ) (marks : List Bool) (front : List ℕ) (v : ℕ) → Searches needs own bound starts marks (front ++ v ∷ []) → v < bound
+inside-here needs own bound starts marks front v s = s.inside v (has-right v front (v ∷ []) (inl refl))

@@ -1,6 +1,7 @@
 pub mod Lanes
 pub mod Laws
 pub mod Making
+pub mod Marks
 pub mod Placed
 pub mod Plain
 pub mod Walk

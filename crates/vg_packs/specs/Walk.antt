@@ -88,7 +88,7 @@ pub record Pushed (list : List ℕ) (marks : List Bool) (stack : List ℕ) (new_
 abbrev pub LeadsApart : (ℕ → List ℕ) → (ℕ → Bool) → List ℕ → Type 0
 LeadsApart needs own starts = (marks : List Bool) × IsApart needs own starts marks
 
--- a lane has a value that is a unit of a plan
-abbrev pub is_lane_in : List Packed → Option ℕ → Bool
-is_lane_in plan None = false
-is_lane_in plan (Some v) = is_in_plan plan v
+-- a lane has a value that the test holds of
+abbrev pub is_lane_in : (ℕ → Bool) → Option ℕ → Bool
+is_lane_in test None = false
+is_lane_in test (Some v) = test v

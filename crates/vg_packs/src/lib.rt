@@ -9,6 +9,7 @@ mod groups;
 mod lanes;
 mod law;
 mod loads;
+mod marks;
 mod needs;
 mod placed;
 mod plain;

@@ -162,18 +162,20 @@ fn packed_needs(
     Ok(needs)
 }
 
-/// The units on which the node of a unit depends: its pack, or the unit itself.
+/// The units on which the node of a unit depends: its pack, if it is packed, or the unit itself.
 pub(crate) fn node_needs(
     alloc: Global,
     table: &MatchTable,
     ssa: &Ssa,
     deps: &DepList,
     plan: &[Pack],
+    packed: bool,
     unit: u32,
 ) -> Result<Vec<u32>, AllocError>
+    requires { packed ≡ is_in_plan plan.now unit }
     ensures { IfOk result (λ needs. needs.items ≡ node_needs table.now ssa.now deps.now plan.now unit) }
 {
-    if is_in_plan(plan, unit) {
+    if packed {
         packed_needs(alloc, table, ssa, deps, plan, unit)
     } else {
         rows_of(alloc, deps, &[unit])

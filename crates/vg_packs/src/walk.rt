@@ -1,14 +1,16 @@
 //! Whether a plan stays one with a pack behind it.
 
-ghost use Rattle.std.specs.Prelude.{◌≡◌, ◌+◌, ◌<◌, ℕ, [], All, IfOk, OnOk, false, filter, flat_map, length, replicate, true};
+ghost use Rattle.std.specs.Prelude.{◌≡◌, ◌+◌, ◌<◌, ℕ, [], All, IfOk, OnOk, false, get_or, length, replicate, true};
 ghost use Rattle.std.specs.List.{filter_map, list_any};
 ghost use Rattle.vg_packing.specs.Packing.{needs_of, packing};
 ghost use Rattle.vg_plans.specs.World.{is_in, stays_plan};
 ghost use Rattle.vg_shapes.specs.Pack.{units_of};
 ghost use Rattle.vg_shapes.specs.Units.{arguments, is_unit};
+ghost use Rattle.vg_packs.specs.Marks.{AreMarks, is_packed_by};
 ghost use Rattle.vg_packs.specs.Walk.{HasWay, IsApart, IsFree, IsSettled, LeadsApart, NameUnits, Pushed, is_in_plan, is_lane_in, node_needs};
 
-use crate::needs::{has_unit, is_in_plan, node_needs, pack_needs};
+use crate::marks::{clear_marks, is_marked, mark_pack, mark_plan, some_marked};
+use crate::needs::{is_in_plan, node_needs, pack_needs};
 use std::alloc::{AllocError, Global};
 use vg_shapes::{DepList, MatchTable, Pack, Ssa};
 
@@ -30,32 +32,39 @@ fn push_new(list: &[u32], marks: &mut [bool], stack: &mut Vec<u32>) -> Result<()
     Ok(())
 }
 
-/// Whether there is a way from units down to one of a pack. Marks what is reached.
+/// Whether there is a way from units down to one that is marked as the pack's own. Marks what is reached.
 fn walk_down(
     alloc: Global,
     table: &MatchTable,
     ssa: &Ssa,
     deps: &DepList,
     plan: &[Pack],
-    pack: &Pack,
+    packed: &[bool],
+    own: &[bool],
     starts: &[u32],
     marks: &mut [bool],
 ) -> Result<bool, AllocError>
     requires names { NameUnits ssa.now deps.now }
+    requires packed { AreMarks (length marks.old) (is_in_plan plan.now) packed.now }
     requires starts_inside { All (λ v. v < length marks.old) starts.now }
     requires units_inside { (v : ℕ) → is_unit ssa.now v ≡ true → v < length marks.old }
-    requires settled { IsSettled (node_needs table.now ssa.now deps.now plan.now) (λ v. is_in v (units_of pack.now)) marks.old }
-    ensures way { IfOk result (λ r. r ≡ true → HasWay (node_needs table.now ssa.now deps.now plan.now) (λ v. is_in v (units_of pack.now)) starts.now) }
-    ensures apart { IfOk result (λ r. r ≡ false → IsApart (node_needs table.now ssa.now deps.now plan.now) (λ v. is_in v (units_of pack.now)) starts.now marks.new) }
+    requires settled { IsSettled (node_needs table.now ssa.now deps.now plan.now) (λ v. get_or own.now v false) marks.old }
+    ensures way { IfOk result (λ r. r ≡ true → HasWay (node_needs table.now ssa.now deps.now plan.now) (λ v. get_or own.now v false) starts.now) }
+    ensures apart { IfOk result (λ r. r ≡ false → IsApart (node_needs table.now ssa.now deps.now plan.now) (λ v. get_or own.now v false) starts.now marks.new) }
 {
     let mut stack: Vec<u32> = Vec::new(alloc);
     push_new(starts, marks, &mut stack)?;
     'units: while let Some(v) = stack.pop() {
-        let own = has_unit(pack, v);
-        if own {
+        let found = is_marked(own, v);
+        if found {
             return Ok(true);
         }
-        let needs = node_needs(alloc, table, ssa, deps, plan, v)?;
+        let there = is_marked(packed, v);
+        let needs = node_needs(alloc, table, ssa, deps, plan, there, v)?;
+        let met = some_marked(own, needs.as_slice());
+        if met {
+            return Ok(true);
+        }
         push_new(needs.as_slice(), marks, &mut stack)?;
     }
     Ok(false)
@@ -73,27 +82,27 @@ fn end_of_units(ssa: &Ssa) -> Result<usize, AllocError>
     Ok(first + count)
 }
 
-fn clear_marks(alloc: Global, count: usize) -> Result<Vec<bool>, AllocError>
-    ensures { IfOk result (λ marks. marks.items ≡ replicate count false) }
-{
-    vec![in alloc; false; count]
-}
-
-/// Whether there is a way from what a pack needs, by what the nodes of a plan need, back to the pack.
-fn reaches_itself(
+/// Whether there is a way from what a pack needs, by what the nodes of a plan need, back to the pack. The
+/// units of the plan are marked, and the other marks are clear.
+fn reaches_by(
     alloc: Global,
     table: &MatchTable,
     ssa: &Ssa,
     deps: &DepList,
     plan: &[Pack],
+    packed: &[bool],
     pack: &Pack,
+    own: &mut [bool],
+    marks: &mut [bool],
 ) -> Result<bool, AllocError>
     requires names { NameUnits ssa.now deps.now }
+    requires packed { AreMarks (arguments ssa.now + length ssa.now.units) (is_in_plan plan.now) packed.now }
+    requires own { own.old ≡ replicate (arguments ssa.now + length ssa.now.units) false }
+    requires marks { marks.old ≡ replicate (arguments ssa.now + length ssa.now.units) false }
     ensures way { IfOk result (λ r. r ≡ true → HasWay (node_needs table.now ssa.now deps.now plan.now) (λ v. is_in v (units_of pack.now)) (needs_of table.now ssa.now deps.now pack.now)) }
     ensures apart { IfOk result (λ r. r ≡ false → LeadsApart (node_needs table.now ssa.now deps.now plan.now) (λ v. is_in v (units_of pack.now)) (needs_of table.now ssa.now deps.now pack.now)) }
 {
-    let end = end_of_units(ssa)?;
-    let mut marks = clear_marks(alloc, end)?;
+    mark_pack(own, pack);
     let starts = pack_needs(alloc, table, ssa, deps, pack)?;
     walk_down(
         alloc,
@@ -101,48 +110,118 @@ fn reaches_itself(
         ssa,
         deps,
         plan,
-        pack,
+        packed,
+        own,
         starts.as_slice(),
+        marks,
+    )
+}
+
+/// The same, with marks of its own.
+fn reaches_itself(
+    alloc: Global,
+    table: &MatchTable,
+    ssa: &Ssa,
+    deps: &DepList,
+    plan: &[Pack],
+    packed: &[bool],
+    pack: &Pack,
+    end: usize,
+) -> Result<bool, AllocError>
+    requires names { NameUnits ssa.now deps.now }
+    requires end { end ≡ arguments ssa.now + length ssa.now.units }
+    requires packed { AreMarks end (is_in_plan plan.now) packed.now }
+    ensures way { IfOk result (λ r. r ≡ true → HasWay (node_needs table.now ssa.now deps.now plan.now) (λ v. is_in v (units_of pack.now)) (needs_of table.now ssa.now deps.now pack.now)) }
+    ensures apart { IfOk result (λ r. r ≡ false → LeadsApart (node_needs table.now ssa.now deps.now plan.now) (λ v. is_in v (units_of pack.now)) (needs_of table.now ssa.now deps.now pack.now)) }
+{
+    let mut own = clear_marks(alloc, end)?;
+    let mut marks = clear_marks(alloc, end)?;
+    reaches_by(
+        alloc,
+        table,
+        ssa,
+        deps,
+        plan,
+        packed,
+        pack,
+        own.as_mut_slice(),
         marks.as_mut_slice(),
     )
 }
 
-fn some_in_plan(plan: &[Pack], units: &[u32]) -> bool
-    ensures { result ≡ list_any (is_in_plan plan.now) units.now }
+/// Whether a unit is one of a plan, by the marks of its units as far as they go.
+fn is_packed(packed: &[bool], plan: &[Pack], unit: u32) -> bool
+    ensures { result ≡ is_packed_by packed.now plan.now unit }
 {
-    units.iter().any(|unit| is_in_plan(plan, *unit))
+    if (unit as usize) < packed.len() {
+        is_marked(packed, unit)
+    } else {
+        is_in_plan(plan, unit)
+    }
 }
 
-fn is_lane_in(plan: &[Pack], lane: Option<u32>) -> bool
-    ensures { result ≡ is_lane_in plan.now lane }
+fn some_packed(packed: &[bool], plan: &[Pack], units: &[u32]) -> bool
+    ensures { result ≡ list_any (is_packed_by packed.now plan.now) units.now }
+{
+    units.iter().any(|unit| is_packed(packed, plan, *unit))
+}
+
+fn is_lane_packed(packed: &[bool], plan: &[Pack], lane: Option<u32>) -> bool
+    ensures { result ≡ is_lane_in (is_packed_by packed.now plan.now) lane }
 {
     match lane {
         None => false,
-        Some(unit) => is_in_plan(plan, unit),
+        Some(unit) => is_packed(packed, plan, unit),
     }
 }
 
-fn is_lane_among(plan: &[Pack], lanes: &[Option<u32>]) -> bool
-    ensures { result ≡ list_any (is_lane_in plan.now) lanes.now }
+fn some_lane_packed(packed: &[bool], plan: &[Pack], lanes: &[Option<u32>]) -> bool
+    ensures { result ≡ list_any (is_lane_in (is_packed_by packed.now plan.now)) lanes.now }
 {
-    lanes.iter().any(|lane| is_lane_in(plan, *lane))
+    lanes.iter().any(|lane| is_lane_packed(packed, plan, *lane))
 }
 
-fn some_lane_in(plan: &[Pack], lanes: &[Option<u32>]) -> bool
-    ensures { result ≡ list_any (is_in_plan plan.now) (filter_map (λ v. v) lanes.now) }
+fn lanes_overlap(packed: &[bool], plan: &[Pack], lanes: &[Option<u32>]) -> bool
+    ensures { result ≡ list_any (is_packed_by packed.now plan.now) (filter_map (λ v. v) lanes.now) }
 {
-    is_lane_among(plan, lanes)
+    some_lane_packed(packed, plan, lanes)
 }
 
-/// Whether some unit of a pack is one of a plan.
-fn overlaps(plan: &[Pack], pack: &Pack) -> bool
-    ensures { result ≡ list_any (is_in_plan plan.now) (units_of pack.now) }
+/// Whether some unit of a pack is one of a plan, of which the units are marked.
+fn overlaps(packed: &[bool], plan: &[Pack], pack: &Pack) -> bool
+    ensures { result ≡ list_any (is_packed_by packed.now plan.now) (units_of pack.now) }
 {
     match pack {
-        Pack::Stores(units) => some_in_plan(plan, units.as_slice()),
-        Pack::Loads(units) => some_in_plan(plan, units.as_slice()),
-        Pack::Call { lanes, .. } => some_lane_in(plan, lanes.as_slice()),
+        Pack::Stores(units) => some_packed(packed, plan, units.as_slice()),
+        Pack::Loads(units) => some_packed(packed, plan, units.as_slice()),
+        Pack::Call { lanes, .. } => lanes_overlap(packed, plan, lanes.as_slice()),
     }
+}
+
+/// Whether a plan stays one with a pack behind it, with clear marks for its units.
+fn stays_by(
+    alloc: Global,
+    plan: &[Pack],
+    packed: &mut [bool],
+    pack: &Pack,
+    table: &MatchTable,
+    ssa: &Ssa,
+    deps: &DepList,
+    end: usize,
+) -> Result<bool, AllocError>
+    requires names { NameUnits ssa.now deps.now }
+    requires free { IsFree table.now ssa.now deps.now plan.now }
+    requires end { end ≡ arguments ssa.now + length ssa.now.units }
+    requires clear { packed.old ≡ replicate end false }
+    ensures { IfOk result (λ b. b ≡ stays_plan (packing [] table.now ssa.now deps.now) plan.now pack.now) }
+{
+    mark_plan(packed, plan);
+    let overlap = overlaps(packed, plan, pack);
+    if overlap {
+        return Ok(false);
+    }
+    let reached = reaches_itself(alloc, table, ssa, deps, plan, packed, pack, end)?;
+    Ok(!reached)
 }
 
 /// Whether a plan that has no cycle stays one with a pack behind it: no unit of the pack is in it, and
@@ -159,10 +238,16 @@ pub fn stays_plan(
     requires free { IsFree table.now ssa.now deps.now plan.now }
     ensures { IfOk result (λ b. b ≡ stays_plan (packing [] table.now ssa.now deps.now) plan.now pack.now) }
 {
-    let overlap = overlaps(plan, pack);
-    if overlap {
-        return Ok(false);
-    }
-    let reached = reaches_itself(alloc, table, ssa, deps, plan, pack)?;
-    Ok(!reached)
+    let end = end_of_units(ssa)?;
+    let mut packed = clear_marks(alloc, end)?;
+    stays_by(
+        alloc,
+        plan,
+        packed.as_mut_slice(),
+        pack,
+        table,
+        ssa,
+        deps,
+        end,
+    )
 }

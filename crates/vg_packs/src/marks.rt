@@ -1,0 +1,94 @@
+//! Marks of the units of packs.
+
+ghost use Rattle.std.specs.Prelude.{◌≡◌, IfOk, false, get_or, nat_eq, replicate};
+ghost use Rattle.std.specs.List.{filter_map, list_any};
+ghost use Rattle.vg_plans.specs.World.{is_in};
+ghost use Rattle.vg_shapes.specs.Pack.{units_of};
+ghost use Rattle.vg_packs.specs.Marks.{AddsMarks};
+ghost use Rattle.vg_packs.specs.Walk.{is_in_plan, is_lane_of};
+
+use std::alloc::{AllocError, Global};
+use vg_shapes::Pack;
+
+/// So many marks, none set.
+pub(crate) fn clear_marks(alloc: Global, count: usize) -> Result<Vec<bool>, AllocError>
+    ensures { IfOk result (λ marks. marks.items ≡ replicate count false) }
+{
+    vec![in alloc; false; count]
+}
+
+/// Whether a number is marked.
+pub(crate) fn is_marked(marks: &[bool], number: u32) -> bool
+    ensures { result ≡ get_or marks.now number false }
+{
+    marks.get(number as usize).copied().unwrap_or(false)
+}
+
+/// Whether some number of a list is marked.
+pub(crate) fn some_marked(marks: &[bool], numbers: &[u32]) -> bool
+    ensures { result ≡ list_any (λ v. get_or marks.now v false) numbers.now }
+{
+    numbers.iter().any(|number| is_marked(marks, *number))
+}
+
+/// Marks a number, if it has a mark.
+fn mark(marks: &mut [bool], number: u32)
+    ensures { AddsMarks (λ v. nat_eq v number) marks.old marks.new }
+{
+    let index = number as usize;
+    if index < marks.len() {
+        marks[index] = true;
+    }
+}
+
+/// Marks the number of a lane, if it has one.
+fn mark_lane(marks: &mut [bool], lane: Option<u32>)
+    ensures { AddsMarks (λ v. is_lane_of v lane) marks.old marks.new }
+{
+    match lane {
+        None => {}
+        Some(number) => mark(marks, number),
+    }
+}
+
+fn mark_units(marks: &mut [bool], units: &[u32])
+    ensures { AddsMarks (λ v. is_in v units.now) marks.old marks.new }
+{
+    'units: for unit in units {
+        mark(marks, *unit);
+    }
+}
+
+fn mark_lanes(marks: &mut [bool], lanes: &[Option<u32>])
+    ensures { AddsMarks (λ v. list_any (is_lane_of v) lanes.now) marks.old marks.new }
+{
+    'lanes: for lane in lanes {
+        mark_lane(marks, *lane);
+    }
+}
+
+fn mark_values(marks: &mut [bool], lanes: &[Option<u32>])
+    ensures { AddsMarks (λ v. is_in v (filter_map (λ u. u) lanes.now)) marks.old marks.new }
+{
+    mark_lanes(marks, lanes);
+}
+
+/// Marks the units of a pack.
+pub(crate) fn mark_pack(marks: &mut [bool], pack: &Pack)
+    ensures { AddsMarks (λ v. is_in v (units_of pack.now)) marks.old marks.new }
+{
+    match pack {
+        Pack::Stores(units) => mark_units(marks, units.as_slice()),
+        Pack::Loads(units) => mark_units(marks, units.as_slice()),
+        Pack::Call { lanes, .. } => mark_values(marks, lanes.as_slice()),
+    }
+}
+
+/// Marks the units of a plan.
+pub(crate) fn mark_plan(marks: &mut [bool], plan: &[Pack])
+    ensures { AddsMarks (is_in_plan plan.now) marks.old marks.new }
+{
+    'packs: for pack in plan {
+        mark_pack(marks, pack);
+    }
+}
