@@ -1,0 +1,9 @@
+pub mod Calls
+pub mod Filled
+pub mod Fitted
+pub mod Groups
+pub mod Made
+pub mod Packs
+pub mod Planned
+pub mod Slots
+pub mod Terms

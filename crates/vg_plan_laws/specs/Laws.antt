@@ -1,0 +1,100 @@
+-- What plans of kernels promise of the programs that are emitted for them.
+use Rattle.std.specs.Prelude.{◌≡◌, ℕ, ◌<◌, ◌^◌, List, Option, Some, slice_get, slice_index}
+use Rattle.std.specs.List.{AllByRecursion}
+use Rattle.vg_plans.specs.World.{plan_cost}
+use Rattle.vg_program.specs.Meaning.{Instructions}
+use Rattle.vg_program.specs.Cost.{cost_of}
+use Rattle.vg_program.specs.declared.program.Program.{Program}
+use Rattle.vg_program.specs.Valid.{KeepsRules}
+use Rattle.vg_pseudo.specs.declared.header.Header.{Header}
+use Rattle.vg_shapes.specs.declared.match_table.Match.{Match}
+use Rattle.vg_shapes.specs.declared.operand.Operand.{Operand}
+use Rattle.vg_shapes.specs.declared.order.Node.{Node}
+use Rattle.vg_shapes.specs.declared.pack.Pack.{Pack as Packed}
+use Rattle.vg_shapes.specs.declared.pack.Pack.TheVariants.{Call}
+use Rattle.vg_shapes.specs.declared.ssa.Ssa.{Ssa}
+use Rattle.vg_shapes.specs.Description.{Description}
+use Rattle.vg_shapes.specs.Matches.{AreMatches}
+use Rattle.vg_shapes.specs.Nodes.{ArePacks, IsOrder}
+use Rattle.vg_shapes.specs.Operands.{IsOperand}
+use Rattle.vg_shapes.specs.RunUnits.{Reached}
+use Rattle.vg_shapes.specs.Sound.{IsSound}
+use Rattle.vg_packing.specs.declared.recipe.Recipe.{Recipe}
+use Rattle.vg_packing.specs.Laws.{IsPlanFor}
+use Rattle.vg_packing.specs.Packing.{packing}
+use Rattle.vg_emission.specs.Emission.{Job, takes_at}
+use Rattle.vg_emission.specs.Fit.{CallsDescribed, HasHeader}
+use Rattle.vg_emission.specs.Laws.{AlwaysKeep, IsRun, MeansUnits}
+use Rattle.vg_emission.specs.Planned.{IsPack, IsPlanned}
+use Rattle.vg_emission.specs.Program.{job_of, operands_in, program_of}
+use Rattle.vg_emission.specs.Promises.{CallHolds, RecipeFills}
+use Rattle.vg_emission.specs.Truth.{IsTrueOf}
+use Rattle.vg_gather.specs.Laws.{AreInWidths}
+use Rattle.vg_gather.specs.Recipes.{recipe_of, recipes_of}
+use Rattle.vg_plan_laws.specs.Described.{IsDescribed}
+use Rattle.vg_plan_laws.specs.Made.{IsMade, IsMatchedCall}
+
+-- what plans are made of: a sound kernel, descriptions of instances, and all matches of their lanes
+pub record AreKnown (ds : List Description) (matches : List Match) (ssa : Ssa) : Type 0 where
+  pub sound : IsSound ssa
+  pub described : AllByRecursion IsDescribed ds
+  pub matched : AreMatches ds ssa matches
+
+-- descriptions are true of what calls give
+abbrev pub AreTrue : Instructions → List Description → Type 0
+AreTrue called ds = AllByRecursion (IsTrueOf called) ds
+
+-- the recipes that the operands of packs take, and what is emitted by them
+abbrev pub planned_job : List Description → List Match → Ssa → List Packed → Job
+planned_job ds matches ssa plan = job_of ds matches ssa plan (recipes_of ds matches ssa plan)
+
+abbrev pub planned_program : List Description → List Match → Ssa → List Packed → List Node → Program
+planned_program ds matches ssa plan order =
+    program_of ds matches ssa plan (recipes_of ds matches ssa plan) order
+
+-- ---- packs and operands
+
+-- each pack of a plan is a store group, loads that stand beside each other, or a matched call
+abbrev pub PlansAreMade : Type 0
+PlansAreMade =
+    (ds : List Description) (matches : List Match) (ssa : Ssa) (deps : List (ℕ × ℕ))
+    (plan : List Packed) → IsPlanFor ds matches ssa deps plan →
+    AllByRecursion (IsMade ds matches ssa) plan
+
+-- a matched call holds its pack, on registers that fill its operands, with the numbers of any run
+abbrev pub CallsHold : Type 0
+CallsHold =
+    (called : Instructions) (ds : List Description) (matches : List Match) (ssa : Ssa)
+    (packs : List Packed) (recipes : List Recipe) (places memory args : List ℕ) (last : Reached) →
+    AreKnown ds matches ssa → AreTrue called ds → IsRun ssa places memory args last →
+    (k e : ℕ) (lanes : List (Option ℕ)) → slice_get packs k ≡ Some (Call e lanes) →
+    IsMatchedCall ds matches ssa e lanes →
+    CallHolds (job_of ds matches ssa packs recipes) called (slice_index last.numbers)
+    (takes_at (job_of ds matches ssa packs recipes) k) e lanes
+
+-- the operands of the packs of a plan have sound slots in registers that there are
+abbrev pub OperandsAreSound : Type 0
+OperandsAreSound =
+    (ds : List Description) (matches : List Match) (ssa : Ssa) (deps : List (ℕ × ℕ))
+    (plan : List Packed) → AreKnown ds matches ssa → IsPlanFor ds matches ssa deps plan →
+    AllByRecursion (IsOperand ssa) (operands_in ds matches ssa plan)
+
+-- a run of a sound kernel gives each value a number below 2 to its width
+abbrev pub RunsStayInWidths : Type 0
+RunsStayInWidths =
+    (ssa : Ssa) (places memory args : List ℕ) (last : Reached) → IsSound ssa →
+    IsRun ssa places memory args last → AreInWidths ssa (slice_index last.numbers)
+
+-- the packs of a plan are packs of the kernel
+abbrev pub PacksAreRight : Type 0
+PacksAreRight =
+    (ds : List Description) (matches : List Match) (ssa : Ssa) (deps : List (ℕ × ℕ))
+    (plan : List Packed) → AreKnown ds matches ssa → IsPlanFor ds matches ssa deps plan →
+    ArePacks ssa plan × AllByRecursion (IsPack ds ssa) plan
+
+-- lines can be emitted from a plan
+abbrev pub PlansArePlanned : Type 0
+PlansArePlanned =
+    (ds : List Description) (matches : List Match) (ssa : Ssa) (deps : List (ℕ × ℕ))
+    (plan : List Packed) → AreKnown ds matches ssa → IsPlanFor ds matches ssa deps plan →
+    IsPlanned (planned_job ds matches ssa plan)

@@ -1,0 +1,13 @@
+//! Programs of plans mean their units: each plan of a kernel, with the recipes that its operands take,
+//! meets all that the laws on emitted programs want.
+//!
+//! `specs/Described.antt` says what instances can be called, `specs/Made.antt` what the packs of plans
+//! are, and `specs/Laws.antt` what plans promise.
+#![tactic(auto)]
+
+mod law;
+
+pub use law::{
+    calls_hold, operands_are_sound, packs_are_right, plans_are_made, plans_are_planned,
+    runs_stay_in_widths,
+};
