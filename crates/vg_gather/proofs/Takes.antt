@@ -32,7 +32,7 @@ use Rattle.vg_gather.proofs.Prices.{can_make, made, makes, ready-all, there-all}
 
 -- ---- the first pack that passes
 
-first-passes : (test : Packed → Bool) (plan : List Packed) → list_any test plan ≡ true
+pub first-passes : (test : Packed → Bool) (plan : List Packed) → list_any test plan ≡ true
     → test (slice_index_or plan (position_or_len test plan) (Stores [])) ≡ true
 first-passes test [] e = absurd (cc)
 first-passes test (p ∷ plan) e =
@@ -115,7 +115,7 @@ standing vs [] v all h = absurd (omega arith)
 standing vs (s ∷ ss) v all h =
     standing-first vs s.low s.width s.wanted ss v all.0 (λ k. standing vs ss v all.1 k) h
 
-abbrev moved_of : Operand → Description → List (ℕ × Slot)
+abbrev pub moved_of : Operand → Description → List (ℕ × Slot)
 moved_of o e = flat_map (moved_from e) (wanted_slots o)
 
 part-gives : (o : Operand) (e : Description) (k register : ℕ) (p : Packed)
@@ -239,19 +239,19 @@ leaf-below params width lanes i (Some (one op w k x)) s h e = tt
 leaf-below params width lanes i (Some (two op w x y)) s h e = tt
 leaf-below params width lanes i (Some (sel w c x y)) s h e = tt
 
-moved-below : (e : Description) (ss : List Slot) → IsPackable e
+pub moved-below : (e : Description) (ss : List Slot) → IsPackable e
     → AllByRecursion (λ m. m.0 < length e.params) (flat_map (moved_from e) ss)
 moved-below e [] is = tt
 moved-below e (s ∷ ss) is =
     all-append (λ m. m.0 < length e.params) (moved_from e s) (flat_map (moved_from e) ss)
     (leaf-below e.params e.lane_width e.lanes _ _ s is.lanes refl) (moved-below e ss is)
 
-in-use : (e : Description) (moved : List (ℕ × Slot)) → 1 ≤ length moved
+pub in-use : (e : Description) (moved : List (ℕ × Slot)) → 1 ≤ length moved
     → AllByRecursion (λ m. m.0 < length e.params) moved → 1 ≤ length (parts_from moved 0 e.params)
 in-use e [] long all = absurd (omega arith)
 in-use e (m ∷ moved) long all = let h = all.0 in parts-some m moved 0 e.params (omega arith) (omega arith)
 
-value-wanted : (ss : List Slot) → list_any (λ s. wants_value s.wanted) ss ≡ true
+pub value-wanted : (ss : List Slot) → list_any (λ s. wants_value s.wanted) ss ≡ true
     → 1 ≤ length (filter (λ s. is_wanted s.wanted) ss)
 value-wanted [] e = absurd (cc)
 value-wanted (s ∷ ss) e = first s.wanted (λ h. value-wanted ss h) e
@@ -264,7 +264,7 @@ value-wanted (s ∷ ss) e = first s.wanted (λ h. value-wanted ss h) e
     first (Constant w c) rest e = omega arith
     first Nothing rest e = rest e
 
-not-constant : (b : Bool) → not b ≡ false → b ≡ true
+pub not-constant : (b : Bool) → not b ≡ false → b ≡ true
 not-constant true e = refl
 not-constant false e = absurd (cc)
 
@@ -282,12 +282,12 @@ packs-of-good ds ssa plan o e is varies can had =
 
 -- ---- recipes
 
-packable-in : (ds : List Description) (n : ℕ) → AllByRecursion IsPackable ds → IsPackable (description_in ds n)
+pub packable-in : (ds : List Description) (n : ℕ) → AllByRecursion IsPackable ds → IsPackable (description_in ds n)
 packable-in [] n h = record { fill = refl; lanes = tt; even = refl; apart = refl }
 packable-in (d ∷ ds) zero h = h.0
 packable-in (d ∷ ds) (suc n) h = packable-in ds n h.1
 
-least-has : (P : ℕ → Type 0) (key : ℕ → ℕ) (best : ℕ) (xs : List ℕ) → P best → AllByRecursion P xs → P (first_least key best xs)
+pub least-has : (P : ℕ → Type 0) (key : ℕ → ℕ) (best : ℕ) (xs : List ℕ) → P best → AllByRecursion P xs → P (first_least key best xs)
 least-has P key best [] h all = h
 least-has P key best (x ∷ xs) h all = elim (cases_Bool (nat_lt (key x) (key best))) [
   | inl t ↦ rw t (least-has P key x xs all.0 all.1)

@@ -2,8 +2,12 @@ pub mod Calls
 pub mod Filled
 pub mod Fitted
 pub mod Groups
+pub mod Keeping
 pub mod Made
 pub mod Packs
 pub mod Planned
+pub mod Programs
+pub mod Recipes
+pub mod Shuffles
 pub mod Slots
 pub mod Terms

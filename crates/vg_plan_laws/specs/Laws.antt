@@ -20,6 +20,7 @@ use Rattle.vg_shapes.specs.Operands.{IsOperand}
 use Rattle.vg_shapes.specs.RunUnits.{Reached}
 use Rattle.vg_shapes.specs.Sound.{IsSound}
 use Rattle.vg_packing.specs.declared.recipe.Recipe.{Recipe}
+use Rattle.vg_packing.specs.declared.recipe.Recipe.TheVariants as recipe
 use Rattle.vg_packing.specs.Laws.{IsPlanFor}
 use Rattle.vg_packing.specs.Packing.{packing}
 use Rattle.vg_emission.specs.Emission.{Job, takes_at}
@@ -98,3 +99,71 @@ PlansArePlanned =
     (ds : List Description) (matches : List Match) (ssa : Ssa) (deps : List (ℕ × ℕ))
     (plan : List Packed) → AreKnown ds matches ssa → IsPlanFor ds matches ssa deps plan →
     IsPlanned (planned_job ds matches ssa plan)
+
+-- ---- recipes
+
+-- where descriptions are true, a shuffle fills its operand on registers that hold its packs
+abbrev pub ShufflesFill : Type 0
+ShufflesFill =
+    (called : Instructions) (j : Job) (numbers : ℕ → ℕ) (o : Operand) (e : ℕ) (packs : List ℕ) →
+    AllByRecursion IsDescribed j.descriptions → AreTrue called j.descriptions →
+    recipe_of j.descriptions j.ssa j.packs o ≡ recipe.Shuffle e packs →
+    RecipeFills j called numbers o (recipe.Shuffle e packs)
+
+-- the recipe of a sound operand fills it
+abbrev pub RecipesFill : Type 0
+RecipesFill =
+    (called : Instructions) (j : Job) (numbers : ℕ → ℕ) (o : Operand) →
+    AllByRecursion IsDescribed j.descriptions → AreTrue called j.descriptions →
+    IsOperand j.ssa o → AreInWidths j.ssa numbers →
+    RecipeFills j called numbers o (recipe_of j.descriptions j.ssa j.packs o)
+
+-- the recipes and the calls of a plan keep what they promise
+abbrev pub PlansKeepPromises : Type 0
+PlansKeepPromises =
+    (called : Instructions) (ds : List Description) (matches : List Match) (ssa : Ssa)
+    (deps : List (ℕ × ℕ)) (plan : List Packed) →
+    AreKnown ds matches ssa → AreTrue called ds → IsPlanFor ds matches ssa deps plan →
+    AlwaysKeep (planned_job ds matches ssa plan) called
+
+-- ---- programs
+
+-- The program of a plan in any legal order leaves the memory that the units of the kernel leave, or
+-- traps where they do, in each layout that respects noalias.
+abbrev pub ProgramsMeanTheirUnits : Type 0
+ProgramsMeanTheirUnits =
+    (called : Instructions) (ds : List Description) (matches : List Match) (ssa : Ssa)
+    (deps : List (ℕ × ℕ)) (plan : List Packed) (order : List Node) →
+    AreKnown ds matches ssa → AreTrue called ds → IsPlanFor ds matches ssa deps plan →
+    IsOrder ssa matches plan order →
+    MeansUnits called (planned_program ds matches ssa plan order) ssa
+
+-- it costs what the plan costs
+abbrev pub ProgramsCostTheirPlans : Type 0
+ProgramsCostTheirPlans =
+    (ds : List Description) (matches : List Match) (ssa : Ssa) (deps : List (ℕ × ℕ))
+    (plan : List Packed) (order : List Node) →
+    AreKnown ds matches ssa → IsPlanFor ds matches ssa deps plan →
+    IsOrder ssa matches plan order →
+    cost_of (planned_program ds matches ssa plan order)
+    ≡ plan_cost (packing ds matches ssa deps) plan
+
+-- it keeps the rules on programs, whatever its text is long, where the descriptions are those of
+-- instructions
+abbrev pub ProgramsKeepTheRules : Type 0
+ProgramsKeepTheRules =
+    (headers : List Header) (ds : List Description) (matches : List Match) (ssa : Ssa)
+    (deps : List (ℕ × ℕ)) (plan : List Packed) (order : List Node) →
+    AreKnown ds matches ssa → AllByRecursion (HasHeader headers) ds →
+    IsPlanFor ds matches ssa deps plan → IsOrder ssa matches plan order →
+    plan_cost (packing ds matches ssa deps) plan < 2 ^ 32 →
+    KeepsRules headers (planned_program ds matches ssa plan order)
+
+-- it calls described instances alone
+abbrev pub ProgramsCallDescribed : Type 0
+ProgramsCallDescribed =
+    (headers : List Header) (ds : List Description) (matches : List Match) (ssa : Ssa)
+    (deps : List (ℕ × ℕ)) (plan : List Packed) (order : List Node) →
+    AreKnown ds matches ssa → AllByRecursion (HasHeader headers) ds →
+    IsPlanFor ds matches ssa deps plan → IsOrder ssa matches plan order →
+    CallsDescribed ds (planned_program ds matches ssa plan order).lines

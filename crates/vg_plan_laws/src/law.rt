@@ -1,6 +1,6 @@
 //! What plans of kernels promise of the programs that are emitted for them.
 
-ghost use Rattle.vg_plan_laws.specs.Laws.{CallsHold, OperandsAreSound, PacksAreRight, PlansAreMade, PlansArePlanned, RunsStayInWidths};
+ghost use Rattle.vg_plan_laws.specs.Laws.{CallsHold, OperandsAreSound, PacksAreRight, PlansAreMade, PlansArePlanned, PlansKeepPromises, ProgramsCallDescribed, ProgramsCostTheirPlans, ProgramsKeepTheRules, ProgramsMeanTheirUnits, RecipesFill, RunsStayInWidths, ShufflesFill};
 
 /// A law that costs nothing to call: each pack of a plan is a store group, loads that stand beside each
 /// other in memory, or the call of a description whose lanes match.
@@ -32,4 +32,43 @@ pub fn packs_are_right()
 /// A law: lines can be emitted from a plan by the recipes that its operands take.
 pub fn plans_are_planned()
     ensures { PlansArePlanned }
+{}
+
+/// A law: where descriptions are true, what a shuffle gives fills the operand that takes it, on registers
+/// that hold its packs.
+pub fn shuffles_fill()
+    ensures { ShufflesFill }
+{}
+
+/// A law: where descriptions are true, the recipe of a sound operand fills it.
+pub fn recipes_fill()
+    ensures { RecipesFill }
+{}
+
+/// A law: where descriptions are true, the recipes and the calls of a plan keep what they promise.
+pub fn plans_keep_promises()
+    ensures { PlansKeepPromises }
+{}
+
+/// A law: where descriptions are true, the program of a plan in any legal order leaves the memory that
+/// the units of the kernel leave one after the other, or traps where they do, in each layout that
+/// respects noalias.
+pub fn programs_of_plans_mean_their_units()
+    ensures { ProgramsMeanTheirUnits }
+{}
+
+/// A law: the program of a plan costs what the plan costs.
+pub fn programs_of_plans_cost_their_plans()
+    ensures { ProgramsCostTheirPlans }
+{}
+
+/// A law: the program of a plan keeps the rules on programs, whatever the length of its text is, where
+/// the descriptions are those of the instructions and the cost is below 2 ^ 32.
+pub fn programs_of_plans_keep_the_rules()
+    ensures { ProgramsKeepTheRules }
+{}
+
+/// A law: the program of a plan calls described instances alone.
+pub fn programs_of_plans_call_described_instances()
+    ensures { ProgramsCallDescribed }
 {}

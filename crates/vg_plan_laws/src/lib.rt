@@ -9,5 +9,7 @@ mod law;
 
 pub use law::{
     calls_hold, operands_are_sound, packs_are_right, plans_are_made, plans_are_planned,
-    runs_stay_in_widths,
+    plans_keep_promises, programs_of_plans_call_described_instances,
+    programs_of_plans_cost_their_plans, programs_of_plans_keep_the_rules,
+    programs_of_plans_mean_their_units, recipes_fill, runs_stay_in_widths, shuffles_fill,
 };
