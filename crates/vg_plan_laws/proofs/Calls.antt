@@ -1,13 +1,8 @@
 -- Calls hold their packs: the lanes of what they give have the numbers of the values that they fit.
-use Rattle.std.proofs.Common.{◌≡◌, ℕ, ◌+◌, ◌<◌, ◌≤◌, List, [], ◌∷◌, length, map, take, Option, Some, None, refl, sym, ap, subst, ◌∙◌, arith}
-use Rattle.std.specs.Prelude.{slice_get, slice_index, slice_index_or}
-use Rattle.std.specs.List.{AllByRecursion}
+use Rattle.std.proofs.Common.{◌≡◌, ℕ, ◌+◌, List, [], ◌∷◌, length, map, take, sym, ap, subst, ◌∙◌, arith}
+use Rattle.std.specs.Prelude.{slice_index}
 use Rattle.std.specs.Option.{option_map_or}
 use Rattle.vg_plans.proofs.Lists.{take-whole}
-use Rattle.vg_program.specs.Meaning.{Instructions}
-use Rattle.vg_shapes.specs.declared.match_table.Match.{Match}
-use Rattle.vg_shapes.specs.declared.operand.Operand.{Operand}
-use Rattle.vg_shapes.specs.declared.pack.Pack.{Pack as Packed}
 use Rattle.vg_shapes.specs.declared.pack.Pack.TheVariants.{Call, Stores}
 use Rattle.vg_shapes.specs.declared.ssa.Ssa.{Ssa}
 use Rattle.vg_shapes.specs.declared.unit.Unit.{Unit as Work}
@@ -17,20 +12,17 @@ use Rattle.vg_shapes.specs.RunUnits.{Reached, run_units, start_of}
 use Rattle.vg_shapes.specs.Sound.{IsSound}
 use Rattle.vg_shapes.specs.Units.{arguments, integers}
 use Rattle.vg_match.specs.Laws.{TermsHave}
-use Rattle.vg_packing.specs.declared.recipe.Recipe.{Recipe}
 use Rattle.vg_packing.specs.Taken.{operands_from, operands_of}
 use Rattle.vg_emission.specs.Emission.{Job, no_description, operand_at, pack_at, takes_at}
 use Rattle.vg_emission.specs.Laws.{IsRun}
 use Rattle.vg_emission.specs.Program.{job_of}
-use Rattle.vg_emission.specs.Promises.{AllFill, answer, CallHolds, Holds, LanesHave}
+use Rattle.vg_emission.specs.Promises.{AllFill, answer, Holds, LanesHave}
 use Rattle.vg_emission.specs.Truth.{Answers, IsTrueOf}
 use Rattle.vg_emission.proofs.Jobs.{get-is, get-some}
 use Rattle.vg_emission.proofs.Made.{job-made}
 use Rattle.vg_emission.proofs.Orders.{arguments-long}
-use Rattle.vg_gather.specs.Laws.{AreInWidths}
 use Rattle.vg_plan_laws.specs.Described.{IsDescribed}
-use Rattle.vg_plan_laws.specs.Laws.{AreKnown, AreTrue, CallsHold, RunsStayInWidths}
-use Rattle.vg_plan_laws.specs.Made.{IsMatchedCall}
+use Rattle.vg_plan_laws.specs.Laws.{CallsHold, RunsStayInWidths}
 use Rattle.vg_plan_laws.proofs.Filled.{all-get, filled-registers, FillEach, lanes-have}
 use Rattle.vg_plan_laws.proofs.Terms.{run-long, term-low, value-fits, value-term}
 
@@ -41,12 +33,16 @@ record IsGiven (ssa : Ssa) (numbers : List ℕ) : Type 0 where
   long : length numbers ≡ arguments ssa + length ssa.units
   have : TermsHave ssa numbers
 
-given : (ssa : Ssa) (places memory args : List ℕ) (last : Reached) → IsSound ssa → IsRun ssa places memory args last → IsGiven ssa last.numbers
+given : (ssa : Ssa) (places memory args : List ℕ) (last : Reached) → IsSound ssa
+    → IsRun ssa places memory args last → IsGiven ssa last.numbers
 given ssa places memory args last sound run =
-    let whole : take (length ssa.units) ssa.units ≡ ssa.units = take-whole (length ssa.units) ssa.units (omega arith) in
+    let whole : take (length ssa.units) ssa.units ≡ ssa.units =
+    take-whole (length ssa.units) ssa.units (omega arith) in
     let started = arguments-long (integers ssa) args run.arguments in
     record {
-      long = run-long places ssa.units (start_of memory args) last run.runs ∙ ap (λ n. n + length ssa.units) started;
+      long =
+          run-long places ssa.units (start_of memory args) last run.runs ∙ ap
+          (λ n. n + length ssa.units) started;
       have = sound.meaning places memory args (length ssa.units) last run.bytes run.arguments
           (ap (λ (us : List Work). run_units places us (start_of memory args)) whole ∙ run.runs);
     }
@@ -57,17 +53,20 @@ runs-stay ssa places memory args last sound run v w wide =
     let t = value-term ssa v w sound wide in
     let low = term-low ssa v t.0 sound t.1 in
     let long = g.long in
-    value-fits _ ssa v w (slice_index last.numbers v) t.0 sound t.1 t.2 (g.have v t.0 (omega arith) t.1)
+    value-fits _ ssa v w (slice_index last.numbers v) t.0 sound t.1 t.2
+    (g.have v t.0 (omega arith) t.1)
 
 -- ---- calls
 
-fill-each : (j : Job) (numbers : ℕ → ℕ) (os : List ℕ) (rs : List (List ℕ)) → AllFill j numbers os rs → FillEach numbers (map (operand_at j) os) rs
+fill-each : (j : Job) (numbers : ℕ → ℕ) (os : List ℕ) (rs : List (List ℕ)) → AllFill j numbers os rs
+    → FillEach numbers (map (operand_at j) os) rs
 fill-each j numbers [] rs h = h
 fill-each j numbers (o ∷ os) [] h = absurd h
 fill-each j numbers (o ∷ os) (r ∷ rs) h = (h.0, fill-each j numbers os rs h.1)
 
 pub calls-hold : CallsHold
-calls-hold called ds matches ssa packs recipes places memory args last known true run k e lanes at call rs fill =
+calls-hold called ds matches ssa packs recipes places memory args last known true run k e lanes at
+    call rs fill =
     let j = job_of ds matches ssa packs recipes in
     let numbers = slice_index last.numbers in
     let x = call.entry in
@@ -76,16 +75,28 @@ calls-hold called ds matches ssa packs recipes places memory args last known tru
     let described = all-get IsDescribed ds e x known.described call.there in
     let own : pack_at j k ≡ Call e lanes = get-is packs k (Call e lanes) (Stores []) at in
     let takes : map (operand_at j) (takes_at j k) ≡ operands_from bounds 0 x.params =
-    (job-made ds matches ssa packs recipes (known.sound).earlier).takes k (get-some packs k (Call e lanes) at)
+    (job-made ds matches ssa packs recipes (known.sound).earlier).takes k
+    (get-some packs k (Call e lanes) at)
     ∙ ap (operands_of ds matches ssa) own
-    ∙ ap (λ o. operands_from bounds 0 (option_map_or (λ (d : Description). d.params) o [])) call.there
+    ∙ ap (λ o. operands_from bounds 0
+    (option_map_or (λ (d : Description). d.params) o [])) call.there
     in
-    let each : FillEach numbers (operands_from bounds 0 x.params) rs = subst (λ os. FillEach numbers os rs) takes (fill-each j numbers (takes_at j k) rs fill) in
-    let answers : Answers x rs (answer called x rs) = all-get (IsTrueOf called) ds e x true call.there rs (filled-registers numbers bounds 0 x.params rs each) in
-    let have = lanes-have ds matches ssa last.numbers e x bounds rs (answer called x rs) known.sound known.matched g.have g.long call.there described.packable each answers 0 lanes call.matched (λ b h. h) in
+    let each : FillEach numbers (operands_from bounds 0 x.params) rs =
+    subst (λ os. FillEach numbers os rs) takes (fill-each j numbers (takes_at j k) rs fill) in
+    let answers : Answers x rs (answer called x rs) =
+    all-get (IsTrueOf called) ds e x true call.there rs
+    (filled-registers numbers bounds 0 x.params rs each) in
+    let have =
+    lanes-have ds matches ssa last.numbers e x bounds rs
+    (answer called x rs) known.sound known.matched g.have g.long call.there described.packable each
+    answers 0 lanes call.matched (λ b h. h) in
     let same = get-is ds e x no_description call.there in
     subst (λ d. Holds ds ssa numbers (Call e lanes) (answer called d rs)) (sym same) (record {
-      long = answers.long ∙ sym (ap (λ o. option_map_or (λ (d : Description). d.register) o 0) call.there);
+      long =
+          answers.long ∙ sym (ap
+          (λ o. option_map_or (λ (d : Description). d.register) o 0) call.there);
       bits = answers.bits;
-      lanes = subst (λ w. LanesHave numbers w 0 lanes (answer called x rs)) (sym (ap (λ o. option_map_or (λ (d : Description). d.lane_width) o 0) call.there)) have;
+      lanes =
+          subst (λ w. LanesHave numbers w 0 lanes (answer called x rs))
+          (sym (ap (λ o. option_map_or (λ (d : Description). d.lane_width) o 0) call.there)) have;
     })

@@ -1,11 +1,11 @@
 -- Lines can be emitted from a plan: its packs are packs of the kernel, its operands are sound, and its
 -- recipes take what stands in registers.
-use Rattle.std.proofs.Common.{◌≡◌, ℕ, true, List, [], ◌∷◌, Some, refl, sym, ap, subst, ◌∙◌, inl, inr, arith}
+use Rattle.std.proofs.Common.{◌≡◌, true, List, [], ◌∷◌, sym, ap, subst}
 use Rattle.std.specs.Prelude.{flat_map}
 use Rattle.std.specs.List.{AllByRecursion, list_all}
 use Rattle.std.specs.Option.{option_map_or}
 use Rattle.vg_plans.specs.Levels.{distinct}
-use Rattle.vg_plans.specs.Members.{Every, Has}
+use Rattle.vg_plans.specs.Members.{Every}
 use Rattle.vg_plans.proofs.Lists.{every-distinct, every-flat_map}
 use Rattle.vg_shapes.specs.declared.match_table.Match.{Match}
 use Rattle.vg_shapes.specs.declared.operand.Operand.{Operand}
@@ -31,27 +31,35 @@ use Rattle.vg_plan_laws.proofs.Packs.{all-each, plan-packs}
 use Rattle.vg_plan_laws.proofs.Slots.{call-operands, good-entries}
 
 pub plans-are-made : PlansAreMade
-plans-are-made ds matches ssa deps plan is = all-each (IsSingle ds matches ssa) (IsMade ds matches ssa) (λ p s. s.made) plan (plan-made ds matches ssa deps plan is)
+plans-are-made ds matches ssa deps plan is =
+    all-each (IsSingle ds matches ssa) (IsMade ds matches ssa) (λ p s. s.made) plan
+    (plan-made ds matches ssa deps plan is)
 
 -- ---- packs
 
-is-pack : (ds : List Description) (matches : List Match) (ssa : Ssa) (p : Packed) → AllByRecursion IsDescribed ds → IsMade ds matches ssa p → IsPack ds ssa p
+is-pack : (ds : List Description) (matches : List Match) (ssa : Ssa) (p : Packed)
+    → AllByRecursion IsDescribed ds → IsMade ds matches ssa p → IsPack ds ssa p
 is-pack ds matches ssa (Stores us) described made = made
 is-pack ds matches ssa (Loads us) described made = made
 is-pack ds matches ssa (Call d lanes) described made = (
   get-some ds d made.entry made.there,
-  subst IsLaneWidth (sym (ap (λ o. option_map_or (λ (e : Description). e.lane_width) o 0) made.there)) (all-get IsDescribed ds d made.entry described made.there).lane,
+  subst IsLaneWidth (sym
+      (ap (λ o. option_map_or (λ (e : Description). e.lane_width) o 0) made.there))
+      (all-get IsDescribed ds d made.entry described made.there).lane,
 )
 
 pub packs-are-right : PacksAreRight
 packs-are-right ds matches ssa deps plan known is = (
   plan-packs ds matches ssa deps plan known.sound known.matched is,
-  all-each (IsSingle ds matches ssa) (IsPack ds ssa) (λ p s. is-pack ds matches ssa p known.described s.made) plan (plan-made ds matches ssa deps plan is),
+  all-each (IsSingle ds matches ssa) (IsPack ds ssa)
+      (λ p s. is-pack ds matches ssa p known.described s.made) plan
+      (plan-made ds matches ssa deps plan is),
 )
 
 -- ---- operands
 
-pack-operands : (ds : List Description) (matches : List Match) (ssa : Ssa) (p : Packed) → AreKnown ds matches ssa → IsMade ds matches ssa p
+pack-operands : (ds : List Description) (matches : List Match) (ssa : Ssa) (p : Packed)
+    → AreKnown ds matches ssa → IsMade ds matches ssa p
     → Every (IsOperand ssa) (operands_of ds matches ssa p)
 pack-operands ds matches ssa (Stores us) known made = (group-sound ssa us known.sound made, tt)
 pack-operands ds matches ssa (Loads us) known made = tt
@@ -62,8 +70,10 @@ pack-operands ds matches ssa (Call d lanes) known made =
     let params = ap (λ o. option_map_or (λ (e : Description). e.params) o []) made.there in
     subst (λ ps. Every (IsOperand ssa) (operands_from bounds 0 ps)) (sym params)
     (call-operands ssa x bounds own.packable own.params
-    (λ b h. good-entries ds matches ssa d x known.sound known.matched made.there own.packable 0 lanes b made.matched h)
-    (subst (λ ps. list_all (λ (o : Operand). agree o.slots) (operands_from bounds 0 ps) ≡ true) params made.agreed))
+    (λ b h. good-entries ds matches ssa d x known.sound known.matched made.there own.packable 0
+    lanes b made.matched h)
+    (subst (λ ps. list_all (λ (o : Operand). agree o.slots) (operands_from bounds 0 ps)
+    ≡ true) params made.agreed))
 
 all-of : {X : Type 0} (P : X → Type 0) (xs : List X) → Every P xs → AllByRecursion P xs
 all-of P [] h = tt
@@ -89,5 +99,7 @@ plans-are-planned ds matches ssa deps plan known is =
       sound = known.sound;
       packs = right.0;
       kinds = right.1;
-      recipes = plans-take-given ds matches ssa plan (packable ds known.described) (operands-are-sound ds matches ssa deps plan known is);
+      recipes =
+          plans-take-given ds matches ssa plan (packable ds known.described)
+          (operands-are-sound ds matches ssa deps plan known is);
     }

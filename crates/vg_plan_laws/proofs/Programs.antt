@@ -1,7 +1,7 @@
 -- The programs of plans: what they mean, what they cost, and the rules that they keep.
-use Rattle.std.proofs.Common.{◌≡◌, ℕ, suc, ◌+◌, ◌*◌, ◌/◌, ◌%◌, ◌^◌, ◌<◌, ◌≤◌, Bool, true, List, [], ◌∷◌, length, map, Option, Some, None, refl, sym, ap, subst, ◌∙◌, inl, inr, arith}
-use Rattle.std.specs.Prelude.{◌&&◌, is_some, nat_eq, slice_get, slice_index_or}
-use Rattle.std.specs.List.{AllByRecursion, list_any}
+use Rattle.std.proofs.Common.{◌≡◌, ℕ, suc, ◌*◌, ◌/◌, ◌^◌, ◌<◌, ◌≤◌, true, List, [], ◌∷◌, length, Option, Some, None, sym, ap, subst, ◌∙◌, inl, inr, arith}
+use Rattle.std.specs.Prelude.{is_some, nat_eq, slice_get}
+use Rattle.std.specs.List.{AllByRecursion}
 use Rattle.std.specs.Option.{option_map_or}
 use Rattle.std.proofs.Math.Nat.{mod-add-div'}
 use Rattle.std.proofs.lemmas.Bool.{eqb-true, or_cases}
@@ -13,18 +13,13 @@ use Rattle.vg_shapes.specs.declared.pack.Pack.{Pack as Packed}
 use Rattle.vg_shapes.specs.declared.pack.Pack.TheVariants.{Call}
 use Rattle.vg_shapes.specs.declared.ssa.Ssa.{Ssa}
 use Rattle.vg_shapes.specs.Description.{Description, IsLane}
-use Rattle.vg_shapes.specs.Matches.{AreMatches}
 use Rattle.vg_shapes.specs.Operands.{IsOperand}
 use Rattle.vg_shapes.specs.Pack.{match_at}
-use Rattle.vg_shapes.specs.Sound.{IsSound}
-use Rattle.vg_packing.specs.declared.recipe.Recipe.{Recipe}
 use Rattle.vg_packing.specs.declared.recipe.Recipe.TheVariants as recipe
 use Rattle.vg_packing.specs.Held.{holds, lane_width_of, register_of}
 use Rattle.vg_packing.specs.Laws.{IsPlanFor}
-use Rattle.vg_packing.specs.Packing.{packing}
 use Rattle.vg_packing.specs.Producers.{are_matched}
 use Rattle.vg_packing.specs.Shuffles.{is_shuffle}
-use Rattle.vg_packing.specs.Wants.{is_constant}
 use Rattle.vg_packing.proofs.SameTests.{both-true}
 use Rattle.vg_emission.specs.Emission.{Job, no_description, operand_at, pack_at}
 use Rattle.vg_emission.specs.Fit.{AreFit, HasHeader, LaneFits, LanesFit, RecipeFits}
@@ -35,29 +30,31 @@ use Rattle.vg_emission.proofs.Jobs.{listed}
 use Rattle.vg_emission.proofs.Meanings.{emitted-means-units}
 use Rattle.vg_emission.proofs.PlanTotals.{emitted-costs-the-plan}
 use Rattle.vg_emission.proofs.Rules.{emitted-keeps-rules}
-use Rattle.vg_gather.specs.Recipes.{description_in, holder, packs_of, recipe_of, recipes_of}
+use Rattle.vg_gather.specs.Recipes.{description_in, holder, recipe_of, recipes_of}
 use Rattle.vg_gather.proofs.Fits.{constants-fit, holders-fit}
 use Rattle.vg_gather.proofs.Jobs.{plans-count-recipes}
 use Rattle.vg_gather.proofs.Takes.{first-passes}
 use Rattle.vg_plan_laws.specs.Described.{IsDescribed, IsRegisterWidth}
-use Rattle.vg_plan_laws.specs.Laws.{AreKnown, planned_job, planned_program, ProgramsCallDescribed, ProgramsCostTheirPlans, ProgramsKeepTheRules, ProgramsMeanTheirUnits}
+use Rattle.vg_plan_laws.specs.Laws.{AreKnown, planned_job, ProgramsCallDescribed, ProgramsCostTheirPlans, ProgramsKeepTheRules, ProgramsMeanTheirUnits}
 use Rattle.vg_plan_laws.specs.Made.{IsMade, IsMatchedCall}
 use Rattle.vg_plan_laws.proofs.Filled.{all-get, found, lane-of}
 use Rattle.vg_plan_laws.proofs.Fitted.{fitted-width}
 use Rattle.vg_plan_laws.proofs.Keeping.{plans-keep}
 use Rattle.vg_plan_laws.proofs.Planned.{operands-are-sound, plans-are-made, plans-are-planned}
-use Rattle.vg_plan_laws.proofs.Recipes.{IsReady, recipe-is}
+use Rattle.vg_plan_laws.proofs.Recipes.{recipe-is}
 use Rattle.vg_plan_laws.proofs.Shuffles.{shuffle-widths}
 
 pub programs-mean : ProgramsMeanTheirUnits
 programs-mean called ds matches ssa deps plan order known are_true is legal =
     emitted-means-units called ds matches ssa plan (recipes_of ds matches ssa plan) order
-    (plans-are-planned ds matches ssa deps plan known is) legal (plans-keep called ds matches ssa deps plan known are_true is)
+    (plans-are-planned ds matches ssa deps plan known is) legal
+    (plans-keep called ds matches ssa deps plan known are_true is)
 
 pub programs-cost : ProgramsCostTheirPlans
 programs-cost ds matches ssa deps plan order known is legal =
     emitted-costs-the-plan ds matches ssa deps plan (recipes_of ds matches ssa plan) order
-    (plans-are-planned ds matches ssa deps plan known is) legal (plans-count-recipes ds matches ssa deps plan)
+    (plans-are-planned ds matches ssa deps plan known is) legal
+    (plans-count-recipes ds matches ssa deps plan)
 
 -- ---- the lanes of calls
 
@@ -93,44 +90,59 @@ few-lanes r w wide h =
       ]
     ]
 
-lanes-wide : (ds : List Description) (matches : List Match) (ssa : Ssa) (d : ℕ) (x : Description) (n : ℕ) (lanes : List (Option ℕ)) → AreKnown ds matches ssa
-    → slice_get ds d ≡ Some x → are_matched matches d n lanes ≡ true → AllByRecursion (LaneFits ssa x.lane_width) lanes
+lanes-wide : (ds : List Description) (matches : List Match) (ssa : Ssa) (d : ℕ) (x : Description)
+    (n : ℕ) (lanes : List (Option ℕ)) → AreKnown ds matches ssa
+    → slice_get ds d ≡ Some x → are_matched matches d n lanes ≡ true
+    → AllByRecursion (LaneFits ssa x.lane_width) lanes
 lanes-wide ds matches ssa d x n [] known there t = tt
-lanes-wide ds matches ssa d x n (None ∷ lanes) known there t = (tt, lanes-wide ds matches ssa d x (suc n) lanes known there t)
+lanes-wide ds matches ssa d x n (None ∷ lanes) known there t =
+    (tt, lanes-wide ds matches ssa d x (suc n) lanes known there t)
 lanes-wide ds matches ssa d x n (Some v ∷ lanes) known there t =
-    let both = both-true (is_some (match_at matches d n v)) (are_matched matches d (suc n) lanes) t in
+    let both =
+    both-true (is_some (match_at matches d n v)) (are_matched matches d (suc n) lanes) t in
     let f = found ds matches ssa d n v known.matched both.0 in
     let own = all-get IsDescribed ds d x known.described there in
-    let lane = all-get (IsLane x.params x.lane_width) x.lanes n f.2 own.packable.lanes (lane-of ds d n x f.2 there f.3) in (
+    let lane =
+    all-get (IsLane x.params x.lane_width) x.lanes n f.2 own.packable.lanes
+    (lane-of ds d n x f.2 there f.3) in (
       fitted-width ssa f.2 v (f.0).bound known.sound f.4 ∙ ap Some lane.wide,
       lanes-wide ds matches ssa d x (suc n) lanes known there both.1,
     )
 
-call-fits : (ds : List Description) (matches : List Match) (ssa : Ssa) (d : ℕ) (lanes : List (Option ℕ)) → AreKnown ds matches ssa
+call-fits : (ds : List Description) (matches : List Match) (ssa : Ssa) (d : ℕ)
+    (lanes : List (Option ℕ)) → AreKnown ds matches ssa
     → IsMatchedCall ds matches ssa d lanes → LanesFit ds ssa d lanes
 call-fits ds matches ssa d lanes known call =
     let x = call.entry in
     let own = all-get IsDescribed ds d x known.described call.there in
-    let wide : lane_width_of ds ssa (Call d lanes) ≡ x.lane_width = ap (λ o. option_map_or (λ (e : Description). e.lane_width) o 0) call.there in
-    let register : register_of ds ssa (Call d lanes) ≡ x.register = ap (λ o. option_map_or (λ (e : Description). e.register) o 0) call.there in
+    let wide : lane_width_of ds ssa (Call d lanes) ≡ x.lane_width =
+    ap (λ o. option_map_or (λ (e : Description). e.lane_width) o 0) call.there in
+    let register : register_of ds ssa (Call d lanes) ≡ x.register =
+    ap (λ o. option_map_or (λ (e : Description). e.register) o 0) call.there in
     let split = mod-add-div' x.register x.lane_width in
     let long = ap (λ n. n * x.lane_width) call.long in
     let inside : length lanes * x.lane_width ≤ x.register = omega arith in
     let few = few-lanes x.register x.lane_width own.register own.lane in
     let count = call.long in
     record {
-      inside = subst (λ n. length lanes * n ≤ register_of ds ssa (Call d lanes)) (sym wide) (subst (λ n. length lanes * x.lane_width ≤ n) (sym register) inside);
+      inside =
+          subst (λ n. length lanes * n ≤ register_of ds ssa (Call d lanes)) (sym wide)
+          (subst (λ n. length lanes * x.lane_width ≤ n) (sym register) inside);
       few = omega arith;
-      widths = subst (λ n. AllByRecursion (LaneFits ssa n) lanes) (sym wide) (lanes-wide ds matches ssa d x 0 lanes known call.there call.matched);
+      widths =
+          subst (λ n. AllByRecursion (LaneFits ssa n) lanes) (sym wide)
+          (lanes-wide ds matches ssa d x 0 lanes known call.there call.matched);
     }
 
 -- ---- recipes
 
-recipe-fits : (j : Job) (o : Operand) → AllByRecursion IsDescribed j.descriptions → IsOperand j.ssa o
+recipe-fits : (j : Job) (o : Operand) → AllByRecursion IsDescribed j.descriptions
+    → IsOperand j.ssa o
     → RecipeFits j o (recipe_of j.descriptions j.ssa j.packs o)
 recipe-fits j o described is =
     recipe-is j.descriptions j.ssa j.packs o (RecipeFits j o)
-    (λ any. holders-fit j.descriptions j.ssa (pack_at j (holder j.descriptions j.ssa j.packs o)) o (first-passes (λ p. holds j.descriptions j.ssa p o) j.packs any))
+    (λ any. holders-fit j.descriptions j.ssa (pack_at j (holder j.descriptions j.ssa j.packs o)) o
+    (first-passes (λ p. holds j.descriptions j.ssa p o) j.packs any))
     (λ c. constants-fit j.ssa o is)
     (λ varies n ready.
     let e = description_in j.descriptions n in
@@ -138,14 +150,18 @@ recipe-fits j o described is =
     let b = both-true (nat_eq e.register o.register) _ a.1 in (
       ready.low,
       eqb-true e.register o.register b.0,
-      shuffle-widths j o e (listed IsDescribed j.descriptions n no_description described ready.low).packable varies ready.can ready.had,
+      shuffle-widths j o e
+          (listed IsDescribed j.descriptions n no_description described ready.low).packable varies
+          ready.can ready.had,
     ))
     tt
 
 -- ---- the rules
 
-plan-fit : (headers : List Header) (ds : List Description) (matches : List Match) (ssa : Ssa) (deps : List (ℕ × ℕ)) (plan : List Packed) → AreKnown ds matches ssa
-    → AllByRecursion (HasHeader headers) ds → IsPlanFor ds matches ssa deps plan → AreFit (planned_job ds matches ssa plan) headers
+plan-fit : (headers : List Header) (ds : List Description) (matches : List Match) (ssa : Ssa)
+    (deps : List (ℕ × ℕ)) (plan : List Packed) → AreKnown ds matches ssa
+    → AllByRecursion (HasHeader headers) ds → IsPlanFor ds matches ssa deps plan
+    → AreFit (planned_job ds matches ssa plan) headers
 plan-fit headers ds matches ssa deps plan known have is =
     let j = planned_job ds matches ssa plan in
     let os = operands_in ds matches ssa plan in
@@ -153,19 +169,27 @@ plan-fit headers ds matches ssa deps plan known have is =
     let sound = operands-are-sound ds matches ssa deps plan known is in
     record {
       described = have;
-      calls = λ k e lanes at. call-fits ds matches ssa e lanes known (all-get (IsMade ds matches ssa) plan k (Call e lanes) (plans-are-made ds matches ssa deps plan is) at);
+      calls =
+          λ k e lanes at. call-fits ds matches ssa e lanes known
+          (all-get (IsMade ds matches ssa) plan k (Call e lanes)
+          (plans-are-made ds matches ssa deps plan is) at);
       recipes = λ o low.
-          subst (RecipeFits j (operand_at j o)) (sym (get_or-map (recipe_of ds ssa plan) os o none (recipe.Constant []) low))
-          (recipe-fits j (operand_at j o) known.described (listed (IsOperand ssa) os o none sound low));
+          subst (RecipeFits j (operand_at j o))
+          (sym (get_or-map (recipe_of ds ssa plan) os o none (recipe.Constant []) low))
+          (recipe-fits j (operand_at j o) known.described
+          (listed (IsOperand ssa) os o none sound low));
     }
 
 pub programs-keep-rules : ProgramsKeepTheRules
 programs-keep-rules headers ds matches ssa deps plan order known have is legal small =
     emitted-keeps-rules headers ds matches ssa plan (recipes_of ds matches ssa plan) order
-    (plans-are-planned ds matches ssa deps plan known is) legal (plan-fit headers ds matches ssa deps plan known have is)
-    (subst (λ n. n < 2 ^ 32) (sym (programs-cost ds matches ssa deps plan order known is legal)) small)
+    (plans-are-planned ds matches ssa deps plan known is) legal
+    (plan-fit headers ds matches ssa deps plan known have is)
+    (subst (λ n. n < 2 ^ 32) (sym
+    (programs-cost ds matches ssa deps plan order known is legal)) small)
 
 pub programs-call : ProgramsCallDescribed
 programs-call headers ds matches ssa deps plan order known have is legal =
     emitted-calls-described headers ds matches ssa plan (recipes_of ds matches ssa plan) order
-    (plans-are-planned ds matches ssa deps plan known is) legal (plan-fit headers ds matches ssa deps plan known have is)
+    (plans-are-planned ds matches ssa deps plan known is) legal
+    (plan-fit headers ds matches ssa deps plan known have is)

@@ -1,7 +1,7 @@
 -- The terms of a sound kernel: that each value has one, of the value's width, and their numbers in a
 -- run.
-use Rattle.std.proofs.Common.{◌≡◌, ℕ, zero, suc, ◌+◌, ◌-◌, ◌%◌, ◌^◌, ◌<◌, ◌≤◌, Bool, true, false, cond, List, [], ◌∷◌, ◌++◌, length, take, drop, Option, Some, None, refl, sym, ap, subst, ◌∙◌, ◌⊎◌, inl, inr, arith}
-use Rattle.std.specs.Prelude.{nat_lt, slice_get, slice_index}
+use Rattle.std.proofs.Common.{◌≡◌, ℕ, zero, suc, ◌+◌, ◌-◌, ◌%◌, ◌^◌, ◌<◌, ◌≤◌, false, List, [], ◌∷◌, length, take, drop, Option, Some, None, refl, sym, ap, subst, ◌∙◌, ◌⊎◌, inl, inr, arith}
+use Rattle.std.specs.Prelude.{slice_get, slice_index}
 use Rattle.std.specs.List.{AllByRecursion}
 use Rattle.std.specs.Option.{option_map}
 use Rattle.std.proofs.lemmas.Bool.{cases_lt, cond-false, cond-true, le-ltb, lt-ltb}
@@ -16,7 +16,7 @@ use Rattle.vg_base.specs.Width.{bits_of, size_of}
 use Rattle.vg_terms.specs.declared.term.LeafKey.{LeafKey}
 use Rattle.vg_terms.specs.declared.value.Env.{Env}
 use Rattle.vg_terms.specs.Root.{is_constant}
-use Rattle.vg_terms.specs.Term.{Tree, leaf, constant, width_of}
+use Rattle.vg_terms.specs.Term.{Tree, leaf, width_of}
 use Rattle.vg_terms.specs.Value.{number_at, value}
 use Rattle.vg_terms.proofs.Values.{value-below}
 use Rattle.vg_shapes.specs.declared.ssa.Ssa.{Ssa}
@@ -24,33 +24,39 @@ use Rattle.vg_shapes.specs.declared.ssa.SsaParam.{SsaParam}
 use Rattle.vg_shapes.specs.declared.unit.Unit.{Unit as Work}
 use Rattle.vg_shapes.specs.declared.unit.Unit.TheVariants.{Load, Store, Operation}
 use Rattle.vg_shapes.specs.RunUnits.{number_of, Reached, run_units, unit_run}
-use Rattle.vg_shapes.specs.Sound.{argument_key, AreArgumentTerms, AreUnitTerms, environment, IsSound, IsUnit, IsUnitTerm, kind_bits, load_key, result_bits, term_at, terms_of, unit_bits, value_bits}
+use Rattle.vg_shapes.specs.Sound.{argument_key, AreArgumentTerms, AreUnitTerms, IsSound, IsUnit, IsUnitTerm, kind_bits, load_key, result_bits, term_at, terms_of, unit_bits, value_bits}
 use Rattle.vg_shapes.specs.Units.{arguments, integers, unit_at}
 
 -- ---- members by number
 
-take-get : {X : Type 0} (n k : ℕ) (xs : List X) (x : X) → k < n → slice_get xs k ≡ Some x → slice_get (take n xs) k ≡ Some x
+take-get : {X : Type 0} (n k : ℕ) (xs : List X) (x : X) → k < n → slice_get xs k ≡ Some x
+    → slice_get (take n xs) k ≡ Some x
 take-get zero k xs x l e = absurd (omega arith)
 take-get (suc n) k [] x l e = cc
 take-get (suc n) zero (y ∷ xs) x l e = e
 take-get (suc n) (suc k) (y ∷ xs) x l e = take-get n k xs x (omega arith) e
 
-take-got : {X : Type 0} (n k : ℕ) (xs : List X) (x : X) → slice_get (take n xs) k ≡ Some x → slice_get xs k ≡ Some x
+take-got : {X : Type 0} (n k : ℕ) (xs : List X) (x : X) → slice_get (take n xs) k ≡ Some x
+    → slice_get xs k ≡ Some x
 take-got zero k xs x e = cc
 take-got (suc n) k [] x e = e
 take-got (suc n) zero (y ∷ xs) x e = e
 take-got (suc n) (suc k) (y ∷ xs) x e = take-got n k xs x e
 
-drop-get : {X : Type 0} (n k : ℕ) (xs : List X) (x : X) → n ≤ k → slice_get xs k ≡ Some x → slice_get (drop n xs) (k - n) ≡ Some x
-drop-get zero k xs x l e = let same : k ≡ k - 0 = omega arith in subst (λ m. slice_get xs m ≡ Some x) same e
+drop-get : {X : Type 0} (n k : ℕ) (xs : List X) (x : X) → n ≤ k → slice_get xs k ≡ Some x
+    → slice_get (drop n xs) (k - n) ≡ Some x
+drop-get zero k xs x l e =
+    let same : k ≡ k - 0 = omega arith in subst (λ m. slice_get xs m ≡ Some x) same e
 drop-get (suc n) k [] x l e = cc
 drop-get (suc n) zero (y ∷ xs) x l e = absurd (omega arith)
 drop-get (suc n) (suc k) (y ∷ xs) x l e =
     let same : k - n ≡ suc k - suc n = omega arith in
     subst (λ m. slice_get (drop n xs) m ≡ Some x) same (drop-get n k xs x (omega arith) e)
 
-drop-got : {X : Type 0} (n k : ℕ) (xs : List X) (x : X) → slice_get (drop n xs) k ≡ Some x → slice_get xs (n + k) ≡ Some x
-drop-got zero k xs x e = let same : k ≡ 0 + k = omega arith in subst (λ m. slice_get xs m ≡ Some x) same e
+drop-got : {X : Type 0} (n k : ℕ) (xs : List X) (x : X) → slice_get (drop n xs) k ≡ Some x
+    → slice_get xs (n + k) ≡ Some x
+drop-got zero k xs x e =
+    let same : k ≡ 0 + k = omega arith in subst (λ m. slice_get xs m ≡ Some x) same e
 drop-got (suc n) k [] x e = cc
 drop-got (suc n) k (y ∷ xs) x e =
     let same : suc (n + k) ≡ suc n + k = omega arith in
@@ -68,8 +74,10 @@ get-there (x ∷ xs) (suc k) l = get-there xs k (omega arith)
 
 -- ---- arguments and units, and their terms
 
-argument-term : (v k : ℕ) (ps : List SsaParam) (ts : List Tree) (t : Tree) → AreArgumentTerms v ps ts → slice_get ts k ≡ Some t
-    → (p : SsaParam) × (slice_get ps k ≡ Some p) × (t ≡ leaf (kind_bits p.kind) (argument_key (v + k)))
+argument-term : (v k : ℕ) (ps : List SsaParam) (ts : List Tree) (t : Tree)
+    → AreArgumentTerms v ps ts → slice_get ts k ≡ Some t
+    → (p : SsaParam) × (slice_get ps k ≡ Some p)
+    × (t ≡ leaf (kind_bits p.kind) (argument_key (v + k)))
 argument-term v k [] ts t are e = absurd (none-some t (subst (λ l. slice_get l k ≡ Some t) are e))
 argument-term v k (p ∷ ps) [] t are e = absurd are
 argument-term v zero (p ∷ ps) (u ∷ ts) t are e =
@@ -81,7 +89,8 @@ argument-term v (suc k) (p ∷ ps) (u ∷ ts) t are e =
     let next : v + 1 + k ≡ v + suc k = omega arith in
     (rest.0, rest.1, rest.2 ∙ ap (λ n. leaf (kind_bits rest.0.kind) (argument_key n)) next)
 
-argument-has : (v k : ℕ) (ps : List SsaParam) (ts : List Tree) (p : SsaParam) → AreArgumentTerms v ps ts → slice_get ps k ≡ Some p
+argument-has : (v k : ℕ) (ps : List SsaParam) (ts : List Tree) (p : SsaParam)
+    → AreArgumentTerms v ps ts → slice_get ps k ≡ Some p
     → (t : Tree) × (slice_get ts k ≡ Some t) × (width_of t ≡ kind_bits p.kind)
 argument-has v k [] ts p are e = cc
 argument-has v k (q ∷ ps) [] p are e = absurd are
@@ -90,7 +99,8 @@ argument-has v zero (q ∷ ps) (t ∷ ts) p are e =
     (t, refl, ap width_of are.0 ∙ ap (λ (r : SsaParam). kind_bits r.kind) same)
 argument-has v (suc k) (q ∷ ps) (t ∷ ts) p are e = argument-has (v + 1) k ps ts p are.1 e
 
-unit-term : (v k : ℕ) (us : List Work) (ts : List Tree) (t : Tree) → AreUnitTerms v us ts → slice_get ts k ≡ Some t
+unit-term : (v k : ℕ) (us : List Work) (ts : List Tree) (t : Tree) → AreUnitTerms v us ts
+    → slice_get ts k ≡ Some t
     → (u : Work) × (slice_get us k ≡ Some u) × IsUnitTerm (v + k) u t
 unit-term v k [] ts t are e = absurd (none-some t (subst (λ l. slice_get l k ≡ Some t) are e))
 unit-term v k (u ∷ us) [] t are e = absurd are
@@ -103,7 +113,8 @@ unit-term v (suc k) (u ∷ us) (s ∷ ts) t are e =
     let next : v + 1 + k ≡ v + suc k = omega arith in
     (rest.0, rest.1, subst (λ n. IsUnitTerm n rest.0 t) next rest.2)
 
-unit-has : (v k : ℕ) (us : List Work) (ts : List Tree) (u : Work) → AreUnitTerms v us ts → slice_get us k ≡ Some u
+unit-has : (v k : ℕ) (us : List Work) (ts : List Tree) (u : Work) → AreUnitTerms v us ts
+    → slice_get us k ≡ Some u
     → (t : Tree) × (slice_get ts k ≡ Some t) × IsUnitTerm (v + k) u t
 unit-has v k [] ts u are e = cc
 unit-has v k (x ∷ us) [] u are e = absurd are
@@ -116,11 +127,14 @@ unit-has v (suc k) (x ∷ us) (t ∷ ts) u are e =
     let next : v + 1 + k ≡ v + suc k = omega arith in
     (rest.0, rest.1, subst (λ n. IsUnitTerm n u rest.0) next rest.2)
 
-pub unit-above : (ssa : Ssa) (v : ℕ) (u : Work) → unit_at ssa v ≡ Some u → (arguments ssa ≤ v) × (v < arguments ssa + length ssa.units)
+pub unit-above : (ssa : Ssa) (v : ℕ) (u : Work) → unit_at ssa v ≡ Some u
+    → (arguments ssa ≤ v) × (v < arguments ssa + length ssa.units)
 unit-above ssa v u e = elim (cases_lt v (arguments ssa)) [
   | inl below ↦ absurd (none-some u (sym (cond-true _ _ _ (lt-ltb v (arguments ssa) below)) ∙ e))
   | inr above ↦
-      let low = get-low ssa.units (v - arguments ssa) u (sym (cond-false _ _ _ (le-ltb v (arguments ssa) above)) ∙ e) in
+      let low =
+      get-low ssa.units (v - arguments ssa) u
+      (sym (cond-false _ _ _ (le-ltb v (arguments ssa) above)) ∙ e) in
       (above, omega arith)
 ]
 
@@ -133,19 +147,32 @@ IsArgumentTerm ssa v t =
 abbrev pub IsWorkTerm : Ssa → ℕ → Tree → Type 0
 IsWorkTerm ssa v t = (u : Work) × (unit_at ssa v ≡ Some u) × IsUnitTerm v u t
 
-pub term-known : (ssa : Ssa) (v : ℕ) (t : Tree) → IsSound ssa → term_at ssa v ≡ Some t → IsArgumentTerm ssa v t ⊎ IsWorkTerm ssa v t
+pub term-known : (ssa : Ssa) (v : ℕ) (t : Tree) → IsSound ssa → term_at ssa v ≡ Some t
+    → IsArgumentTerm ssa v t ⊎ IsWorkTerm ssa v t
 term-known ssa v t sound e = elim (cases_lt v (arguments ssa)) [
   | inl below ↦
-      let a = argument-term 0 v (integers ssa) (take (arguments ssa) (terms_of ssa)) t sound.argument_terms (take-get (arguments ssa) v (terms_of ssa) t below e) in
+      let a =
+      argument-term 0 v (integers ssa)
+      (take (arguments ssa) (terms_of ssa)) t sound.argument_terms
+      (take-get (arguments ssa) v (terms_of ssa) t below e) in
       let here : 0 + v ≡ v = omega arith in
       inl (a.0, below, a.1, a.2 ∙ ap (λ n. leaf (kind_bits a.0.kind) (argument_key n)) here)
   | inr above ↦
-      let u = unit-term (arguments ssa) (v - arguments ssa) ssa.units (drop (arguments ssa) (terms_of ssa)) t sound.unit_terms (drop-get (arguments ssa) v (terms_of ssa) t above e) in
+      let u =
+      unit-term (arguments ssa) (v - arguments ssa) ssa.units
+      (drop (arguments ssa) (terms_of ssa)) t sound.unit_terms
+      (drop-get (arguments ssa) v (terms_of ssa) t above e) in
       let here : arguments ssa + (v - arguments ssa) ≡ v = omega arith in
-      inr (u.0, cond-false _ _ _ (le-ltb v (arguments ssa) above) ∙ u.1, subst (λ n. IsUnitTerm n u.0 t) here u.2)
+      inr (
+        u.0,
+        cond-false _ _ _ (le-ltb v (arguments ssa) above) ∙ u.1,
+        subst
+            (λ n. IsUnitTerm n u.0 t) here u.2,
+      )
 ]
 
-pub term-low : (ssa : Ssa) (v : ℕ) (t : Tree) → IsSound ssa → term_at ssa v ≡ Some t → v < arguments ssa + length ssa.units
+pub term-low : (ssa : Ssa) (v : ℕ) (t : Tree) → IsSound ssa → term_at ssa v ≡ Some t
+    → v < arguments ssa + length ssa.units
 term-low ssa v t sound e = elim (term-known ssa v t sound e) [
   | inl a ↦ (let low = a.1 in omega arith)
   | inr u ↦ (unit-above ssa v u.0 u.1).1
@@ -153,16 +180,21 @@ term-low ssa v t sound e = elim (term-known ssa v t sound e) [
 
 -- ---- widths
 
-unit-width : (ssa : Ssa) (v : ℕ) (u : Work) → unit_at ssa v ≡ Some u → value_bits ssa v ≡ unit_bits u
-unit-width ssa v u e = cond-false _ _ _ (le-ltb v (arguments ssa) (unit-above ssa v u e).0) ∙ ap (λ o. o >>= unit_bits) e
+unit-width : (ssa : Ssa) (v : ℕ) (u : Work) → unit_at ssa v ≡ Some u
+    → value_bits ssa v ≡ unit_bits u
+unit-width ssa v u e =
+    cond-false _ _ _ (le-ltb v (arguments ssa) (unit-above ssa v u e).0) ∙ ap
+    (λ o. o >>= unit_bits) e
 
-work-width : (v : ℕ) (u : Work) (t : Tree) → IsUnitTerm v u t → is_constant t ≡ false → unit_bits u ≡ Some (width_of t)
+work-width : (v : ℕ) (u : Work) (t : Tree) → IsUnitTerm v u t → is_constant t ≡ false
+    → unit_bits u ≡ Some (width_of t)
 work-width v (Load a w) t is c = ap Some (sym (ap width_of is))
 work-width v (Store a w x) t is c = absurd (let yes = ap is_constant is in cc)
 work-width v (Operation op w k xs) t is c = ap Some (sym is.1)
 
 -- a term that is no constant is as wide as its value
-pub term-width : (ssa : Ssa) (v : ℕ) (t : Tree) → IsSound ssa → term_at ssa v ≡ Some t → is_constant t ≡ false → value_bits ssa v ≡ Some (width_of t)
+pub term-width : (ssa : Ssa) (v : ℕ) (t : Tree) → IsSound ssa → term_at ssa v ≡ Some t
+    → is_constant t ≡ false → value_bits ssa v ≡ Some (width_of t)
 term-width ssa v t sound e c = elim (term-known ssa v t sound e) [
   | inl a ↦
       cond-true _ _ _ (lt-ltb v (arguments ssa) a.1)
@@ -171,81 +203,111 @@ term-width ssa v t sound e c = elim (term-known ssa v t sound e) [
   | inr u ↦ unit-width ssa v u.0 u.1 ∙ work-width v u.0 t u.2 c
 ]
 
-work-there : (v w : ℕ) (u : Work) (t : Tree) → IsUnitTerm v u t → unit_bits u ≡ Some w → width_of t ≡ w
+work-there : (v w : ℕ) (u : Work) (t : Tree) → IsUnitTerm v u t → unit_bits u ≡ Some w
+    → width_of t ≡ w
 work-there v w (Load a x) t is e = ap width_of is ∙ (let same : bits_of x ≡ w = cc in same)
 work-there v w (Store a x y) t is e = absurd (none-some w e)
 work-there v w (Operation op x k xs) t is e = is.1 ∙ (let same : result_bits op x ≡ w = cc in same)
 
-went : {A B : Type 0} (o : Option A) (f : A → Option B) (y : B) → (o >>= f) ≡ Some y → (x : A) × (o ≡ Some x) × (f x ≡ Some y)
+went : {A B : Type 0} (o : Option A) (f : A → Option B) (y : B) → (o >>= f) ≡ Some y
+    → (x : A) × (o ≡ Some x) × (f x ≡ Some y)
 went (Some x) f y e = (x, refl, e)
 went None f y e = cc
 
 -- a value of a width has a term of that width
-pub value-term : (ssa : Ssa) (v w : ℕ) → IsSound ssa → value_bits ssa v ≡ Some w → (t : Tree) × (term_at ssa v ≡ Some t) × (width_of t ≡ w)
+pub value-term : (ssa : Ssa) (v w : ℕ) → IsSound ssa → value_bits ssa v ≡ Some w
+    → (t : Tree) × (term_at ssa v ≡ Some t) × (width_of t ≡ w)
 value-term ssa v w sound e = elim (cases_lt v (arguments ssa)) [
   | inl below ↦
-      let known : option_map (λ (p : SsaParam). kind_bits p.kind) (slice_get (integers ssa) v) ≡ Some w = sym (cond-true _ _ _ (lt-ltb v (arguments ssa) below)) ∙ e in
+      let known : option_map (λ (p : SsaParam). kind_bits p.kind)
+      (slice_get (integers ssa) v) ≡ Some w = sym
+      (cond-true _ _ _ (lt-ltb v (arguments ssa) below)) ∙ e in
       let p = get-there (integers ssa) v below in
-      let wide : Some (kind_bits p.0.kind) ≡ Some w = sym (ap (option_map (λ (q : SsaParam). kind_bits q.kind)) p.1) ∙ known in
+      let wide : Some (kind_bits p.0.kind) ≡ Some w =
+      sym (ap (option_map (λ (q : SsaParam). kind_bits q.kind)) p.1) ∙ known in
       let same : kind_bits p.0.kind ≡ w = cc in
-      let t = argument-has 0 v (integers ssa) (take (arguments ssa) (terms_of ssa)) p.0 sound.argument_terms p.1 in
+      let t =
+      argument-has 0 v (integers ssa)
+      (take (arguments ssa) (terms_of ssa)) p.0 sound.argument_terms p.1 in
       (t.0, take-got (arguments ssa) v (terms_of ssa) t.0 t.1, t.2 ∙ same)
   | inr above ↦
-      let u = went (unit_at ssa v) unit_bits w (sym (cond-false _ _ _ (le-ltb v (arguments ssa) above)) ∙ e) in
-      let at : slice_get ssa.units (v - arguments ssa) ≡ Some u.0 = sym (cond-false _ _ _ (le-ltb v (arguments ssa) above)) ∙ u.1 in
-      let t = unit-has (arguments ssa) (v - arguments ssa) ssa.units (drop (arguments ssa) (terms_of ssa)) u.0 sound.unit_terms at in
-      let here : arguments ssa + (v - arguments ssa) ≡ v = omega arith in
-      (t.0, subst (λ n. term_at ssa n ≡ Some t.0) here (drop-got (arguments ssa) (v - arguments ssa) (terms_of ssa) t.0 t.1), work-there _ w u.0 t.0 t.2 u.2)
+      let u =
+      went (unit_at ssa v) unit_bits w
+      (sym (cond-false _ _ _ (le-ltb v (arguments ssa) above)) ∙ e) in
+      let at : slice_get ssa.units (v - arguments ssa) ≡ Some u.0 =
+      sym (cond-false _ _ _ (le-ltb v (arguments ssa) above)) ∙ u.1 in
+      let t =
+      unit-has (arguments ssa) (v - arguments ssa) ssa.units
+      (drop (arguments ssa) (terms_of ssa)) u.0 sound.unit_terms at in
+      let here : arguments ssa + (v - arguments ssa) ≡ v = omega arith in (
+        t.0,
+        subst (λ n. term_at ssa n
+            ≡ Some t.0) here (drop-got (arguments ssa) (v - arguments ssa)
+            (terms_of ssa) t.0 t.1),
+        work-there _ w u.0 t.0 t.2 u.2,
+      )
 ]
 
 -- ---- numbers
 
-leaf-below : (env : Env) (t : Tree) (w : ℕ) (k : LeafKey) → t ≡ leaf w k → value env t < 2 ^ width_of t
+leaf-below : (env : Env) (t : Tree) (w : ℕ) (k : LeafKey) → t ≡ leaf w k
+    → value env t < 2 ^ width_of t
 leaf-below env t w k e =
     let some = pow_pos w in
     let below : number_at env.pairs k % 2 ^ w < 2 ^ w = omega arith in
     subst (λ s. value env s < 2 ^ width_of s) (sym e) below
 
-work-below : (env : Env) (v : ℕ) (u : Work) (t : Tree) → IsUnitTerm v u t → value env t < 2 ^ width_of t
+work-below : (env : Env) (v : ℕ) (u : Work) (t : Tree) → IsUnitTerm v u t
+    → value env t < 2 ^ width_of t
 work-below env v (Load a w) t is = leaf-below env t (bits_of w) (load_key a v) is
-work-below env v (Store a w x) t is = let low : 0 < 2 ^ 8 = omega arith in subst (λ s. value env s < 2 ^ width_of s) (sym is) low
+work-below env v (Store a w x) t is =
+    let low : 0 < 2 ^ 8 = omega arith in subst (λ s. value env s < 2 ^ width_of s) (sym is) low
 work-below env v (Operation op w k xs) t is = value-below env t is.0
 
-term-below : (env : Env) (ssa : Ssa) (v : ℕ) (t : Tree) → IsSound ssa → term_at ssa v ≡ Some t → value env t < 2 ^ width_of t
+term-below : (env : Env) (ssa : Ssa) (v : ℕ) (t : Tree) → IsSound ssa → term_at ssa v ≡ Some t
+    → value env t < 2 ^ width_of t
 term-below env ssa v t sound e = elim (term-known ssa v t sound e) [
   | inl a ↦ leaf-below env t (kind_bits a.0.kind) (argument_key v) a.3
   | inr u ↦ work-below env v u.0 t u.2
 ]
 
 -- a number below 2 to its width stands for each value whose term has it
-pub value-fits : (env : Env) (ssa : Ssa) (v w n : ℕ) (t : Tree) → IsSound ssa → term_at ssa v ≡ Some t → width_of t ≡ w → value env t ≡ n → n < 2 ^ w
+pub value-fits : (env : Env) (ssa : Ssa) (v w n : ℕ) (t : Tree) → IsSound ssa
+    → term_at ssa v ≡ Some t → width_of t ≡ w → value env t ≡ n → n < 2 ^ w
 value-fits env ssa v w n t sound at wide is =
     let below = term-below env ssa v t sound at in
     subst (λ m. m < 2 ^ w) is (subst (λ m. value env t < 2 ^ m) wide below)
 
 -- ---- how many numbers a run gives
 
-unit-longer : (places : List ℕ) (u : Work) (r t : Reached) → unit_run places u r ≡ Some t → length t.numbers ≡ length r.numbers + 1
+unit-longer : (places : List ℕ) (u : Work) (r t : Reached) → unit_run places u r ≡ Some t
+    → length t.numbers ≡ length r.numbers + 1
 unit-longer places (Load a w) r t e =
     let x = went (loaded r.memory (place_of places a) (size_of w)) _ t e in
     let same : Some _ ≡ Some t = x.2 in
-    (let is = some-is _ t same in ap (λ (q : Reached). length q.numbers) (sym is) ∙ length_push r.numbers _)
+    (let is = some-is _ t same in ap (λ (q : Reached). length q.numbers) (sym is)
+    ∙ length_push r.numbers _)
   where
     some-is : (x y : Reached) → Some x ≡ Some y → x ≡ y
     some-is x y e = cc
 unit-longer places (Store a w x) r t e =
-    let y = went (stored r.memory (place_of places a) (bytes (size_of w) (number_of (slice_index r.numbers) x))) _ t e in
-    (let is = some-is _ t y.2 in ap (λ (q : Reached). length q.numbers) (sym is) ∙ length_push r.numbers 0)
+    let y =
+    went (stored r.memory (place_of places a)
+    (bytes (size_of w) (number_of (slice_index r.numbers) x))) _ t e in
+    (let is = some-is _ t y.2 in ap (λ (q : Reached). length q.numbers) (sym is)
+    ∙ length_push r.numbers 0)
   where
     some-is : (x y : Reached) → Some x ≡ Some y → x ≡ y
     some-is x y e = cc
 unit-longer places (Operation op w k xs) r t e =
-    (let is = some-is _ t e in ap (λ (q : Reached). length q.numbers) (sym is) ∙ length_push r.numbers _)
+    (let is = some-is _ t e in ap (λ (q : Reached). length q.numbers) (sym is)
+    ∙ length_push r.numbers _)
   where
     some-is : (x y : Reached) → Some x ≡ Some y → x ≡ y
     some-is x y e = cc
 
-pub run-long : (places : List ℕ) (us : List Work) (r t : Reached) → run_units places us r ≡ Some t → length t.numbers ≡ length r.numbers + length us
+pub run-long : (places : List ℕ) (us : List Work) (r t : Reached) → run_units places us r ≡ Some t
+    → length t.numbers ≡ length r.numbers + length us
 unfolding run_units
 run-long places [] r t e =
     let same : r ≡ t = cc in
@@ -259,10 +321,14 @@ run-long places (u ∷ us) r t e =
 
 -- ---- units
 
-pub unit-is : (ssa : Ssa) (v : ℕ) (u : Work) → AllByRecursion (IsUnit ssa) ssa.units → unit_at ssa v ≡ Some u → IsUnit ssa u
-unit-is ssa v u all e = from ssa.units (v - arguments ssa) all (sym (cond-false _ _ _ (le-ltb v (arguments ssa) (unit-above ssa v u e).0)) ∙ e)
+pub unit-is : (ssa : Ssa) (v : ℕ) (u : Work) → AllByRecursion (IsUnit ssa) ssa.units
+    → unit_at ssa v ≡ Some u → IsUnit ssa u
+unit-is ssa v u all e =
+    from ssa.units (v - arguments ssa) all
+    (sym (cond-false _ _ _ (le-ltb v (arguments ssa) (unit-above ssa v u e).0)) ∙ e)
   where
-    from : (us : List Work) (k : ℕ) → AllByRecursion (IsUnit ssa) us → slice_get us k ≡ Some u → IsUnit ssa u
+    from : (us : List Work) (k : ℕ) → AllByRecursion (IsUnit ssa) us → slice_get us k ≡ Some u
+        → IsUnit ssa u
     from [] k h g = absurd (none-some u g)
     from (x ∷ us) zero h g = let same : x ≡ u = cc in subst (IsUnit ssa) same h.0
     from (x ∷ us) (suc k) h g = from us k h.1 g

@@ -1,5 +1,5 @@
 -- What instances can be called, by the widths of their lanes and registers.
-use Rattle.std.specs.Prelude.{ℕ, List, [], ◌∷◌, nat_eq, IsTrue}
+use Rattle.std.specs.Prelude.{ℕ, [], ◌∷◌, nat_eq, IsTrue}
 use Rattle.std.specs.List.{AllByRecursion, list_any}
 use Rattle.vg_shapes.specs.Description.{Description, IsPackable}
 use Rattle.vg_emission.specs.Planned.{IsLaneWidth}
