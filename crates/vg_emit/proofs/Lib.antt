@@ -1,0 +1,9 @@
+pub mod ByteSums
+pub mod Drops
+pub mod Inserted
+pub mod JobIs
+pub mod Limits
+pub mod Marking
+pub mod Narrow
+pub mod Numbering
+pub mod Places

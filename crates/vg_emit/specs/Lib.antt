@@ -1,0 +1,5 @@
+pub mod Marks
+pub mod Packing
+pub mod Placing
+pub mod Sums
+pub mod Views

@@ -1,0 +1,23 @@
+//! The program that is emitted for a plan of a kernel, with a recipe for each operand, in an order.
+//!
+//! `vg_emission`'s `specs/Program.antt` says which program that is. Here `specs/Views.antt` says what
+//! the types of the code stand for, `specs/Marks.antt` how values that are needed are marked,
+//! `specs/Sums.antt` how a number is added to bytes, and `specs/Placing.antt` and `specs/Packing.antt`
+//! which lines parts of the code add.
+#![tactic(auto)]
+
+mod constants;
+mod draft;
+mod extracts;
+mod job;
+mod marks;
+mod needed;
+mod numbers;
+mod packs;
+mod placing;
+mod program;
+mod scalars;
+mod takes;
+
+pub use constants::constant_bytes;
+pub use program::emit_program;
