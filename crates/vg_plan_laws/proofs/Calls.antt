@@ -21,7 +21,7 @@ use Rattle.vg_emission.specs.Truth.{Answers, IsTrueOf}
 use Rattle.vg_emission.proofs.Jobs.{get-is, get-some}
 use Rattle.vg_emission.proofs.Made.{job-made}
 use Rattle.vg_emission.proofs.Orders.{arguments-long}
-use Rattle.vg_plan_laws.specs.Described.{IsDescribed}
+use Rattle.vg_emission.specs.Truth.{IsCallable}
 use Rattle.vg_plan_laws.specs.Laws.{CallsHold, RunsStayInWidths}
 use Rattle.vg_plan_laws.proofs.Filled.{all-get, filled-registers, FillEach, lanes-have}
 use Rattle.vg_plan_laws.proofs.Terms.{run-long, term-low, value-fits, value-term}
@@ -72,7 +72,7 @@ calls-hold called ds matches ssa packs recipes places memory args last known tru
     let x = call.entry in
     let bounds = bounds_from matches e 0 lanes in
     let g = given ssa places memory args last known.sound run in
-    let described = all-get IsDescribed ds e x known.described call.there in
+    let described = all-get IsCallable ds e x known.described call.there in
     let own : pack_at j k ≡ Call e lanes = get-is packs k (Call e lanes) (Stores []) at in
     let takes : map (operand_at j) (takes_at j k) ≡ operands_from bounds 0 x.params =
     (job-made ds matches ssa packs recipes (known.sound).earlier).takes k

@@ -21,7 +21,7 @@ use Rattle.vg_gather.specs.Recipes.{description_in, holder, packs_of, recipe_of,
 use Rattle.vg_gather.proofs.Held.{holders-fill}
 use Rattle.vg_gather.proofs.Inserts.{constants-fill, inserts-fill}
 use Rattle.vg_gather.proofs.Takes.{first-passes}
-use Rattle.vg_plan_laws.specs.Described.{IsDescribed}
+use Rattle.vg_emission.specs.Truth.{IsCallable}
 use Rattle.vg_plan_laws.specs.Laws.{AreTrue, planned_job, PlansKeepPromises, RecipesFill, ShufflesFill}
 use Rattle.vg_plan_laws.specs.Made.{IsMade}
 use Rattle.vg_plan_laws.proofs.Calls.{calls-hold, runs-stay}
@@ -33,7 +33,7 @@ use Rattle.vg_plan_laws.proofs.Shuffles.{shuffle-fills}
 -- ---- recipes
 
 module _ (called : Instructions) (j : Job) (numbers : ℕ → ℕ) (o : Operand)
-    (described : AllByRecursion IsDescribed j.descriptions)
+    (described : AllByRecursion IsCallable j.descriptions)
     (are_true : AreTrue called j.descriptions) where
   ready-fills : is_constant o ≡ false → (n : ℕ) → IsReady j.descriptions j.ssa j.packs o n
       → RecipeFills j called numbers o
@@ -41,7 +41,7 @@ module _ (called : Instructions) (j : Job) (numbers : ℕ → ℕ) (o : Operand)
       (description_in j.descriptions n)))
   ready-fills varies n ready rs h =
       shuffle-fills j called numbers o (description_in j.descriptions n) rs
-      (listed IsDescribed j.descriptions n no_description described ready.low).packable
+      (listed IsCallable j.descriptions n no_description described ready.low).packable
       (listed (IsTrueOf called) j.descriptions n no_description are_true ready.low)
       varies ready.can ready.had h
 

@@ -21,7 +21,7 @@ use Rattle.vg_packing.specs.Taken.{operands_from, operands_of}
 use Rattle.vg_emission.specs.Planned.{IsLaneWidth, IsPack}
 use Rattle.vg_emission.proofs.Jobs.{get-some}
 use Rattle.vg_gather.proofs.Jobs.{plans-take-given}
-use Rattle.vg_plan_laws.specs.Described.{IsDescribed}
+use Rattle.vg_emission.specs.Truth.{IsCallable}
 use Rattle.vg_plan_laws.specs.Laws.{AreKnown, OperandsAreSound, PacksAreRight, PlansAreMade, PlansArePlanned}
 use Rattle.vg_plan_laws.specs.Made.{IsMade}
 use Rattle.vg_plan_laws.proofs.Filled.{all-get}
@@ -38,14 +38,14 @@ plans-are-made ds matches ssa deps plan is =
 -- ---- packs
 
 is-pack : (ds : List Description) (matches : List Match) (ssa : Ssa) (p : Packed)
-    → AllByRecursion IsDescribed ds → IsMade ds matches ssa p → IsPack ds ssa p
+    → AllByRecursion IsCallable ds → IsMade ds matches ssa p → IsPack ds ssa p
 is-pack ds matches ssa (Stores us) described made = made
 is-pack ds matches ssa (Loads us) described made = made
 is-pack ds matches ssa (Call d lanes) described made = (
   get-some ds d made.entry made.there,
   subst IsLaneWidth (sym
       (ap (λ o. option_map_or (λ (e : Description). e.lane_width) o 0) made.there))
-      (all-get IsDescribed ds d made.entry described made.there).lane,
+      (all-get IsCallable ds d made.entry described made.there).lane,
 )
 
 pub packs-are-right : PacksAreRight
@@ -65,7 +65,7 @@ pack-operands ds matches ssa (Stores us) known made = (group-sound ssa us known.
 pack-operands ds matches ssa (Loads us) known made = tt
 pack-operands ds matches ssa (Call d lanes) known made =
     let x = made.entry in
-    let own = all-get IsDescribed ds d x known.described made.there in
+    let own = all-get IsCallable ds d x known.described made.there in
     let bounds = bounds_from matches d 0 lanes in
     let params = ap (λ o. option_map_or (λ (e : Description). e.params) o []) made.there in
     subst (λ ps. Every (IsOperand ssa) (operands_from bounds 0 ps)) (sym params)
@@ -88,7 +88,7 @@ operands-are-sound ds matches ssa deps plan known is =
 
 -- ---- recipes
 
-packable : (ds : List Description) → AllByRecursion IsDescribed ds → AllByRecursion IsPackable ds
+packable : (ds : List Description) → AllByRecursion IsCallable ds → AllByRecursion IsPackable ds
 packable [] h = tt
 packable (d ∷ ds) h = ((h.0).packable, packable ds h.1)
 

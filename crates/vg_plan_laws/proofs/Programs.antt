@@ -34,7 +34,7 @@ use Rattle.vg_gather.specs.Recipes.{description_in, holder, recipe_of, recipes_o
 use Rattle.vg_gather.proofs.Fits.{constants-fit, holders-fit}
 use Rattle.vg_gather.proofs.Jobs.{plans-count-recipes}
 use Rattle.vg_gather.proofs.Takes.{first-passes}
-use Rattle.vg_plan_laws.specs.Described.{IsDescribed, IsRegisterWidth}
+use Rattle.vg_emission.specs.Truth.{IsCallable, IsRegisterWidth}
 use Rattle.vg_plan_laws.specs.Laws.{AreKnown, planned_job, ProgramsCallDescribed, ProgramsCostTheirPlans, ProgramsKeepTheRules, ProgramsMeanTheirUnits}
 use Rattle.vg_plan_laws.specs.Made.{IsMade, IsMatchedCall}
 use Rattle.vg_plan_laws.proofs.Filled.{all-get, found, lane-of}
@@ -101,7 +101,7 @@ lanes-wide ds matches ssa d x n (Some v ∷ lanes) known there t =
     let both =
     both-true (is_some (match_at matches d n v)) (are_matched matches d (suc n) lanes) t in
     let f = found ds matches ssa d n v known.matched both.0 in
-    let own = all-get IsDescribed ds d x known.described there in
+    let own = all-get IsCallable ds d x known.described there in
     let lane =
     all-get (IsLane x.params x.lane_width) x.lanes n f.2 own.packable.lanes
     (lane-of ds d n x f.2 there f.3) in (
@@ -114,7 +114,7 @@ call-fits : (ds : List Description) (matches : List Match) (ssa : Ssa) (d : ℕ)
     → IsMatchedCall ds matches ssa d lanes → LanesFit ds ssa d lanes
 call-fits ds matches ssa d lanes known call =
     let x = call.entry in
-    let own = all-get IsDescribed ds d x known.described call.there in
+    let own = all-get IsCallable ds d x known.described call.there in
     let wide : lane_width_of ds ssa (Call d lanes) ≡ x.lane_width =
     ap (λ o. option_map_or (λ (e : Description). e.lane_width) o 0) call.there in
     let register : register_of ds ssa (Call d lanes) ≡ x.register =
@@ -136,7 +136,7 @@ call-fits ds matches ssa d lanes known call =
 
 -- ---- recipes
 
-recipe-fits : (j : Job) (o : Operand) → AllByRecursion IsDescribed j.descriptions
+recipe-fits : (j : Job) (o : Operand) → AllByRecursion IsCallable j.descriptions
     → IsOperand j.ssa o
     → RecipeFits j o (recipe_of j.descriptions j.ssa j.packs o)
 recipe-fits j o described is =
@@ -151,7 +151,7 @@ recipe-fits j o described is =
       ready.low,
       eqb-true e.register o.register b.0,
       shuffle-widths j o e
-          (listed IsDescribed j.descriptions n no_description described ready.low).packable varies
+          (listed IsCallable j.descriptions n no_description described ready.low).packable varies
           ready.can ready.had,
     ))
     tt

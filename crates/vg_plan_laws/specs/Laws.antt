@@ -32,13 +32,13 @@ use Rattle.vg_emission.specs.Promises.{CallHolds, RecipeFills}
 use Rattle.vg_emission.specs.Truth.{IsTrueOf}
 use Rattle.vg_gather.specs.Laws.{AreInWidths}
 use Rattle.vg_gather.specs.Recipes.{recipe_of, recipes_of}
-use Rattle.vg_plan_laws.specs.Described.{IsDescribed}
+use Rattle.vg_emission.specs.Truth.{IsCallable}
 use Rattle.vg_plan_laws.specs.Made.{IsMade, IsMatchedCall}
 
 -- what plans are made of: a sound kernel, descriptions of instances, and all matches of their lanes
 pub record AreKnown (ds : List Description) (matches : List Match) (ssa : Ssa) : Type 0 where
   pub sound : IsSound ssa
-  pub described : AllByRecursion IsDescribed ds
+  pub described : AllByRecursion IsCallable ds
   pub matched : AreMatches ds ssa matches
 
 -- descriptions are true of what calls give
@@ -106,7 +106,7 @@ PlansArePlanned =
 abbrev pub ShufflesFill : Type 0
 ShufflesFill =
     (called : Instructions) (j : Job) (numbers : ℕ → ℕ) (o : Operand) (e : ℕ) (packs : List ℕ) →
-    AllByRecursion IsDescribed j.descriptions → AreTrue called j.descriptions →
+    AllByRecursion IsCallable j.descriptions → AreTrue called j.descriptions →
     recipe_of j.descriptions j.ssa j.packs o ≡ recipe.Shuffle e packs →
     RecipeFills j called numbers o (recipe.Shuffle e packs)
 
@@ -114,7 +114,7 @@ ShufflesFill =
 abbrev pub RecipesFill : Type 0
 RecipesFill =
     (called : Instructions) (j : Job) (numbers : ℕ → ℕ) (o : Operand) →
-    AllByRecursion IsDescribed j.descriptions → AreTrue called j.descriptions →
+    AllByRecursion IsCallable j.descriptions → AreTrue called j.descriptions →
     IsOperand j.ssa o → AreInWidths j.ssa numbers →
     RecipeFills j called numbers o (recipe_of j.descriptions j.ssa j.packs o)
 
