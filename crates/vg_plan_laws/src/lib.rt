@@ -1,7 +1,7 @@
 //! Programs of plans mean their units: each plan of a kernel, with the recipes that its operands take,
 //! meets all that the laws on emitted programs want.
 //!
-//! ` `specs/Made.antt` what the packs of plans
+//! `specs/Made.antt` says what the packs of plans
 //! are, and `specs/Laws.antt` what plans promise.
 #![tactic(auto)]
 
