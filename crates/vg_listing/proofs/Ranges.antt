@@ -17,16 +17,16 @@ numbers-more first (suc n) =
     ap (numbers_from first) e ∙ ap (λ xs. first ∷ xs) (numbers-more (first + 1) n)
     ∙ ap (λ x. first ∷ (numbers_from (first + 1) n ++ x ∷ [])) f
 
-flat-more : (f : ℕ → List ℕ) (xs : List ℕ) (x : ℕ) → flat_map f (xs ++ x ∷ []) ≡ flat_map f xs ++ f x
+append-nil : {X : Type 0} (ys : List X) → ys ++ [] ≡ ys
+append-nil [] = refl
+append-nil (y ∷ ys) = ap (λ zs. y ∷ zs) (append-nil ys)
+
+flat-more : {X : Type 0} (f : ℕ → List X) (xs : List ℕ) (x : ℕ) → flat_map f (xs ++ x ∷ []) ≡ flat_map f xs ++ f x
 flat-more f [] x = append-nil (f x)
-  where
-    append-nil : (ys : List ℕ) → ys ++ [] ≡ ys
-    append-nil [] = refl
-    append-nil (y ∷ ys) = ap (λ zs. y ∷ zs) (append-nil ys)
 flat-more f (y ∷ xs) x = ap (λ zs. f y ++ zs) (flat-more f xs x) ∙ sym (append_assoc (f y) (flat_map f xs) (f x))
 
--- the lines on the immediates before this one, and those on it
-pub lines-more : (f : ℕ → List ℕ) (before now more : List ℕ) (first imm : ℕ) → first ≤ imm
+-- what is listed for the immediates before this one, and for it
+pub lines-more : {X : Type 0} (f : ℕ → List X) (before now more : List X) (first imm : ℕ) → first ≤ imm
     → now ≡ before ++ flat_map f (numbers_from first (imm - first)) → more ≡ now ++ f imm
     → more ≡ before ++ flat_map f (numbers_from first (imm + 1 - first))
 lines-more f before now more first imm low e m =
