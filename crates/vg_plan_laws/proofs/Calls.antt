@@ -17,11 +17,10 @@ use Rattle.vg_emission.specs.Emission.{Job, no_description, operand_at, pack_at,
 use Rattle.vg_emission.specs.Laws.{IsRun}
 use Rattle.vg_emission.specs.Program.{job_of}
 use Rattle.vg_emission.specs.Promises.{AllFill, answer, Holds, LanesHave}
-use Rattle.vg_emission.specs.Truth.{Answers, IsTrueOf}
+use Rattle.vg_emission.specs.Truth.{Answers, IsCallable, IsTrueOf}
 use Rattle.vg_emission.proofs.Jobs.{get-is, get-some}
 use Rattle.vg_emission.proofs.Made.{job-made}
 use Rattle.vg_emission.proofs.Orders.{arguments-long}
-use Rattle.vg_emission.specs.Truth.{IsCallable}
 use Rattle.vg_plan_laws.specs.Laws.{CallsHold, RunsStayInWidths}
 use Rattle.vg_plan_laws.proofs.Filled.{all-get, filled-registers, FillEach, lanes-have}
 use Rattle.vg_plan_laws.proofs.Terms.{run-long, term-low, value-fits, value-term}

@@ -1,4 +1,5 @@
--- What registers that fill the operands of a call have: the number of each leaf that its lanes bind.
+-- What registers that fill the operands of a call have: the number of each leaf that its lanes
+-- bind.
 use Rattle.std.proofs.Common.{◌≡◌, ℕ, zero, suc, ◌+◌, ◌<◌, true, List, [], ◌∷◌, length, map, Option, Some, None, refl, sym, ap, subst, ◌∙◌, inl, inr, arith, get_or}
 use Rattle.std.specs.Prelude.{filter, is_some, nat_eq, slice_get, slice_index}
 use Rattle.std.specs.List.{AllByRecursion}

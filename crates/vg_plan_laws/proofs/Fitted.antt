@@ -1,4 +1,5 @@
--- What a lane that fits a value tells of the value, and of what the leaves of the lane are bound to.
+-- What a lane that fits a value tells of the value, and of what the leaves of the lane are bound
+-- to.
 use Rattle.std.proofs.Common.{◌≡◌, ℕ, ◌+◌, ◌^◌, ◌<◌, ◌≤◌, true, false, List, [], ◌∷◌, ◌++◌, Some, refl, sym, ap, subst, ◌∙◌, inl, inr, get_or}
 use Rattle.std.specs.Prelude.{◌&&◌, nat_eq}
 use Rattle.std.specs.List.{AllByRecursion, IsDistinct}

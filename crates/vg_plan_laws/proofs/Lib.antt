@@ -1,4 +1,5 @@
 pub mod Calls
+pub mod Chosen
 pub mod Filled
 pub mod Fitted
 pub mod Groups
@@ -11,3 +12,4 @@ pub mod Recipes
 pub mod Shuffles
 pub mod Slots
 pub mod Terms
+pub mod TwoSums

@@ -1,5 +1,5 @@
--- The packs of a plan are store groups, loads beside each other and matched calls, and no unit stands
--- twice in one of them.
+-- The packs of a plan are store groups, loads beside each other and matched calls, and no unit
+-- stands twice in one of them.
 use Rattle.std.proofs.Common.{◌≡◌, ℕ, zero, suc, ◌+◌, ◌*◌, ◌/◌, ◌<◌, ◌≤◌, Bool, true, false, List, [], ◌∷◌, length, map, Option, Some, None, refl, sym, ap, subst, ◌∙◌, inl, inr, arith}
 use Rattle.std.specs.Prelude.{ℤ, pos, ◌+ℤ◌, not, filter, flat_map, nat_eq, nat_le, slice_get, IsTrue}
 use Rattle.std.specs.Cmp.Lexicographic.{pointwise}
@@ -44,7 +44,9 @@ use Rattle.vg_packs.proofs.Placing.{place-is}
 use Rattle.vg_plan_laws.specs.Made.{IsMade}
 
 -- a pack that is made, no unit of which stands twice
-pub record IsSingle (ds : List Description) (matches : List Match) (ssa : Ssa) (p : Packed) : Type 0 where
+pub record IsSingle
+    (ds : List Description) (matches : List Match) (ssa : Ssa) (p : Packed)
+    : Type 0 where
   pub made : IsMade ds matches ssa p
   pub once : Unique (units_of p)
 

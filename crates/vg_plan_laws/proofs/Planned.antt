@@ -1,5 +1,5 @@
--- Lines can be emitted from a plan: its packs are packs of the kernel, its operands are sound, and its
--- recipes take what stands in registers.
+-- Lines can be emitted from a plan: its packs are packs of the kernel, its operands are sound, and
+-- its recipes take what stands in registers.
 use Rattle.std.proofs.Common.{◌≡◌, true, List, [], ◌∷◌, sym, ap, subst}
 use Rattle.std.specs.Prelude.{flat_map}
 use Rattle.std.specs.List.{AllByRecursion, list_all}

@@ -1,5 +1,5 @@
--- A shuffle fills its operand: each lane is a leaf, whose bits stand in the pack that is given for its
--- parameter.
+-- A shuffle fills its operand: each lane is a leaf, whose bits stand in the pack that is given for
+-- its parameter.
 use Rattle.std.proofs.Common.{◌≡◌, ℕ, zero, suc, ◌+◌, ◌*◌, ◌/◌, ◌%◌, ◌^◌, ◌<◌, ◌≤◌, Bool, true, false, cond, List, [], ◌∷◌, length, map, Option, Some, None, refl, sym, ap, subst, ◌∙◌, inl, inr, arith, get_or}
 use Rattle.std.specs.Prelude.{filter, flat_map, nat_eq, slice_get}
 use Rattle.std.specs.List.{AllByRecursion, list_all, list_any}

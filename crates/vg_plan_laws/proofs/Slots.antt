@@ -1,4 +1,5 @@
--- The operands of calls are sound: their slots are inside their registers, aligned, sorted and apart.
+-- The operands of calls are sound: their slots are inside their registers, aligned, sorted and
+-- apart.
 use Rattle.std.proofs.Common.{◌≡◌, ℕ, zero, suc, ◌+◌, ◌%◌, ◌≤◌, Bool, true, false, List, [], ◌∷◌, map, Option, Some, None, refl, sym, ap, subst, ◌∙◌, inl, inr, arith, get_or}
 use Rattle.std.specs.Prelude.{◌||◌, not, flat_map, is_some, nat_eq, slice_get, IsTrue}
 use Rattle.std.specs.List.{AllByRecursion, list_all, list_any}
@@ -50,7 +51,8 @@ no-clash : (ls : List Leaf) (a b : Leaf) → some_clash ls ≡ false → Has a l
 no-clash ls a b f ha hb =
     none-found (clash a) ls b (none-found (λ a. list_any (clash a) ls) ls a f ha) hb
 
--- of two leaves of a parameter that begin at different bits and do not clash the lower one ends first
+-- of two leaves of a parameter that begin at different bits and do not clash the lower one ends
+-- first
 lower-ends : (k l w m x : ℕ)
     → clash (record { parameter = k; low = l; width = w })
     (record { parameter = k; low = m; width = x }) ≡ false
@@ -106,8 +108,8 @@ every-of P (x ∷ xs) f = (f x, every-of P xs f)
 
 -- ---- what is bound
 
--- an entry that matched lanes bind: a leaf of the description, inside its parameter, bound to what may
--- be wanted there
+-- an entry that matched lanes bind: a leaf of the description, inside its parameter, bound to what
+-- may be wanted there
 pub record IsGoodEntry (ssa : Ssa) (x : Description) (b : Bound) : Type 0 where
   pub leaf : Has (leaf_of b.width b.key) (flat_map leaves x.lanes)
   pub inside : IsInside x.params b.width b.key

@@ -1,5 +1,5 @@
--- The terms of a sound kernel: that each value has one, of the value's width, and their numbers in a
--- run.
+-- The terms of a sound kernel: that each value has one, of the value's width, and their numbers in
+-- a run.
 use Rattle.std.proofs.Common.{◌≡◌, ℕ, zero, suc, ◌+◌, ◌-◌, ◌%◌, ◌^◌, ◌<◌, ◌≤◌, false, List, [], ◌∷◌, length, take, drop, Option, Some, None, refl, sym, ap, subst, ◌∙◌, ◌⊎◌, inl, inr, arith}
 use Rattle.std.specs.Prelude.{slice_get, slice_index}
 use Rattle.std.specs.List.{AllByRecursion}
@@ -209,7 +209,7 @@ work-there v w (Load a x) t is e = ap width_of is ∙ (let same : bits_of x ≡ 
 work-there v w (Store a x y) t is e = absurd (none-some w e)
 work-there v w (Operation op x k xs) t is e = is.1 ∙ (let same : result_bits op x ≡ w = cc in same)
 
-went : {A B : Type 0} (o : Option A) (f : A → Option B) (y : B) → (o >>= f) ≡ Some y
+pub went : {A B : Type 0} (o : Option A) (f : A → Option B) (y : B) → (o >>= f) ≡ Some y
     → (x : A) × (o ≡ Some x) × (f x ≡ Some y)
 went (Some x) f y e = (x, refl, e)
 went None f y e = cc

@@ -1,5 +1,5 @@
 -- What plans of kernels promise of the programs that are emitted for them.
-use Rattle.std.specs.Prelude.{◌≡◌, ℕ, ◌<◌, ◌^◌, List, Option, Some, slice_get, slice_index}
+use Rattle.std.specs.Prelude.{◌≡◌, ℕ, ◌<◌, ◌≤◌, ◌^◌, List, length, Option, Some, slice_get, slice_index}
 use Rattle.std.specs.List.{AllByRecursion}
 use Rattle.vg_plans.specs.World.{plan_cost}
 use Rattle.vg_program.specs.Meaning.{Instructions}
@@ -22,17 +22,16 @@ use Rattle.vg_shapes.specs.Sound.{IsSound}
 use Rattle.vg_packing.specs.declared.recipe.Recipe.{Recipe}
 use Rattle.vg_packing.specs.declared.recipe.Recipe.TheVariants as recipe
 use Rattle.vg_packing.specs.Laws.{IsPlanFor}
-use Rattle.vg_packing.specs.Packing.{packing}
+use Rattle.vg_packing.specs.Packing.{chosen_of, packing}
 use Rattle.vg_emission.specs.Emission.{Job, takes_at}
 use Rattle.vg_emission.specs.Fit.{CallsDescribed, HasHeader}
 use Rattle.vg_emission.specs.Laws.{AlwaysKeep, IsRun, MeansUnits}
 use Rattle.vg_emission.specs.Planned.{IsPack, IsPlanned}
 use Rattle.vg_emission.specs.Program.{job_of, operands_in, program_of}
 use Rattle.vg_emission.specs.Promises.{CallHolds, RecipeFills}
-use Rattle.vg_emission.specs.Truth.{IsTrueOf}
+use Rattle.vg_emission.specs.Truth.{IsCallable, IsTrueOf}
 use Rattle.vg_gather.specs.Laws.{AreInWidths}
 use Rattle.vg_gather.specs.Recipes.{recipe_of, recipes_of}
-use Rattle.vg_emission.specs.Truth.{IsCallable}
 use Rattle.vg_plan_laws.specs.Made.{IsMade, IsMatchedCall}
 
 -- what plans are made of: a sound kernel, descriptions of instances, and all matches of their lanes
@@ -167,3 +166,27 @@ ProgramsCallDescribed =
     AreKnown ds matches ssa → AllByRecursion (HasHeader headers) ds →
     IsPlanFor ds matches ssa deps plan → IsOrder ssa matches plan order →
     CallsDescribed ds (planned_program ds matches ssa plan order).lines
+
+-- ---- the chosen plan
+
+-- a sound kernel has at most 12,288 units
+abbrev pub KernelsAreSmall : Type 0
+KernelsAreSmall = (ssa : Ssa) → IsSound ssa → length ssa.units ≤ 12288
+
+-- What the program of the chosen plan keeps, in a legal order: it means the units, costs no more
+-- than there are units, and keeps the rules on programs, whatever its text is long.
+pub record IsChosenProgram
+    (called : Instructions) (headers : List Header) (ssa : Ssa) (p : Program)
+    : Type 0 where
+  pub means : MeansUnits called p ssa
+  pub cheap : cost_of p ≤ length ssa.units
+  pub rules : KeepsRules headers p
+
+abbrev pub ChosenProgramsAreRight : Type 0
+ChosenProgramsAreRight =
+    (called : Instructions) (headers : List Header) (ds : List Description) (matches : List Match)
+    (ssa : Ssa) (deps : List (ℕ × ℕ)) (width : ℕ) (order : List Node) →
+    AreKnown ds matches ssa → AreTrue called ds → AllByRecursion (HasHeader headers) ds →
+    IsOrder ssa matches (chosen_of ds matches ssa deps width) order →
+    IsChosenProgram called headers ssa
+    (planned_program ds matches ssa (chosen_of ds matches ssa deps width) order)

@@ -12,7 +12,9 @@ use Rattle.vg_packing.specs.Taken.{operands_of}
 
 -- A call of a description that is there: each lane that has a value matches it, and lanes that bind
 -- one leaf bind it to the same.
-pub record IsMatchedCall (ds : List Description) (matches : List Match) (ssa : Ssa) (d : ℕ) (lanes : List (Option ℕ)) : Type 0 where
+pub record IsMatchedCall
+    (ds : List Description) (matches : List Match) (ssa : Ssa) (d : ℕ) (lanes : List (Option ℕ))
+    : Type 0 where
   pub entry : Description
   pub there : slice_get ds d ≡ Some entry
   pub long : length lanes ≡ entry.register / entry.lane_width

@@ -1,15 +1,16 @@
 //! What plans of kernels promise of the programs that are emitted for them.
 
-ghost use Rattle.vg_plan_laws.specs.Laws.{CallsHold, OperandsAreSound, PacksAreRight, PlansAreMade, PlansArePlanned, PlansKeepPromises, ProgramsCallDescribed, ProgramsCostTheirPlans, ProgramsKeepTheRules, ProgramsMeanTheirUnits, RecipesFill, RunsStayInWidths, ShufflesFill};
+ghost use Rattle.vg_plan_laws.specs.Laws.{CallsHold, ChosenProgramsAreRight, KernelsAreSmall, OperandsAreSound, PacksAreRight, PlansAreMade, PlansArePlanned, PlansKeepPromises, ProgramsCallDescribed, ProgramsCostTheirPlans, ProgramsKeepTheRules, ProgramsMeanTheirUnits, RecipesFill, RunsStayInWidths, ShufflesFill};
+ghost use Rattle.vg_plan_laws.specs.TwoSums.{TwoSumsLines, TwoSumsMeanUnits};
 
-/// A law that costs nothing to call: each pack of a plan is a store group, loads that stand beside each
-/// other in memory, or the call of a description whose lanes match.
+/// A law that costs nothing to call: each pack of a plan is a store group, loads that stand beside
+/// each other in memory, or the call of a description whose lanes match.
 pub fn plans_are_made()
     ensures { PlansAreMade }
 {}
 
-/// A law: where descriptions are true, what a matched call gives has in its lanes the numbers of their
-/// values, on registers that fill its operands.
+/// A law: where descriptions are true, what a matched call gives has in its lanes the numbers of
+/// their values, on registers that fill its operands.
 pub fn calls_hold()
     ensures { CallsHold }
 {}
@@ -34,8 +35,8 @@ pub fn plans_are_planned()
     ensures { PlansArePlanned }
 {}
 
-/// A law: where descriptions are true, what a shuffle gives fills the operand that takes it, on registers
-/// that hold its packs.
+/// A law: where descriptions are true, what a shuffle gives fills the operand that takes it, on
+/// registers that hold its packs.
 pub fn shuffles_fill()
     ensures { ShufflesFill }
 {}
@@ -50,9 +51,9 @@ pub fn plans_keep_promises()
     ensures { PlansKeepPromises }
 {}
 
-/// A law: where descriptions are true, the program of a plan in any legal order leaves the memory that
-/// the units of the kernel leave one after the other, or traps where they do, in each layout that
-/// respects noalias.
+/// A law: where descriptions are true, the program of a plan in any legal order leaves the memory
+/// that the units of the kernel leave one after the other, or traps where they do, in each layout
+/// that respects noalias.
 pub fn programs_of_plans_mean_their_units()
     ensures { ProgramsMeanTheirUnits }
 {}
@@ -62,8 +63,8 @@ pub fn programs_of_plans_cost_their_plans()
     ensures { ProgramsCostTheirPlans }
 {}
 
-/// A law: the program of a plan keeps the rules on programs, whatever the length of its text is, where
-/// the descriptions are those of the instructions and the cost is below 2 ^ 32.
+/// A law: the program of a plan keeps the rules on programs, whatever the length of its text is,
+/// where the descriptions are those of the instructions and the cost is below 2 ^ 32.
 pub fn programs_of_plans_keep_the_rules()
     ensures { ProgramsKeepTheRules }
 {}
@@ -71,4 +72,28 @@ pub fn programs_of_plans_keep_the_rules()
 /// A law: the program of a plan calls described instances alone.
 pub fn programs_of_plans_call_described_instances()
     ensures { ProgramsCallDescribed }
+{}
+
+/// A law: of a sum of two arguments that is made twice and stored, eight lines are emitted: each
+/// argument is put into a register, one call adds them, and one line stores both sums.
+pub fn two_sums_are_eight_lines()
+    ensures { TwoSumsLines }
+{}
+
+/// A law: these eight lines mean the two sums and the two stores, where the instance adds four
+/// words; they meet all that the law on programs of plans wants.
+pub fn two_sums_mean_their_units()
+    ensures { TwoSumsMeanUnits }
+{}
+
+/// A law: a sound kernel has at most 12,288 units.
+pub fn kernels_are_small()
+    ensures { KernelsAreSmall }
+{}
+
+/// A law: where descriptions are true and those of instructions, the program of the chosen plan
+/// means the units, costs no more than there are units, and keeps the rules on programs, whatever
+/// the length of its text is.
+pub fn chosen_programs_are_right()
+    ensures { ChosenProgramsAreRight }
 {}
