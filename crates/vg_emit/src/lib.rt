@@ -8,6 +8,7 @@
 
 mod constants;
 mod draft;
+mod emitting;
 mod extracts;
 mod job;
 mod marks;
@@ -20,4 +21,4 @@ mod scalars;
 mod takes;
 
 pub use constants::constant_bytes;
-pub use program::emit_program;
+pub use emitting::emit_program;

@@ -3,29 +3,25 @@
 ghost use Rattle.std.specs.Prelude.{◌≡◌, ◌+◌, ◌≤◌, [], IfOk, OnOk, length, map};
 ghost use Rattle.std.specs.List.{AllByRecursion};
 ghost use Rattle.vg_shapes.specs.declared.order.Node.TheVariants.{UnitAt};
-ghost use Rattle.vg_shapes.specs.Description.{description_of};
 ghost use Rattle.vg_shapes.specs.Order.{numbers_from};
 ghost use Rattle.vg_shapes.specs.Sound.{IsSound};
 ghost use Rattle.vg_shapes.specs.Units.{arguments};
-ghost use Rattle.vg_packing.specs.Taken.{IsShort, MatchesNear};
+ghost use Rattle.vg_packing.specs.Taken.{IsShort};
 ghost use Rattle.vg_program.specs.Cost.{cost_of};
 ghost use Rattle.vg_emission.specs.Emission.{emitted, node_lines};
-ghost use Rattle.vg_emission.specs.Program.{begin, kind_of, lines_of, ordered, param_of, program_from, program_of};
+ghost use Rattle.vg_emission.specs.Program.{begin, kind_of, lines_of, ordered, param_of, program_from};
 ghost use Rattle.vg_emit.specs.Views.{behind, job_of, known, made_of};
 
 use crate::draft::{Draft, blank};
 use crate::job::Job;
-use crate::needed::{count_values, needed_values};
+use crate::needed::count_values;
 use crate::packs::put_pack;
 use crate::scalars::put_unit;
-use crate::takes::takes_in;
 use std::alloc::{AllocError, Global};
 use vg_base::Items;
-use vg_packing::Recipe;
-use vg_packing::plan_operands::plan_operands;
 use vg_packing::units::unit_at;
 use vg_program::{Line, Param, ParamKind, Program, cost};
-use vg_shapes::{Description, MatchTable, Node, Order, Pack, Plan, Ssa, SsaParam, SsaParamKind};
+use vg_shapes::{Node, Ssa, SsaParam, SsaParamKind};
 
 fn kind_of(kind: SsaParamKind) -> ParamKind
     ensures { result ≡ kind_of kind }
@@ -130,7 +126,9 @@ fn with_cost(mut program: Program) -> Result<Program, AllocError>
     Ok(program)
 }
 
-fn program_from(alloc: Global, job: &Job, order: &[Node]) -> Result<Program, AllocError>
+/// The program of a job, whose nodes are done in an order. It states its own cost, and as the cost of
+/// the kernel as written the number of its units. Fails where the cost is 2 to the 32 or more.
+pub(crate) fn program_from(alloc: Global, job: &Job, order: &[Node]) -> Result<Program, AllocError>
     requires sound { IsSound (job_of job.now).ssa }
     requires short { AllByRecursion IsShort (job_of job.now).packs }
     ensures { IfOk result (λ program. program ≡ program_from (job_of job.now) order.now) }
@@ -144,41 +142,4 @@ fn program_from(alloc: Global, job: &Job, order: &[Node]) -> Result<Program, All
         cost: 0,
         scalar: count_values(job.ssa) - job.ssa.arguments() as u32,
     })
-}
-
-/// The program that is emitted for the packs of a plan, with a recipe for each operand, in an order.
-/// It states its own cost, and as the cost of the kernel as written the number of its units.
-///
-/// Looks at all operands for each operand that a pack takes, else at each line, lane and unit a fixed
-/// number of times. Fails for want of memory, or where the cost is 2 to the 32 or more.
-pub fn emit_program(
-    alloc: Global,
-    ssa: &Ssa,
-    plan: &Plan,
-    recipes: &[Recipe],
-    order: &Order,
-    descriptions: &[Description],
-    table: &MatchTable,
-) -> Result<Program, AllocError>
-    requires sound { IsSound ssa.now }
-    requires short { AllByRecursion IsShort plan.now }
-    requires near { MatchesNear table.now }
-    ensures { IfOk result (λ program. program
-        ≡ program_of (map description_of descriptions.now) table.now ssa.now plan.now recipes.now order.now) }
-{
-    let packs = plan.as_slice();
-    let operands = plan_operands(alloc, descriptions, table, ssa, packs)?;
-    let all = operands.as_slice();
-    let takes = takes_in(alloc, descriptions, table, ssa, packs, all)?;
-    let needed = needed_values(alloc, ssa, packs, recipes, all)?;
-    let job = Job {
-        ssa,
-        descriptions,
-        packs,
-        takes,
-        operands,
-        recipes,
-        needed,
-    };
-    program_from(alloc, &job, order.as_slice())
 }
