@@ -1,4 +1,3 @@
-pub mod ByteSums
 pub mod Drops
 pub mod Inserted
 pub mod JobIs
@@ -7,3 +6,4 @@ pub mod Marking
 pub mod Narrow
 pub mod Numbering
 pub mod Places
+pub mod Promised

@@ -1,5 +1,5 @@
 pub mod Marks
 pub mod Packing
 pub mod Placing
-pub mod Sums
+pub mod Planned
 pub mod Views

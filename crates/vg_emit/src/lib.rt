@@ -1,12 +1,11 @@
 //! The program that is emitted for a plan of a kernel, with a recipe for each operand, in an order.
 //!
 //! `vg_emission`'s `specs/Program.antt` says which program that is. Here `specs/Views.antt` says what
-//! the types of the code stand for, `specs/Marks.antt` how values that are needed are marked,
-//! `specs/Sums.antt` how a number is added to bytes, and `specs/Placing.antt` and `specs/Packing.antt`
-//! which lines parts of the code add.
+//! the types of the code stand for, `specs/Marks.antt` how values that are needed are marked, and
+//! `specs/Placing.antt` and `specs/Packing.antt` which lines parts of the code add.
+//! `specs/Planned.antt` names the program of a plan whose operands take the recipes of `vg_gather`.
 #![tactic(auto)]
 
-mod constants;
 mod draft;
 mod emitting;
 mod extracts;
@@ -20,5 +19,4 @@ mod program;
 mod scalars;
 mod takes;
 
-pub use constants::constant_bytes;
-pub use emitting::emit_program;
+pub use emitting::{emit, emit_program};

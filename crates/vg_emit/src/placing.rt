@@ -8,12 +8,12 @@ ghost use Rattle.vg_emission.specs.Emission.{build, build_all, call_of, no_descr
 ghost use Rattle.vg_emit.specs.Placing.{put_in, put_inserts, put_one};
 ghost use Rattle.vg_emit.specs.Views.{all_placed_behind, all_placed_of, job_of, known, made_of, placed_behind, placed_of};
 
-use crate::constants::constant_bytes;
 use crate::draft::{Draft, put_built, put_vector};
 use crate::job::Job;
 use crate::scalars::{number_for, width_for};
 use std::alloc::{AllocError, Global};
 use vg_base::{Items, Name};
+use vg_gather::constant_bytes::constant_bytes;
 use vg_packing::Recipe;
 use vg_program::Line;
 use vg_shapes::{Description, Operand, Slot, Wanted};
@@ -134,7 +134,7 @@ fn put_inserts(
     ensures { IfOk result (λ r. placed_of draft.new r
         ≡ placed_behind (made_of draft.old) (put_inserts (job_of job.now) (known draft.old) number operand.now)) }
 {
-    let bytes = constant_bytes(alloc, operand)?;
+    let bytes = Items::from_vec(constant_bytes(alloc, operand)?);
     let first = put_vector(draft, Line::Constant { bytes })?;
     let last = put_in(
         job,

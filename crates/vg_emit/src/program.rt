@@ -1,6 +1,6 @@
 //! The program of a plan.
 
-ghost use Rattle.std.specs.Prelude.{◌≡◌, ◌+◌, ◌≤◌, [], IfOk, OnOk, length, map};
+ghost use Rattle.std.specs.Prelude.{◌≡◌, ◌+◌, ◌<◌, ◌^◌, ◌≤◌, [], IfOk, OnOk, length, map};
 ghost use Rattle.std.specs.List.{AllByRecursion};
 ghost use Rattle.vg_shapes.specs.declared.order.Node.TheVariants.{UnitAt};
 ghost use Rattle.vg_shapes.specs.Order.{numbers_from};
@@ -120,7 +120,8 @@ fn lines_of(alloc: Global, job: &Job, order: &[Node]) -> Result<Vec<Line>, Alloc
 
 /// States its own cost. Fails where it is 2 to the 32 or more.
 fn with_cost(mut program: Program) -> Result<Program, AllocError>
-    ensures { IfOk result (λ p. p ≡ record program { cost = cost_of program }) }
+    ensures program { IfOk result (λ p. p ≡ record program { cost = cost_of program }) }
+    ensures small { IfOk result (λ p. cost_of p < 2 ^ 32) }
 {
     program.cost = u32::try_from(cost(&program)).map_err(|_| AllocError)?;
     Ok(program)
@@ -131,7 +132,8 @@ fn with_cost(mut program: Program) -> Result<Program, AllocError>
 pub(crate) fn program_from(alloc: Global, job: &Job, order: &[Node]) -> Result<Program, AllocError>
     requires sound { IsSound (job_of job.now).ssa }
     requires short { AllByRecursion IsShort (job_of job.now).packs }
-    ensures { IfOk result (λ program. program ≡ program_from (job_of job.now) order.now) }
+    ensures program { IfOk result (λ program. program ≡ program_from (job_of job.now) order.now) }
+    ensures small { IfOk result (λ program. cost_of program < 2 ^ 32) }
 {
     let params = params_of(alloc, job.ssa.params.as_slice())?;
     let lines = lines_of(alloc, job, order)?;

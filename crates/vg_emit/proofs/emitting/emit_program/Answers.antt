@@ -9,4 +9,4 @@ returns c =
     subst (λ p. IfOk c.program_from.result (λ program. program ≡ p))
     ((λ i. program_from (c.in_ok-job.ensures i) (c.as_slice.ensures i))
     ∙ ap (λ ps. program_of ds c.args.table.now c.args.ssa.now ps c.args.recipes.now c.args.order.now) c.as_slice-packs.ensures)
-    c.program_from.ensures
+    c.program_from.ensures.program
