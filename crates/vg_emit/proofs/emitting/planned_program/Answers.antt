@@ -1,7 +1,7 @@
 use Rattle.std.proofs.Common.{◌≡◌, ◌∙◌, IfOk, ap, subst, map}
 use Rattle.vg_shapes.specs.Description.{description_of}
 use Rattle.vg_emission.specs.Program.{operands_in, program_from, program_of}
-use Rattle.vg_gather.specs.Recipes.{recipe_of, recipes_of}
+use Rattle.vg_gather.specs.Recipes.{recipe_of}
 use Rattle.vg_emit.proofs.emitting.planned_program.Goals as goal
 
 pub returns-clause-program : goal.returns-clause-program
