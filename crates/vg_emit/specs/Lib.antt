@@ -1,5 +1,4 @@
 pub mod Marks
 pub mod Packing
 pub mod Placing
-pub mod Planned
 pub mod Views

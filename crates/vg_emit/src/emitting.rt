@@ -16,7 +16,7 @@ ghost use Rattle.vg_program.specs.Meaning.{Instructions};
 ghost use Rattle.vg_program.specs.Valid.{KeepsRules};
 ghost use Rattle.vg_pseudo.specs.declared.header.Header.{Header};
 ghost use Rattle.vg_shapes.specs.Nodes.{IsOrder};
-ghost use Rattle.vg_emit.specs.Planned.{planned_job, planned_program};
+ghost use Rattle.vg_gather.specs.Recipes.{planned_job, planned_program};
 ghost use Rattle.vg_emit.specs.Views.{job_of};
 
 use crate::job::Job;

@@ -2,9 +2,11 @@
 use Rattle.std.specs.Prelude.{ℕ, suc, Bool, List, [], ◌∷◌, length, map, filter, nat_eq, slice_index_or, if◌then◌else◌}
 use Rattle.std.specs.List.{flat_map, list_all, list_any, position_or_len}
 use Rattle.vg_plans.specs.Levels.{first_least}
+use Rattle.vg_program.specs.declared.program.Program.{Program}
 use Rattle.vg_shapes.specs.declared.match_table.Match.{Match}
 use Rattle.vg_shapes.specs.declared.operand.Operand.{Operand}
 use Rattle.vg_shapes.specs.declared.operand.Slot.{Slot}
+use Rattle.vg_shapes.specs.declared.order.Node.{Node}
 use Rattle.vg_shapes.specs.declared.pack.Pack.{Pack as Packed}
 use Rattle.vg_shapes.specs.declared.ssa.Ssa.{Ssa}
 use Rattle.vg_shapes.specs.Description.{Description}
@@ -13,8 +15,8 @@ use Rattle.vg_packing.specs.declared.recipe.Recipe.TheVariants as recipe
 use Rattle.vg_packing.specs.Held.{holds}
 use Rattle.vg_packing.specs.Shuffles.{moved_from, parts_from, shuffle_of}
 use Rattle.vg_packing.specs.Wants.{is_constant, wanted_slots}
-use Rattle.vg_emission.specs.Emission.{constant_bytes, no_description}
-use Rattle.vg_emission.specs.Program.{operands_in}
+use Rattle.vg_emission.specs.Emission.{Job, constant_bytes, no_description}
+use Rattle.vg_emission.specs.Program.{job_of, operands_in, program_of}
 
 -- the index of the first pack that holds an operand; the number of packs where none does
 abbrev pub holder : List Description → Ssa → List Packed → Operand → ℕ
@@ -86,3 +88,13 @@ recipe_of ds ssa plan o =
 -- the recipes of the operands of packs, in the order in which the packs take them
 abbrev pub recipes_of : List Description → List Match → Ssa → List Packed → List Recipe
 recipes_of ds matches ssa packs = map (recipe_of ds ssa packs) (operands_in ds matches ssa packs)
+
+-- ---- what is emitted by them
+
+-- what the lines of a plan are emitted from
+abbrev pub planned_job : List Description → List Match → Ssa → List Packed → Job
+planned_job ds matches ssa plan = job_of ds matches ssa plan (recipes_of ds matches ssa plan)
+
+abbrev pub planned_program : List Description → List Match → Ssa → List Packed → List Node → Program
+planned_program ds matches ssa plan order =
+    program_of ds matches ssa plan (recipes_of ds matches ssa plan) order

@@ -17,11 +17,11 @@ use Rattle.vg_emission.specs.Promises.{RecipeFills}
 use Rattle.vg_emission.specs.Truth.{IsCallable, IsTrueOf}
 use Rattle.vg_emission.proofs.Jobs.{listed}
 use Rattle.vg_gather.specs.Laws.{AreInWidths}
-use Rattle.vg_gather.specs.Recipes.{description_in, holder, packs_of, recipe_of, recipes_of}
+use Rattle.vg_gather.specs.Recipes.{description_in, holder, packs_of, planned_job, recipe_of, recipes_of}
 use Rattle.vg_gather.proofs.Held.{holders-fill}
 use Rattle.vg_gather.proofs.Inserts.{constants-fill, inserts-fill}
 use Rattle.vg_gather.proofs.Takes.{first-passes}
-use Rattle.vg_plan_laws.specs.Laws.{AreTrue, planned_job, PlansKeepPromises, RecipesFill, ShufflesFill}
+use Rattle.vg_plan_laws.specs.Laws.{AreTrue, PlansKeepPromises, RecipesFill, ShufflesFill}
 use Rattle.vg_plan_laws.specs.Made.{IsMade}
 use Rattle.vg_plan_laws.proofs.Calls.{calls-hold, runs-stay}
 use Rattle.vg_plan_laws.proofs.Filled.{all-get}

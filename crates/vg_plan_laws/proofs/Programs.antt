@@ -30,12 +30,12 @@ use Rattle.vg_emission.proofs.Jobs.{listed}
 use Rattle.vg_emission.proofs.Meanings.{emitted-means-units}
 use Rattle.vg_emission.proofs.PlanTotals.{emitted-costs-the-plan}
 use Rattle.vg_emission.proofs.Rules.{emitted-keeps-rules}
-use Rattle.vg_gather.specs.Recipes.{description_in, holder, recipe_of, recipes_of}
+use Rattle.vg_gather.specs.Recipes.{description_in, holder, planned_job, recipe_of, recipes_of}
 use Rattle.vg_gather.proofs.Fits.{constants-fit, holders-fit}
 use Rattle.vg_gather.proofs.Jobs.{plans-count-recipes}
 use Rattle.vg_gather.proofs.Takes.{first-passes}
 use Rattle.vg_emission.specs.Truth.{IsCallable, IsRegisterWidth}
-use Rattle.vg_plan_laws.specs.Laws.{AreKnown, planned_job, ProgramsCallDescribed, ProgramsCostTheirPlans, ProgramsKeepTheRules, ProgramsMeanTheirUnits}
+use Rattle.vg_plan_laws.specs.Laws.{AreKnown, ProgramsCallDescribed, ProgramsCostTheirPlans, ProgramsKeepTheRules, ProgramsMeanTheirUnits}
 use Rattle.vg_plan_laws.specs.Made.{IsMade, IsMatchedCall}
 use Rattle.vg_plan_laws.proofs.Filled.{all-get, found, lane-of}
 use Rattle.vg_plan_laws.proofs.Fitted.{fitted-width}

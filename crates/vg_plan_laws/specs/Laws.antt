@@ -27,11 +27,11 @@ use Rattle.vg_emission.specs.Emission.{Job, takes_at}
 use Rattle.vg_emission.specs.Fit.{CallsDescribed, HasHeader}
 use Rattle.vg_emission.specs.Laws.{AlwaysKeep, IsRun, MeansUnits}
 use Rattle.vg_emission.specs.Planned.{IsPack, IsPlanned}
-use Rattle.vg_emission.specs.Program.{job_of, operands_in, program_of}
+use Rattle.vg_emission.specs.Program.{job_of, operands_in}
 use Rattle.vg_emission.specs.Promises.{CallHolds, RecipeFills}
 use Rattle.vg_emission.specs.Truth.{IsCallable, IsTrueOf}
 use Rattle.vg_gather.specs.Laws.{AreInWidths}
-use Rattle.vg_gather.specs.Recipes.{recipe_of, recipes_of}
+use Rattle.vg_gather.specs.Recipes.{planned_job, planned_program, recipe_of}
 use Rattle.vg_plan_laws.specs.Made.{IsMade, IsMatchedCall}
 
 -- what plans are made of: a sound kernel, descriptions of instances, and all matches of their lanes
@@ -43,14 +43,6 @@ pub record AreKnown (ds : List Description) (matches : List Match) (ssa : Ssa) :
 -- descriptions are true of what calls give
 abbrev pub AreTrue : Instructions → List Description → Type 0
 AreTrue called ds = AllByRecursion (IsTrueOf called) ds
-
--- the recipes that the operands of packs take, and what is emitted by them
-abbrev pub planned_job : List Description → List Match → Ssa → List Packed → Job
-planned_job ds matches ssa plan = job_of ds matches ssa plan (recipes_of ds matches ssa plan)
-
-abbrev pub planned_program : List Description → List Match → Ssa → List Packed → List Node → Program
-planned_program ds matches ssa plan order =
-    program_of ds matches ssa plan (recipes_of ds matches ssa plan) order
 
 -- ---- packs and operands
 

@@ -28,7 +28,7 @@ use Rattle.vg_terms.specs.declared.term.TwoOp.TheVariants as term
 use Rattle.vg_terms.specs.Term.{leaf, tree, Tree, two}
 use Rattle.vg_emission.specs.Laws.{MeansUnits}
 use Rattle.vg_emission.specs.Truth.{IsTrueOf}
-use Rattle.vg_plan_laws.specs.Laws.{planned_program}
+use Rattle.vg_gather.specs.Recipes.{planned_program}
 
 -- ---- the kernel
 

@@ -13,7 +13,7 @@ use Rattle.vg_emission.proofs.PlanTotals.{emitted-costs-the-plan}
 use Rattle.vg_emission.proofs.Rules.{emitted-keeps-rules}
 use Rattle.vg_gather.specs.Recipes.{recipes_of}
 use Rattle.vg_gather.proofs.Jobs.{plans-count-recipes}
-use Rattle.vg_emit.specs.Planned.{planned_program}
+use Rattle.vg_gather.specs.Recipes.{planned_program}
 use Rattle.vg_emit.proofs.Promised.{kept, kept-small}
 use Rattle.vg_emit.proofs.emitting.emit.Goals as goal
 
