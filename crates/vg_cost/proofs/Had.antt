@@ -1,8 +1,9 @@
 -- The costs of the shuffles that can be had, one list behind another, and what they tell of a recipe.
-use Rattle.std.proofs.Common.{◌≡◌, ℕ, ◌+◌, ◌<◌, ◌≤◌, true, false, List, [], ◌∷◌, ◌++◌, length, refl, ◌∙◌, ap, arith, inl, inr, subst}
+use Rattle.std.proofs.Common.{sym, ◌≡◌, ℕ, ◌+◌, ◌<◌, ◌≤◌, true, false, List, [], ◌∷◌, ◌++◌, length, refl, ◌∙◌, ap, arith, inl, inr, subst}
 use Rattle.std.specs.Prelude.{min}
 use Rattle.std.specs.List.{list_any}
 use Rattle.std.proofs.lemmas.Bool.{cases_Bool}
+use Rattle.std.proofs.lemmas.List.{append-nil}
 use Rattle.vg_plans.specs.World.{can_shuffle, inserted, is_reused, least_shuffle, recipe_cost}
 use Rattle.vg_shapes.specs.declared.operand.Operand.{Operand}
 use Rattle.vg_shapes.specs.declared.pack.Pack.{Pack as Packed}
@@ -55,12 +56,27 @@ module _ (ds : List Description) (ssa : Ssa) (plan : List Packed) (o : Operand)
       rw (free, some) (ap (λ n. least_of n costs) i ∙ ap (least_of (1 + length (wanted_values o))) e
       ∙ least_had ds ssa plan (1 + length (wanted_values o)) (shuffles ds o))
 
-  pub inserted_none : (costs : List ℕ) → costs ≡ costs_had ds ssa plan (shuffles ds o)
-      → 0 < length costs → [] ≡ inserted (packing ds [] ssa []) plan o
-  inserted_none costs e h =
-      rw (free, some, some_had ds ssa plan (shuffles ds o) (subst (λ l. 0 < length l) e h)) refl
+  -- some shuffle can be had, so that nothing is inserted
+  pub none_more : (costs values : List ℕ) → costs ≡ costs_had ds ssa plan (shuffles ds o) → 0 < length costs
+      → values ≡ values ++ inserted (packing ds [] ssa []) plan o
+  none_more costs values e h =
+      let had = some_had ds ssa plan (shuffles ds o) (subst (λ l. 0 < length l) e h) in
+      rw (free, some, had) (sym (append-nil values))
 
-  pub inserted_all : (costs : List ℕ) → costs ≡ costs_had ds ssa plan (shuffles ds o)
-      → length costs ≤ 0 → wanted_values o ≡ inserted (packing ds [] ssa []) plan o
-  inserted_all costs e h =
-      rw (free, some, none_had ds ssa plan (shuffles ds o) (subst (λ l. length l ≤ 0) e h)) refl
+  -- none can, so that all wanted values are
+  pub all_more : (costs : List ℕ) → costs ≡ costs_had ds ssa plan (shuffles ds o) → length costs ≤ 0
+      → wanted_values o ≡ inserted (packing ds [] ssa []) plan o
+  all_more costs e h =
+      let had = none_had ds ssa plan (shuffles ds o) (subst (λ l. length l ≤ 0) e h) in
+      rw (free, some, had) refl
+
+-- nothing is inserted where a pack is reused, or into constants
+pub reused_more : (ds : List Description) (ssa : Ssa) (plan : List Packed) (o : Operand) (values : List ℕ)
+    → is_reused (packing ds [] ssa []) plan o ≡ true
+    → values ≡ values ++ inserted (packing ds [] ssa []) plan o
+reused_more ds ssa plan o values reused = rw reused (sym (append-nil values))
+
+pub constant_more : (ds : List Description) (ssa : Ssa) (plan : List Packed) (o : Operand) (values : List ℕ)
+    → is_reused (packing ds [] ssa []) plan o ≡ false → is_constant o ≡ true
+    → values ≡ values ++ inserted (packing ds [] ssa []) plan o
+constant_more ds ssa plan o values free constant = rw (free, constant) (sym (append-nil values))

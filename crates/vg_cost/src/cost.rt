@@ -9,7 +9,7 @@ ghost use Rattle.vg_shapes.specs.Description.{description_of};
 
 use crate::lines::scalar_lines;
 use crate::price::{plus, prices};
-use crate::recipes::{all_inserted, recipe_costs};
+use crate::recipes::gather;
 use std::alloc::{AllocError, Global};
 use vg_packing::plan_operands::plan_operands;
 use vg_shapes::{Description, MatchTable, Plan, Ssa};
@@ -34,9 +34,8 @@ pub fn plan_cost(
     let price = prices(descriptions, packs)?;
     let operands = plan_operands(alloc, descriptions, table, ssa, packs)?;
     let operands = operands.as_slice();
-    let recipes = recipe_costs(alloc, descriptions, ssa, packs, operands)?;
-    let inserted = all_inserted(alloc, descriptions, ssa, packs, operands)?;
-    let lines = scalar_lines(alloc, ssa, packs, inserted.as_slice())?;
-    let packed = plus(price, recipes)?;
+    let recipes = gather(alloc, descriptions, ssa, packs, operands)?;
+    let lines = scalar_lines(alloc, ssa, packs, recipes.values.as_slice())?;
+    let packed = plus(price, recipes.cost)?;
     plus(packed, lines)
 }

@@ -101,16 +101,18 @@ fn least_of(costs: &[u32], cost: u64) -> u64
     least
 }
 
-#[tactic(auto, using(crate::proofs::Had::least_had))]
-/// What the recipe of an operand costs.
-fn recipe_cost(
+/// Appends the values that the inserts of an operand take, and answers what its recipe costs.
+fn push_recipe(
     alloc: Global,
+    values: &mut Vec<u32>,
     descriptions: &[Description],
     ssa: &Ssa,
     packs: &[Pack],
     operand: &Operand,
 ) -> Result<u64, AllocError>
-    ensures { IfOk result (λ c. c ≡ recipe_cost
+    ensures cost { IfOk result (λ c. c ≡ recipe_cost
+        (packing (map description_of descriptions.now) [] ssa.now []) packs.now operand.now) }
+    ensures values { OnOk result (values.new.items ≡ values.old.items ++ inserted
         (packing (map description_of descriptions.now) [] ssa.now []) packs.now operand.now) }
 {
     if is_reused(descriptions, ssa, packs, operand) {
@@ -119,72 +121,44 @@ fn recipe_cost(
     if is_constant(operand) {
         return Ok(1);
     }
-    let values = wanted_values(alloc, operand)?;
-    let inserts = plus(1, values.len() as u64)?;
+    let wanted = wanted_values(alloc, operand)?;
+    let wanted = wanted.as_slice();
     let costs = costs_had(alloc, descriptions, ssa, packs, operand)?;
-    Ok(least_of(costs.as_slice(), inserts))
+    let costs = costs.as_slice();
+    if costs.len() == 0 {
+        values.extend_from_slice(wanted)?;
+    }
+    let inserts = plus(1, wanted.len() as u64)?;
+    Ok(least_of(costs, inserts))
 }
 
-/// What the recipes of operands cost.
-pub(crate) fn recipe_costs(
+/// What the recipes of operands cost, and the values that their inserts take.
+#[derive(Drop)]
+pub(crate) struct Gathered {
+    pub(crate) cost: u64,
+    pub(crate) values: Vec<u32>,
+}
+
+/// What the recipes of operands cost, and the values that their inserts take.
+pub(crate) fn gather(
     alloc: Global,
     descriptions: &[Description],
     ssa: &Ssa,
     packs: &[Pack],
     operands: &[Operand],
-) -> Result<u64, AllocError>
-    ensures { IfOk result (λ c. c ≡ sum_by (recipe_cost
-        (packing (map description_of descriptions.now) [] ssa.now []) packs.now) operands.now) }
-{
-    let mut sum = 0u64;
-    'operands: for operand in operands {
-        let cost = recipe_cost(alloc, descriptions, ssa, packs, operand)?;
-        sum = plus(sum, cost)?;
-    }
-    Ok(sum)
-}
-
-#[tactic(auto, using(crate::proofs::Had::some_had, crate::proofs::Had::none_had))]
-/// The values that the inserts of an operand take.
-fn inserted(
-    alloc: Global,
-    descriptions: &[Description],
-    ssa: &Ssa,
-    packs: &[Pack],
-    operand: &Operand,
-) -> Result<Vec<u32>, AllocError>
-    ensures { IfOk result (λ values. values.items ≡ inserted
-        (packing (map description_of descriptions.now) [] ssa.now []) packs.now operand.now) }
-{
-    if is_reused(descriptions, ssa, packs, operand) {
-        return Ok(Vec::new(alloc));
-    }
-    if is_constant(operand) {
-        return Ok(Vec::new(alloc));
-    }
-    let costs = costs_had(alloc, descriptions, ssa, packs, operand)?;
-    if costs.len() > 0 {
-        return Ok(Vec::new(alloc));
-    }
-    wanted_values(alloc, operand)
-}
-
-/// The values that the inserts of operands take.
-pub(crate) fn all_inserted(
-    alloc: Global,
-    descriptions: &[Description],
-    ssa: &Ssa,
-    packs: &[Pack],
-    operands: &[Operand],
-) -> Result<Vec<u32>, AllocError>
-    ensures { IfOk result (λ values. values.items ≡ flat_map
+) -> Result<Gathered, AllocError>
+    ensures cost { IfOk result (λ g. g.cost ≡ sum_by
+        (recipe_cost (packing (map description_of descriptions.now) [] ssa.now []) packs.now)
+        operands.now) }
+    ensures values { IfOk result (λ g. g.values.items ≡ flat_map
         (inserted (packing (map description_of descriptions.now) [] ssa.now []) packs.now)
         operands.now) }
 {
+    let mut cost = 0u64;
     let mut values = Vec::new(alloc);
     'operands: for operand in operands {
-        let more = inserted(alloc, descriptions, ssa, packs, operand)?;
-        values.extend_from_slice(more.as_slice())?;
+        let more = push_recipe(alloc, &mut values, descriptions, ssa, packs, operand)?;
+        cost = plus(cost, more)?;
     }
-    Ok(values)
+    Ok(Gathered { cost, values })
 }
