@@ -38,14 +38,6 @@ none_had ds ssa plan (s ∷ ss) h = elim (cases_Bool (can_shuffle (packing ds []
   | inr f ↦ rw f (none_had ds ssa plan ss (rw f at h))
 ]
 
-pub had_append : (ds : List Description) (ssa : Ssa) (plan : List Packed) (xs ys : List (ℕ × List Operand))
-    → costs_had ds ssa plan (xs ++ ys) ≡ costs_had ds ssa plan xs ++ costs_had ds ssa plan ys
-had_append ds ssa plan [] ys = refl
-had_append ds ssa plan (s ∷ ss) ys = elim (cases_Bool (can_shuffle (packing ds [] ssa []) plan s)) [
-  | inl t ↦ rw t (ap (λ l. s.0 ∷ l) (had_append ds ssa plan ss ys))
-  | inr f ↦ rw f (had_append ds ssa plan ss ys)
-]
-
 module _ (ds : List Description) (ssa : Ssa) (plan : List Packed) (o : Operand)
     (free : is_reused (packing ds [] ssa []) plan o ≡ false) (some : is_constant o ≡ false) where
   -- the least of what inserts and the shuffles that can be had cost
@@ -69,14 +61,3 @@ module _ (ds : List Description) (ssa : Ssa) (plan : List Packed) (o : Operand)
   all_more costs e h =
       let had = none_had ds ssa plan (shuffles ds o) (subst (λ l. length l ≤ 0) e h) in
       rw (free, some, had) refl
-
--- nothing is inserted where a pack is reused, or into constants
-pub reused_more : (ds : List Description) (ssa : Ssa) (plan : List Packed) (o : Operand) (values : List ℕ)
-    → is_reused (packing ds [] ssa []) plan o ≡ true
-    → values ≡ values ++ inserted (packing ds [] ssa []) plan o
-reused_more ds ssa plan o values reused = rw reused (sym (append-nil values))
-
-pub constant_more : (ds : List Description) (ssa : Ssa) (plan : List Packed) (o : Operand) (values : List ℕ)
-    → is_reused (packing ds [] ssa []) plan o ≡ false → is_constant o ≡ true
-    → values ≡ values ++ inserted (packing ds [] ssa []) plan o
-constant_more ds ssa plan o values free constant = rw (free, constant) (sym (append-nil values))

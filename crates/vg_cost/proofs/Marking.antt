@@ -1,10 +1,8 @@
 -- Numbers marked one list after the other.
-use Rattle.std.proofs.Common.{◌≡◌, ℕ, zero, suc, ◌+◌, ◌<◌, ◌≤◌, Bool, true, false, List, [], ◌∷◌, ◌++◌, length, get_or, take, refl, sym, ◌∙◌, ap, subst, inl, inr, arith, get_or-set_same, get_or-set_other}
-use Rattle.std.specs.Prelude.{set, nat_eq, ◌||◌, replicate}
-use Rattle.std.proofs.lemmas.List.{length-set, length-replicate, take_all, take_more}
+use Rattle.std.proofs.Common.{◌≡◌, ℕ, zero, suc, ◌+◌, ◌<◌, ◌≤◌, Bool, true, false, List, [], ◌∷◌, ◌++◌, length, get_or, take, refl, sym, ◌∙◌, ap, subst, arith}
+use Rattle.std.specs.Prelude.{nat_eq, ◌||◌, replicate}
+use Rattle.std.proofs.lemmas.List.{length-replicate, take_all, take_more}
 use Rattle.std.proofs.lemmas.List.Folds.{list_any-append}
-use Rattle.std.proofs.lemmas.Bool.{cases_Bool}
-use Rattle.std.proofs.lemmas.Bool.Decides.{nat_tests}
 use Rattle.vg_plans.specs.World.{is_in}
 use Rattle.vg_cost.specs.Marks.{Has, Marked}
 
@@ -34,29 +32,6 @@ marked_more xs ys a b c p q = record {
 or-false : (b : Bool) → (b || false) ≡ b
 or-false true = refl
 or-false false = refl
-
-pub marked_set : (marks new : List Bool) (x : ℕ) → x < length marks → new ≡ set marks x true → Marked (x ∷ []) marks new
-marked_set marks new x inside e = subst (Marked (x ∷ []) marks) (sym e) (record {
-  long = length-set marks x true;
-  each = λ v h. elim (cases_Bool (nat_eq v x)) [
-    | inl t ↦
-        let same : x ≡ v = grind (arith, nat_tests, t) in
-        let here : get_or (set marks x true) v false ≡ true = subst (λ z. get_or (set marks x true) z false ≡ true) same (get_or-set_same marks x true false inside) in
-        here ∙ sym (ap (λ b. (b || false) || get_or marks v false) t)
-    | inr f ↦
-        let ne : v ≡ x → ⊥ = λ e. grind (arith, nat_tests, f, e) in
-        get_or-set_other marks x v true false ne ∙ sym (ap (λ b. (b || false) || get_or marks v false) f)
-  ];
-})
-
-pub marked_past : (marks new : List Bool) (x : ℕ) → length marks ≤ x → new ≡ marks → Marked (x ∷ []) marks new
-marked_past marks new x past e = subst (Marked (x ∷ []) marks) (sym e) (record {
-  long = refl;
-  each = λ v h.
-      let ne : v ≡ x → ⊥ = λ e. absurd (omega arith) in
-      let f : nat_eq v x ≡ false = grind (arith, nat_tests, ne, h, past) in
-      sym (ap (λ b. (b || false) || get_or marks v false) f);
-})
 
 pub marked_step : {X : Type 0} (F : List X → List ℕ) (xs : List X) (k : ℕ) (x d : X) (a b c : List Bool)
     → ((ys zs : List X) → F (ys ++ zs) ≡ F ys ++ F zs) → k < length xs → x ≡ get_or xs k d

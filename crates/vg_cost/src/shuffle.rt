@@ -92,7 +92,6 @@ fn push_leaf(moved: &mut Vec<(u32, Slot)>, lane: &Term, slot: &Slot) -> Result<(
     }
 }
 
-#[tactic(auto, using(crate::proofs::LaneTrees::lane_none, crate::proofs::LaneTrees::lane_some))]
 /// Appends the leaf that the lane of a number is, if there is such a lane and it is one.
 fn push_lane(
     moved: &mut Vec<(u32, Slot)>,
