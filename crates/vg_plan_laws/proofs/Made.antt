@@ -39,7 +39,7 @@ use Rattle.vg_packing.specs.Taken.{first_width, operands_of, register_for}
 use Rattle.vg_packing.specs.Wants.{is_wanted, slot, value_of, wanted_slots, wanted_values, wants_value}
 use Rattle.vg_packing.proofs.SameTests.{both-true, eq-itself, list-is, slot-is}
 use Rattle.vg_packing.proofs.Tried.{if-has}
-use Rattle.vg_packs.proofs.Listed.{groups-listed}
+use Rattle.vg_packs.proofs.Once.{groups-listed}
 use Rattle.vg_packs.proofs.Placing.{place-is}
 use Rattle.vg_plan_laws.specs.Made.{IsMade}
 
