@@ -55,11 +55,6 @@ added-bytes (suc k) n m =
     ap (λ b. b ∷ added ((n % 256 + m) / 256) (bytes k (n / 256))) (sum-low n m)
     ∙ ap (λ l. (n + m) % 256 ∷ l) (added-bytes k (n / 256) ((n % 256 + m) / 256) ∙ ap (bytes k) (sum-high n m))
 
-pub length-bytes : (k n : ℕ) → length (bytes k n) ≡ k
-unfolding bytes
-length-bytes zero n = refl
-length-bytes (suc k) n = ap suc (length-bytes k (n / 256))
-
 pub bytes-zero : (k : ℕ) → replicate k 0 ≡ bytes k 0
 unfolding bytes
 bytes-zero zero = refl

@@ -1,4 +1,4 @@
-use Rattle.std.proofs.Common.{◌+◌, ◌-◌, ◌*◌, ◌/◌, ◌%◌, ◌^◌, ◌∙◌, ap}
+use Rattle.std.proofs.Common.{◌+◌, ◌*◌, ◌/◌, ◌%◌, ◌^◌, ◌∙◌, ap}
 use Rattle.vg_gather.proofs.Carries.{fill_high, fill_low}
 use Rattle.vg_gather.proofs.constant_bytes.fill_byte.Goals as goal
 
