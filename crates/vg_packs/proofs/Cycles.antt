@@ -1,5 +1,5 @@
 -- A pack closes a cycle behind a plan exactly where a walk down from its needs comes back to it.
-use Rattle.std.proofs.Common.{◌≡◌, ℕ, zero, suc, ◌+◌, ◌-◌, ◌<◌, ◌≤◌, Bool, true, false, not, List, [], ◌∷◌, ◌++◌, length, get_or, refl, sym, ◌∙◌, ap, subst, inl, inr, arith, Ok, Err, IfOk, Result}
+use Rattle.std.proofs.Common.{◌≡◌, ℕ, zero, suc, ◌+◌, ◌-◌, ◌<◌, ◌≤◌, Bool, true, false, not, List, [], ◌∷◌, ◌++◌, length, get_or, refl, sym, ◌∙◌, ap, inl, inr, arith}
 use Rattle.std.specs.Prelude.{◌&&◌, ◌||◌, All, filter, nat_eq, nat_lt, replicate, slice_get, Option, Some, None, is_some}
 use Rattle.std.specs.List.{filter_map, list_any}
 use Rattle.std.proofs.lemmas.Bool.{cases_Bool}
@@ -18,7 +18,7 @@ use Rattle.vg_shapes.specs.declared.ssa.Ssa.{Ssa}
 use Rattle.vg_shapes.specs.Depends.{numbers_below}
 use Rattle.vg_shapes.specs.Pack.{units_of}
 use Rattle.vg_shapes.specs.Units.{arguments, is_unit}
-use Rattle.vg_packs.specs.Walk.{HasWay, IsApart, IsAt, IsFree, IsSettled, LeadsApart, NameUnits, Way, there, down, is_in_plan, is_lane_in, node_needs}
+use Rattle.vg_packs.specs.Walk.{HasWay, IsAt, IsFree, IsSettled, LeadsApart, NameUnits, Way, there, down, is_in_plan, is_lane_in, node_needs}
 use Rattle.vg_packs.proofs.NodeUnits.{node-units, pack-units}
 
 pub lanes_in : (test : ℕ → Bool) (lanes : List (Option ℕ))

@@ -12,7 +12,7 @@ use Rattle.vg_packing.proofs.SameTests.{both-true}
 use Rattle.vg_packing.specs.Groups.{group_of, groups_of, store_groups, stores_at, stores_from, unit_numbers}
 use Rattle.vg_plans.specs.Members.{Has}
 use Rattle.vg_plans.proofs.Lists.{has-flat_map}
-use Rattle.vg_plans.proofs.Members.{from-filter, from-flat_map}
+use Rattle.vg_plans.proofs.Members.{from-filter}
 use Rattle.vg_plans.proofs.Reach.{in-has}
 use Rattle.vg_shapes.specs.declared.pack.Pack.{Pack as Packed}
 use Rattle.vg_shapes.specs.declared.pack.Pack.TheVariants.{Stores}

@@ -1,6 +1,6 @@
 -- Marks that are set one after the other.
 use Rattle.std.proofs.Common.{◌≡◌, ℕ, zero, suc, ◌+◌, ◌<◌, ◌≤◌, Bool, true, false, List, [], ◌∷◌, length, get_or, take, refl, sym, ◌∙◌, ap, subst, inl, inr, arith, get_or-set_same, get_or-set_other}
-use Rattle.std.specs.Prelude.{◌||◌, nat_eq, nat_lt, replicate, set, if◌then◌else◌, Ok, Err, IfOk, Result}
+use Rattle.std.specs.Prelude.{◌||◌, nat_eq, nat_lt, replicate, set, Ok, Err, IfOk, Result}
 use Rattle.std.specs.List.{list_any}
 use Rattle.std.proofs.lemmas.Bool.{cases_Bool}
 use Rattle.std.proofs.lemmas.Bool.Decides.{nat_tests}

@@ -2,7 +2,6 @@ use Rattle.std.proofs.Common.{take}
 use Rattle.std.specs.List.{list_any}
 use Rattle.vg_plans.specs.World.{is_in}
 use Rattle.vg_shapes.specs.Pack.{units_of}
-use Rattle.vg_packs.specs.Walk.{is_in_plan}
 use Rattle.vg_packs.specs.Marks.{AddsMarks}
 use Rattle.vg_packs.proofs.marks.mark_plan.Given as goal
 

@@ -1,4 +1,4 @@
-use Rattle.std.proofs.Common.{sym, subst, [], ◌∷◌}
+use Rattle.std.proofs.Common.{sym, subst, []}
 use Rattle.vg_packs.specs.Walk.{IsFree}
 use Rattle.vg_packs.proofs.Turns.{group-left, group-pushed, pushed-free}
 use Rattle.vg_packs.proofs.plain.push_if_stays.Goals as goal

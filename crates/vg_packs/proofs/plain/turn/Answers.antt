@@ -1,8 +1,4 @@
-use Rattle.std.proofs.Common.{◌≡◌, ◌∙◌, false, map, sym, subst, ap}
-use Rattle.std.specs.Prelude.{◌||◌}
-use Rattle.std.specs.List.{list_any}
-use Rattle.vg_packing.specs.Held.{holds}
-use Rattle.vg_packing.specs.Wants.{is_constant}
+use Rattle.std.proofs.Common.{◌∙◌, false, map, sym, subst}
 use Rattle.vg_shapes.specs.Description.{description_of}
 use Rattle.vg_packs.specs.Walk.{IsFree}
 use Rattle.vg_packs.proofs.Turns.{found-first, settled-by, some-free, turn-none, turn-settled, turn-some}

@@ -1,5 +1,4 @@
-use Rattle.std.proofs.Common.{◌≡◌, ℕ, ◌+◌, ◌<◌, ◌∙◌, All, List, false, ap, get_or, length, sym, subst}
-use Rattle.std.proofs.lemmas.List.{length-replicate}
+use Rattle.std.proofs.Common.{◌+◌, ◌<◌, ◌∙◌, All, false, get_or, length, sym, subst}
 use Rattle.vg_packing.specs.Packing.{needs_of}
 use Rattle.vg_plans.specs.World.{is_in}
 use Rattle.vg_shapes.specs.Pack.{units_of}
