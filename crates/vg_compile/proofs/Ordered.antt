@@ -1,0 +1,60 @@
+-- Plans of a kernel by the list of all its dependences: their orders, and what is emitted in them.
+use Rattle.std.proofs.Common.{◌≡◌, ℕ, List, refl, sym, subst}
+use Rattle.std.specs.List.{AllByRecursion}
+use Rattle.vg_program.specs.declared.program.Program.{Program}
+use Rattle.vg_shapes.specs.declared.match_table.Match.{Match}
+use Rattle.vg_shapes.specs.declared.order.Node.{Node}
+use Rattle.vg_shapes.specs.declared.pack.Pack.{Pack as Packed}
+use Rattle.vg_shapes.specs.declared.ssa.Ssa.{Ssa}
+use Rattle.vg_shapes.specs.Depends.{dependences}
+use Rattle.vg_shapes.specs.Description.{Description}
+use Rattle.vg_shapes.specs.Matches.{AreMatches}
+use Rattle.vg_shapes.specs.Nodes.{ArePacks, IsOrder}
+use Rattle.vg_shapes.specs.Sound.{IsSound}
+use Rattle.vg_packing.specs.Laws.{IsPlanFor}
+use Rattle.vg_packing.specs.Packing.{plain_of}
+use Rattle.vg_packing.specs.Taken.{IsShort}
+use Rattle.vg_packs.specs.Walk.{NameEarlierUnits}
+use Rattle.vg_order.specs.ByList.{IsOrderBy, NameLesser, NameUnits, NamesCycle}
+use Rattle.vg_order.proofs.AllDependences.{dependences-give_orders, dependences-name_units}
+use Rattle.vg_emission.specs.Truth.{IsCallable}
+use Rattle.vg_gather.specs.Recipes.{planned_program}
+use Rattle.vg_plan_laws.specs.Laws.{AreKnown}
+use Rattle.vg_plan_laws.proofs.Planned.{packs-are-right}
+use Rattle.vg_plan_orders.proofs.Cycles.{plans-have-no-cycle}
+use Rattle.vg_compile.specs.Emitted.{IsEmitted}
+use Rattle.vg_compile.proofs.Choices.{plain_is_plan}
+use Rattle.vg_compile.proofs.Near.{plan-short}
+
+pub names_units : (ssa : Ssa) (deps : List (ℕ × ℕ)) → deps ≡ dependences ssa → NameUnits ssa deps
+names_units ssa deps e = subst (NameUnits ssa) (sym e) (dependences-name_units ssa).0
+
+names_lesser : (ssa : Ssa) (deps : List (ℕ × ℕ)) → deps ≡ dependences ssa → NameLesser deps
+names_lesser ssa deps e = subst NameLesser (sym e) (dependences-name_units ssa).1
+
+pub names_earlier : (ssa : Ssa) (deps : List (ℕ × ℕ)) → deps ≡ dependences ssa → NameEarlierUnits ssa deps
+names_earlier ssa deps e = record { units = names_units ssa deps e; earlier = names_lesser ssa deps e }
+
+pub no_cycle : (ds : List Description) (matches : List Match) (ssa : Ssa) (deps : List (ℕ × ℕ)) (plan : List Packed) (units : List ℕ)
+    → deps ≡ dependences ssa → IsPlanFor ds matches ssa deps plan → NamesCycle deps ssa matches plan units → ⊥
+no_cycle ds matches ssa deps plan units e is (cycle, closed, are) =
+    plans-have-no-cycle ds matches ssa deps plan cycle (names_units ssa deps e) (names_lesser ssa deps e) is closed
+
+pub is_order : (matches : List Match) (ssa : Ssa) (deps : List (ℕ × ℕ)) (plan : List Packed) (order : List Node)
+    → deps ≡ dependences ssa → IsOrderBy deps ssa matches plan order → IsOrder ssa matches plan order
+is_order matches ssa deps plan order e is =
+    (dependences-give_orders ssa matches plan order).0.0 (subst (λ d. IsOrderBy d ssa matches plan order) e is)
+
+pub are_packs : (ds : List Description) (matches : List Match) (ssa : Ssa) (deps : List (ℕ × ℕ)) (plan : List Packed)
+    → AreKnown ds matches ssa → IsPlanFor ds matches ssa deps plan → ArePacks ssa plan
+are_packs ds matches ssa deps plan known is = (packs-are-right ds matches ssa deps plan known is).0
+
+pub is_emitted : (ds : List Description) (matches : List Match) (ssa : Ssa) (plan : List Packed) (order : List Node) (p : Program)
+    → IsOrder ssa matches plan order → p ≡ planned_program ds matches ssa plan order → IsEmitted ds matches ssa plan p
+is_emitted ds matches ssa plan order p is e = (order, is, e)
+
+pub known : (ds : List Description) (matches : List Match) (ssa : Ssa) → IsSound ssa → AllByRecursion IsCallable ds → AreMatches ds ssa matches → AreKnown ds matches ssa
+known ds matches ssa sound callable matched = record { sound = sound; described = callable; matched = matched }
+
+pub plain_short : (ds : List Description) (matches : List Match) (ssa : Ssa) (deps : List (ℕ × ℕ)) → AreKnown ds matches ssa → AllByRecursion IsShort (plain_of ds matches ssa deps)
+plain_short ds matches ssa deps k = plan-short ds matches ssa deps (plain_of ds matches ssa deps) k (plain_is_plan ds matches ssa deps _ refl)

@@ -1,0 +1,4 @@
+pub mod Compiled
+pub mod Emitted
+pub mod Laws
+pub mod Means

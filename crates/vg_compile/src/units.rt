@@ -1,0 +1,33 @@
+//! The program of numbered values.
+
+ghost use Rattle.std.specs.Prelude.{IfOk, map};
+ghost use Rattle.std.specs.List.{AllByRecursion};
+ghost use Rattle.vg_compile.specs.Emitted.{IsProgramFor};
+ghost use Rattle.vg_emission.specs.Truth.{IsCallable};
+ghost use Rattle.vg_shapes.specs.Description.{description_of};
+ghost use Rattle.vg_shapes.specs.Sound.{IsSound};
+
+use crate::choice::cheaper_plan;
+use crate::emitting::emit_plan;
+use std::alloc::{AllocError, Global};
+use vg_deps::depends;
+use vg_match::build;
+use vg_program::Program;
+use vg_shapes::{Description, Ssa};
+
+/// A program for a kernel by the descriptions of instances that it may call: that of the plain plan where
+/// it costs less than the empty one, else that of the empty plan, which is the scalar program.
+pub fn compile_units(
+    alloc: Global,
+    descriptions: &[Description],
+    ssa: &Ssa,
+) -> Result<Program, AllocError>
+    requires sound { IsSound ssa.now }
+    requires callable { AllByRecursion IsCallable (map description_of descriptions.now) }
+    ensures { IfOk result (IsProgramFor (map description_of descriptions.now) ssa.now) }
+{
+    let table = build(alloc, descriptions, ssa)?;
+    let deps = depends(alloc, ssa)?;
+    let plan = cheaper_plan(alloc, descriptions, &table, ssa, &deps)?;
+    emit_plan(alloc, descriptions, &plan, &table, ssa, &deps)
+}
