@@ -1,0 +1,11 @@
+//! Cases of packs: the store groups of kernels, the packs that produce operands, and plain plans.
+#![tactic(auto)]
+
+#[cfg(test)]
+mod kernels;
+#[cfg(test)]
+mod plans;
+#[cfg(test)]
+mod producing;
+#[cfg(test)]
+mod shown;
