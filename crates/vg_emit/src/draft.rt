@@ -37,7 +37,8 @@ pub(crate) fn blank(
     packs: usize,
     operands: usize,
 ) -> Result<Draft, AllocError>
-    ensures { IfOk result (λ d. made_of d ≡ record { lines = []; draft = blank values packs operands }) }
+    ensures { IfOk result (λ d. made_of d
+        ≡ record { lines = []; draft = blank values packs operands }) }
 {
     Ok(Draft {
         lines: Vec::new(alloc),
@@ -61,7 +62,8 @@ pub(crate) fn put_line(draft: &mut Draft, line: Line) -> Result<(), AllocError>
 /// Adds a line that defines the next scalar, which is a value.
 pub(crate) fn put_named(draft: &mut Draft, line: Line, value: u32) -> Result<(), AllocError>
     ensures { OnOk result (made_of draft.new
-        ≡ behind (made_of draft.old) (record { lines = line ∷ []; draft = with_name (known draft.old) value })) }
+        ≡ behind (made_of draft.old)
+        (record { lines = line ∷ []; draft = with_name (known draft.old) value })) }
 {
     let scalars = one_more(draft.scalars)?;
     draft.lines.push(line)?;
@@ -74,7 +76,11 @@ pub(crate) fn put_named(draft: &mut Draft, line: Line, value: u32) -> Result<(),
 pub(crate) fn put_vector(draft: &mut Draft, line: Line) -> Result<u32, AllocError>
     ensures { IfOk result (λ r. placed_of draft.new r
         ≡ placed_behind (made_of draft.old)
-        (record { lines = line ∷ []; draft = with_vectors (known draft.old) 1; register = draft.old.vectors })) }
+        (record {
+          lines = line ∷ [];
+          draft = with_vectors (known draft.old) 1;
+          register = draft.old.vectors;
+        })) }
 {
     let register = draft.vectors;
     let vectors = one_more(register)?;
@@ -87,7 +93,11 @@ pub(crate) fn put_vector(draft: &mut Draft, line: Line) -> Result<u32, AllocErro
 pub(crate) fn put_held(draft: &mut Draft, line: Line, pack: usize) -> Result<u32, AllocError>
     ensures { IfOk result (λ r. placed_of draft.new r
         ≡ placed_behind (made_of draft.old)
-        (record { lines = line ∷ []; draft = with_held (known draft.old) pack; register = draft.old.vectors })) }
+        (record {
+          lines = line ∷ [];
+          draft = with_held (known draft.old) pack;
+          register = draft.old.vectors;
+        })) }
 {
     let register = put_vector(draft, line)?;
     draft.held.set(pack, register);
@@ -97,7 +107,10 @@ pub(crate) fn put_held(draft: &mut Draft, line: Line, pack: usize) -> Result<u32
 /// Lets an operand stand in a register.
 pub(crate) fn put_built(draft: &mut Draft, operand: usize, register: u32)
     ensures { made_of draft.new
-        ≡ record { lines = draft.old.lines.items; draft = with_built (known draft.old) operand register } }
+        ≡ record {
+          lines = draft.old.lines.items;
+          draft = with_built (known draft.old) operand register;
+        } }
 {
     draft.built.set(operand, register);
 }

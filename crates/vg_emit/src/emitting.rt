@@ -43,7 +43,8 @@ fn job_for<'a>(
     requires sound { IsSound ssa.now }
     requires short { AllByRecursion IsShort packs.now }
     requires near { MatchesNear table.now }
-    requires operands { operands.items ≡ operands_in (map description_of descriptions.now) table.now ssa.now packs.now }
+    requires operands { operands.items
+        ≡ operands_in (map description_of descriptions.now) table.now ssa.now packs.now }
     ensures { IfOk result (λ job. job_of job
         ≡ job_for (map description_of descriptions.now) table.now ssa.now packs.now recipes.now) }
 {
@@ -61,11 +62,11 @@ fn job_for<'a>(
     })
 }
 
-/// The program that is emitted for the packs of a plan, with a recipe for each operand, in an order.
-/// It states its own cost, and as the cost of the kernel as written the number of its units.
+/// The program that is emitted for the packs of a plan, with a recipe for each operand, in an
+/// order. It states its own cost, and as the cost of the kernel as written the number of its units.
 ///
-/// Looks at all operands for each operand that a pack takes, else at each line, lane and unit a fixed
-/// number of times. Fails for want of memory, or where the cost is 2 to the 32 or more.
+/// Looks at all operands for each operand that a pack takes, else at each line, lane and unit a
+/// fixed number of times. Fails for want of memory, or where the cost is 2 to the 32 or more.
 pub fn emit_program(
     alloc: Global,
     ssa: &Ssa,
@@ -79,7 +80,8 @@ pub fn emit_program(
     requires short { AllByRecursion IsShort plan.now }
     requires near { MatchesNear table.now }
     ensures { IfOk result (λ program. program
-        ≡ program_of (map description_of descriptions.now) table.now ssa.now plan.now recipes.now order.now) }
+        ≡ program_of (map description_of descriptions.now) table.now ssa.now plan.now
+        recipes.now order.now) }
 {
     let packs = plan.as_slice();
     let operands = plan_operands(alloc, descriptions, table, ssa, packs)?;
@@ -99,7 +101,8 @@ fn planned_program(
     requires short { AllByRecursion IsShort plan.now }
     requires near { MatchesNear table.now }
     ensures program { IfOk result (λ program. program
-        ≡ planned_program (map description_of descriptions.now) table.now ssa.now plan.now order.now) }
+        ≡ planned_program (map description_of descriptions.now) table.now ssa.now plan.now
+        order.now) }
     ensures small { IfOk result (λ program. cost_of program < 2 ^ 32) }
 {
     let packs = plan.as_slice();
@@ -117,13 +120,14 @@ fn planned_program(
     program_from(alloc, &job, order.as_slice())
 }
 
-/// The program of a plan in an order, each operand of which takes the recipe that costs least. It states
-/// its own cost, and as the cost of the kernel as written the number of its units.
+/// The program of a plan in an order, each operand of which is brought into a register by the recipe
+/// that it takes beside the packs. It states its own cost, and as the cost of the kernel as written the
+/// number of its units.
 ///
-/// Where the plan, its recipes and the order are right for the kernel, the program leaves the memory that
-/// the units leave one after the other, or traps where they do, in each layout that respects noalias; it
-/// costs what the plan costs, keeps the rules on programs, whatever its text is long, and calls described
-/// instances alone. Fails as `emit_program` does.
+/// Where the plan, its recipes and the order are right for the kernel, the program leaves the memory
+/// that the units leave one after the other, or traps where they do, in each layout that respects
+/// noalias; it costs what the plan costs, keeps the rules on programs, whatever the length of its text
+/// is, and calls described instances alone. Fails as `emit_program` does.
 pub fn emit(
     alloc: Global,
     ssa: &Ssa,
@@ -136,27 +140,33 @@ pub fn emit(
     requires short { AllByRecursion IsShort plan.now }
     requires near { MatchesNear table.now }
     ensures program { IfOk result (λ program. program
-        ≡ planned_program (map description_of descriptions.now) table.now ssa.now plan.now order.now) }
+        ≡ planned_program (map description_of descriptions.now) table.now ssa.now plan.now
+        order.now) }
     ensures means { (called : Instructions) →
         IsPlanned (planned_job (map description_of descriptions.now) table.now ssa.now plan.now) →
         IsOrder ssa.now table.now plan.now order.now →
-        AlwaysKeep (planned_job (map description_of descriptions.now) table.now ssa.now plan.now) called →
+        AlwaysKeep (planned_job (map description_of descriptions.now) table.now ssa.now plan.now)
+        called →
         IfOk result (λ program. MeansUnits called program ssa.now) }
     ensures cost { (deps : List (ℕ × ℕ)) →
         IsPlanned (planned_job (map description_of descriptions.now) table.now ssa.now plan.now) →
         IsOrder ssa.now table.now plan.now order.now →
         IfOk result (λ program. cost_of program
-        ≡ plan_cost (packing (map description_of descriptions.now) table.now ssa.now deps) plan.now) }
+        ≡ plan_cost (packing (map description_of descriptions.now) table.now ssa.now deps)
+        plan.now) }
     ensures rules { (headers : List Header) →
         IsPlanned (planned_job (map description_of descriptions.now) table.now ssa.now plan.now) →
         IsOrder ssa.now table.now plan.now order.now →
-        AreFit (planned_job (map description_of descriptions.now) table.now ssa.now plan.now) headers →
+        AreFit (planned_job (map description_of descriptions.now) table.now ssa.now plan.now)
+        headers →
         IfOk result (λ program. KeepsRules headers program) }
     ensures calls { (headers : List Header) →
         IsPlanned (planned_job (map description_of descriptions.now) table.now ssa.now plan.now) →
         IsOrder ssa.now table.now plan.now order.now →
-        AreFit (planned_job (map description_of descriptions.now) table.now ssa.now plan.now) headers →
-        IfOk result (λ program. CallsDescribed (map description_of descriptions.now) program.lines) }
+        AreFit (planned_job (map description_of descriptions.now) table.now ssa.now plan.now)
+        headers →
+        IfOk result (λ program.
+        CallsDescribed (map description_of descriptions.now) program.lines) }
 {
     planned_program(alloc, ssa, plan, order, descriptions, table)
 }

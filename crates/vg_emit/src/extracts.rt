@@ -20,7 +20,8 @@ fn put_extract(
     value: Option<u32>,
 ) -> Result<(), AllocError>
     ensures { OnOk result (made_of draft.new
-        ≡ behind (made_of draft.old) (extracts (job_of job.now) (known draft.old) register width lane (value ∷ []))) }
+        ≡ behind (made_of draft.old)
+        (extracts (job_of job.now) (known draft.old) register width lane (value ∷ []))) }
 {
     match value {
         None => Ok(()),
@@ -49,7 +50,8 @@ pub(crate) fn put_extracts(
 ) -> Result<(), AllocError>
     requires { length lanes.now < 2 ^ 32 }
     ensures { OnOk result (made_of draft.new
-        ≡ behind (made_of draft.old) (extracts (job_of job.now) (known draft.old) register width 0 lanes.now)) }
+        ≡ behind (made_of draft.old)
+        (extracts (job_of job.now) (known draft.old) register width 0 lanes.now)) }
 {
     let mut lane = 0;
     'lanes: for value in lanes {

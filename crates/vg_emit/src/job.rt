@@ -10,8 +10,9 @@ use vg_packing::Recipe;
 use vg_packing::units::unit_at;
 use vg_shapes::{Description, Operand, Pack, Ssa, Unit};
 
-/// A kernel, the descriptions of instances, packs, for each pack the numbers of the operands that it
-/// takes, these operands with a recipe for each, and marks on the values that are needed as scalars.
+/// A kernel, the descriptions of instances, packs, for each pack the numbers of the operands that
+/// it takes, these operands with a recipe for each, and marks on the values that are needed as
+/// scalars.
 #[derive(Drop)]
 pub(crate) struct Job<'a> {
     pub(crate) ssa: &'a Ssa,

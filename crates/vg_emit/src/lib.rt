@@ -1,8 +1,8 @@
 //! The program that is emitted for a plan of a kernel, with a recipe for each operand, in an order.
 //!
-//! `vg_emission`'s `specs/Program.antt` says which program that is. Here `specs/Views.antt` says what
-//! the types of the code stand for, `specs/Marks.antt` how values that are needed are marked, and
-//! `specs/Placing.antt` and `specs/Packing.antt` which lines parts of the code add.
+//! `vg_emission`'s `specs/Program.antt` says which program that is. Here `specs/Views.antt` says
+//! what the types of the code stand for, `specs/Marks.antt` how values that are needed are marked,
+//! and `specs/Placing.antt` and `specs/Packing.antt` which lines parts of the code add.
 //! `specs/Planned.antt` names the program of a plan whose operands take the recipes of `vg_gather`.
 #![tactic(auto)]
 

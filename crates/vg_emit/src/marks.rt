@@ -10,7 +10,8 @@ use std::alloc::{AllocError, Global};
 use std::marker::Model;
 use vg_shapes::{Pack, Wanted};
 
-/// Marks on the numbers from 0 on. Contracts see them as a list with `true` where a number is marked.
+/// Marks on the numbers from 0 on. Contracts see them as a list with `true` where a number is
+/// marked.
 #[derive(Debug, Drop)]
 pub(crate) struct Marks {
     all: Vec<bool>,

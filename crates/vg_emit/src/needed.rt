@@ -116,8 +116,8 @@ fn mark_all_uses(ssa: &Ssa, packed: &Marks, marks: &mut Marks, count: u32)
     }
 }
 
-/// Marks on the values that are needed as scalars: what recipes put into registers, and what units use
-/// that are emitted as scalars.
+/// Marks on the values that are needed as scalars: what recipes put into registers, and what units
+/// use that are emitted as scalars.
 pub(crate) fn needed_values(
     alloc: Global,
     ssa: &Ssa,
@@ -127,7 +127,8 @@ pub(crate) fn needed_values(
 ) -> Result<Marks, AllocError>
     requires { IsSound ssa.now }
     ensures { IfOk result (λ marks. Mark (arguments ssa.now + length ssa.now.units) marks
-        (needed_behind ssa.now packs.now (all_inserted recipes.now operands.now) (falling_units ssa.now))) }
+        (needed_behind ssa.now packs.now (all_inserted recipes.now operands.now)
+        (falling_units ssa.now))) }
 {
     let count = count_values(ssa);
     let mut packed = Marks::new(alloc, count as usize)?;

@@ -6,8 +6,8 @@ ghost use Rattle.vg_emission.specs.Draft.{found};
 use std::alloc::{AllocError, Global};
 use std::marker::Model;
 
-/// By the numbers of things from 0 on the number that stands for each, if any does. Contracts see them
-/// as a list.
+/// By the numbers of things from 0 on the number that stands for each, if any does. Contracts see
+/// them as a list.
 #[derive(Debug, Drop)]
 pub(crate) struct Numbers {
     all: Vec<Option<u32>>,

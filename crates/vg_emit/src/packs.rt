@@ -73,7 +73,8 @@ fn joint_size(ssa: &Ssa, units: &[u32]) -> VectorSize
 
 /// The line that stores a register to where units stand beside each other.
 fn store_line(ssa: &Ssa, units: &[u32], registers: &[u32]) -> Line
-    ensures { result ≡ Line.VectorStore (joint_size ssa.now units.now) (first_address ssa.now units.now) (slice_index registers.now 0) }
+    ensures { result ≡ Line.VectorStore (joint_size ssa.now units.now)
+        (first_address ssa.now units.now) (slice_index registers.now 0) }
 {
     Line::VectorStore {
         size: joint_size(ssa, units),
@@ -103,7 +104,8 @@ fn put_own(
 ) -> Result<(), AllocError>
     requires { IsShort pack.now }
     ensures { OnOk result (made_of draft.new
-        ≡ behind (made_of draft.old) (own_lines (job_of job.now) (known draft.old) number pack.now registers.items)) }
+        ≡ behind (made_of draft.old)
+        (own_lines (job_of job.now) (known draft.old) number pack.now registers.items)) }
 {
     let width = width_for(lane_width_of(job.descriptions, job.ssa, pack));
     match pack {
@@ -139,8 +141,8 @@ fn takes_at<'a>(job: &'a Job, number: usize) -> &'a [usize]
     }
 }
 
-/// Adds the lines of a pack: those of its operands, its own, and what is taken out of its register. A
-/// pack that is not there is a store group of no units.
+/// Adds the lines of a pack: those of its operands, its own, and what is taken out of its register.
+/// A pack that is not there is a store group of no units.
 pub(crate) fn put_pack(
     alloc: Global,
     job: &Job,
@@ -149,7 +151,8 @@ pub(crate) fn put_pack(
 ) -> Result<(), AllocError>
     requires { AllByRecursion IsShort (job_of job.now).packs }
     ensures { OnOk result (made_of draft.new
-        ≡ behind (made_of draft.old) (pack_lines (job_of job.now) (known draft.old) number (pack_at (job_of job.now) number))) }
+        ≡ behind (made_of draft.old)
+        (pack_lines (job_of job.now) (known draft.old) number (pack_at (job_of job.now) number))) }
 {
     let registers = build_all(alloc, job, draft, takes_at(job, number))?;
     match job.packs.get(number) {

@@ -26,7 +26,8 @@ pub(crate) fn call_of(
     registers: Vec<u32>,
 ) -> Result<Line, AllocError>
     ensures { IfOk result (λ line. line
-        ≡ call_of (slice_index_or (map description_of descriptions.now) number no_description) registers.items) }
+        ≡ call_of (slice_index_or (map description_of descriptions.now) number no_description)
+        registers.items) }
 {
     match descriptions.get(number as usize) {
         Some(found) => Ok(Line::Call {
@@ -48,7 +49,8 @@ pub(crate) fn call_of(
 
 /// The registers of packs.
 fn registers_of(alloc: Global, draft: &Draft, packs: &[u32]) -> Result<Vec<u32>, AllocError>
-    ensures { IfOk result (λ registers. registers.items ≡ registers_of (known draft.now) packs.now) }
+    ensures { IfOk result (λ registers. registers.items
+        ≡ registers_of (known draft.now) packs.now) }
 {
     packs
         .iter()
@@ -72,7 +74,8 @@ fn put_one(
     slot: &Slot,
 ) -> Result<u32, AllocError>
     ensures { IfOk result (λ r. placed_of draft.new r
-        ≡ placed_behind (made_of draft.old) (put_one (job_of job.now) (known draft.old) bits register slot.now slot.now.wanted)) }
+        ≡ placed_behind (made_of draft.old)
+        (put_one (job_of job.now) (known draft.old) bits register slot.now slot.now.wanted)) }
 {
     match slot.wanted {
         Wanted::Value(_) => {
@@ -90,8 +93,8 @@ fn put_one(
     }
 }
 
-/// Adds a line for each slot that wants a value, each puts it into the register that the line before
-/// gave. Gives the last register.
+/// Adds a line for each slot that wants a value, each puts it into the register that the line
+/// before gave. Gives the last register.
 fn put_in(
     job: &Job,
     draft: &mut Draft,
@@ -100,7 +103,8 @@ fn put_in(
     slots: &[Slot],
 ) -> Result<u32, AllocError>
     ensures { IfOk result (λ r. placed_of draft.new r
-        ≡ placed_behind (made_of draft.old) (put_in (job_of job.now) (known draft.old) bits register slots.now)) }
+        ≡ placed_behind (made_of draft.old)
+        (put_in (job_of job.now) (known draft.old) bits register slots.now)) }
 {
     let mut last = register;
     'slots: for slot in slots {
@@ -132,7 +136,8 @@ fn put_inserts(
     operand: &Operand,
 ) -> Result<u32, AllocError>
     ensures { IfOk result (λ r. placed_of draft.new r
-        ≡ placed_behind (made_of draft.old) (put_inserts (job_of job.now) (known draft.old) number operand.now)) }
+        ≡ placed_behind (made_of draft.old)
+        (put_inserts (job_of job.now) (known draft.old) number operand.now)) }
 {
     let bytes = Items::from_vec(constant_bytes(alloc, operand)?);
     let first = put_vector(draft, Line::Constant { bytes })?;
@@ -162,7 +167,8 @@ fn put_inserts_at(
     number: usize,
 ) -> Result<u32, AllocError>
     ensures { IfOk result (λ r. placed_of draft.new r
-        ≡ placed_behind (made_of draft.old) (place (job_of job.now) (known draft.old) number recipe.Inserts)) }
+        ≡ placed_behind (made_of draft.old)
+        (place (job_of job.now) (known draft.old) number recipe.Inserts)) }
 {
     match job.operands.as_slice().get(number) {
         Some(operand) => put_inserts(alloc, job, draft, number, operand),
@@ -182,7 +188,8 @@ fn place(
     recipe: &Recipe,
 ) -> Result<u32, AllocError>
     ensures { IfOk result (λ r. placed_of draft.new r
-        ≡ placed_behind (made_of draft.old) (place (job_of job.now) (known draft.old) number recipe.now)) }
+        ≡ placed_behind (made_of draft.old)
+        (place (job_of job.now) (known draft.old) number recipe.now)) }
 {
     match recipe {
         Recipe::Reuse(pack) => {
@@ -237,7 +244,8 @@ pub(crate) fn build_all(
     numbers: &[usize],
 ) -> Result<Vec<u32>, AllocError>
     ensures { IfOk result (λ rs. all_placed_of draft.new rs.items
-        ≡ all_placed_behind (all_placed_of draft.old []) (build_all (job_of job.now) (known draft.old) numbers.now)) }
+        ≡ all_placed_behind (all_placed_of draft.old [])
+        (build_all (job_of job.now) (known draft.old) numbers.now)) }
 {
     let mut registers = Vec::new(alloc);
     'numbers: for number in numbers {

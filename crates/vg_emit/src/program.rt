@@ -103,8 +103,8 @@ fn in_number_order(alloc: Global, ssa: &Ssa) -> Result<Vec<Node>, AllocError>
     Ok(nodes)
 }
 
-/// The lines of the packs and of the units outside them. Without packs the units stand in the order of
-/// their numbers, whatever order is given.
+/// The lines of the packs and of the units outside them. Without packs the units stand in the order
+/// of their numbers, whatever order is given.
 fn lines_of(alloc: Global, job: &Job, order: &[Node]) -> Result<Vec<Line>, AllocError>
     requires sound { IsSound (job_of job.now).ssa }
     requires short { AllByRecursion IsShort (job_of job.now).packs }
@@ -127,8 +127,8 @@ fn with_cost(mut program: Program) -> Result<Program, AllocError>
     Ok(program)
 }
 
-/// The program of a job, whose nodes are done in an order. It states its own cost, and as the cost of
-/// the kernel as written the number of its units. Fails where the cost is 2 to the 32 or more.
+/// The program of a job, whose nodes are done in an order. It states its own cost, and as the cost
+/// of the kernel as written the number of its units. Fails where the cost is 2 to the 32 or more.
 pub(crate) fn program_from(alloc: Global, job: &Job, order: &[Node]) -> Result<Program, AllocError>
     requires sound { IsSound (job_of job.now).ssa }
     requires short { AllByRecursion IsShort (job_of job.now).packs }

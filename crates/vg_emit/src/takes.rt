@@ -37,8 +37,8 @@ fn numbers_in(
     taken.iter().map(|o| number_in(operands, o)).collect(alloc)
 }
 
-/// For each pack the numbers of the operands that it takes. Looks at each operand for each that a pack
-/// takes.
+/// For each pack the numbers of the operands that it takes. Looks at each operand for each that a
+/// pack takes.
 pub(crate) fn takes_in(
     alloc: Global,
     descriptions: &[Description],

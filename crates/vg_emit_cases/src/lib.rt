@@ -1,5 +1,5 @@
-//! Cases of emitted programs: the lines of small kernels under plans and orders that are given, each
-//! written out by hand.
+//! Cases of emitted programs: the lines of small kernels under plans and orders that are given,
+//! each written out by hand.
 #![tactic(auto)]
 
 #[cfg(test)]
