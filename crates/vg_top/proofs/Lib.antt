@@ -1,12 +1,6 @@
-pub mod Listings
 pub mod Answers
-pub mod CallsNothing
 pub mod Bindings
-pub mod Emitted
 pub mod Endings
 pub mod Fronts
-pub mod LineCosts
-pub mod Runs
-pub mod Valid
-pub mod Wide
+pub mod Ready
 pub mod Works

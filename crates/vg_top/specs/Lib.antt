@@ -2,14 +2,12 @@ pub mod Answer
 pub mod Binding
 pub mod Causes
 pub mod Compile
-pub mod Emission
 pub mod Ending
 pub mod Eval
 pub mod Files
 pub mod InstructionFile
 pub mod KernelFile
 pub mod Line
-pub mod Means
 pub mod Request
 pub mod Run
 pub mod Status

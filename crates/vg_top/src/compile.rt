@@ -1,26 +1,43 @@
 //! The command `compile`.
 
-ghost use Rattle.std.specs.Prelude.{List, Some, IfSome, IfErr};
+ghost use Rattle.std.specs.Prelude.{◌≡◌, List, Some, IfSome, IfErr};
+ghost use Rattle.vg_catalog.specs.Catalogs.{entries_in};
 ghost use Rattle.vg_catalog.specs.Entries.{Entry};
+ghost use Rattle.vg_catalog.specs.Extensions.{bits_in};
+ghost use Rattle.vg_catalog.specs.Written.{AllWritten};
+ghost use Rattle.vg_instances.specs.Proper.{AreProper};
 ghost use Rattle.vg_kernel.specs.Statements.{kernel_of};
+ghost use Rattle.vg_listing.specs.Listed.{HaveLanes};
+ghost use Rattle.vg_top.specs.Answer.{all_extensions};
 ghost use Rattle.vg_top.specs.KernelFile.{kernel_or_refusal};
 ghost use Rattle.vg_top.specs.Files.{second_file, Tells};
 ghost use Rattle.vg_top.specs.Request.{compile as compile_asked};
 ghost use Rattle.vg_top.specs.Works.{Works, IsOfKernel, ending_of};
 ghost use Rattle.vg_top.specs.Compile.{compiled, source_of, Answers};
 
-use crate::emission::program_of;
 use crate::ending::{Ending, FileNumber};
 use crate::files::{INSTRUCTIONS_LIMIT, KERNEL_LIMIT, fetch};
 use crate::instruction_file::catalog_of_text;
 use crate::kernel_file::kernel_of_text;
+use bitflags::Flags;
 use std::alloc::Global;
+use vg_catalog::{Catalog, Extensions};
 use vg_outside::Shelf;
 use vg_program::print_program;
 
-/// The program text of a kernel's text. It calls nothing, so it answers the kernel with any entries.
-fn program_text(alloc: Global, text: &[u8]) -> Result<Vec<u8>, Ending>
-    ensures told { (entries : List Entry) → Tells Answers result
+/// The set of all extensions.
+fn all_extensions() -> Extensions
+    ensures { bits_in result ≡ all_extensions }
+{
+    Extensions::from_bits_retain(1023)
+}
+
+/// The program text of a kernel's text, which may call the entries of a catalogue.
+fn program_text(alloc: Global, catalog: &Catalog, text: &[u8]) -> Result<Vec<u8>, Ending>
+    requires written { AllWritten (entries_in catalog.now) }
+    requires lanes { HaveLanes (entries_in catalog.now) }
+    requires proper { AreProper (entries_in catalog.now) }
+    ensures told { (entries : List Entry) → entries_in catalog.now ≡ entries → Tells Answers result
         (source_of entries (kernel_or_refusal second_file (kernel_of text.now))) }
     ensures refusal { IfErr result (IsOfKernel second_file) }
 {
@@ -28,7 +45,7 @@ fn program_text(alloc: Global, text: &[u8]) -> Result<Vec<u8>, Ending>
         Ok(kernel) => kernel,
         Err(ending) => return Err(ending),
     };
-    match program_of(alloc, &kernel) {
+    match vg_compile::compile(alloc, catalog, all_extensions(), &kernel) {
         Ok(program) => match print_program(alloc, &program) {
             Ok(bytes) => Ok(bytes),
             Err(_) => Err(Ending::Memory),
@@ -51,7 +68,7 @@ pub fn compile<S: Shelf>(
 {
     let number = FileNumber(1);
     let file = fetch(alloc, shelf, number, instructions, INSTRUCTIONS_LIMIT)?;
-    let _catalog = catalog_of_text(alloc, number, file.as_slice())?;
+    let catalog = catalog_of_text(alloc, number, file.as_slice())?;
     let text = fetch(alloc, shelf, FileNumber(2), kernel, KERNEL_LIMIT)?;
-    program_text(alloc, text.as_slice())
+    program_text(alloc, &catalog, text.as_slice())
 }

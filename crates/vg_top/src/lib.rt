@@ -4,7 +4,6 @@
 
 pub mod binding;
 pub mod compile;
-pub mod emission;
 pub mod ending;
 pub mod eval;
 pub mod files;
@@ -12,6 +11,7 @@ pub mod instruction_file;
 pub mod kernel_file;
 pub mod lift;
 pub mod message;
+mod params;
 pub mod request;
 pub mod run;
 pub mod status;

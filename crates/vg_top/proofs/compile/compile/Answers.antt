@@ -24,9 +24,9 @@ returns-clause-shelf g c =
     let two = reads_on s 1 second_file _ _ _ (omega arith) one c.in_ok-text.ensures.shelf in
     kernel_last s _ second_file _ _ _ (omega arith) refl refl two c.program_text.ensures.refusal
 
-pub returns-in_err-_catalog-clause-shelf : goal.returns-in_err-_catalog-clause-shelf
-returns-in_err-_catalog-clause-shelf g c =
+pub returns-in_err-catalog-clause-shelf : goal.returns-in_err-catalog-clause-shelf
+returns-in_err-catalog-clause-shelf g c =
     let s = g.S.Shelf in
-    let same = err_from_is_err_and c.from_residual-in_err-_catalog.result c.from_residual-in_err-_catalog.ensures.1 in
+    let same = err_from_is_err_and c.from_residual-in_err-catalog.result c.from_residual-in_err-catalog.ensures.1 in
     let one = reads_on s 0 first_file _ _ _ (omega arith) (begins s c.args.shelf.now) c.in_ok-file.ensures.shelf in
-    rw (same.1, same.2) (stops_instructions s _ first_file _ _ _ (omega arith) (omega arith) refl one c.in_err-_catalog.ensures.refusal)
+    rw (same.1, same.2) (stops_instructions s _ first_file _ _ _ (omega arith) (omega arith) refl one c.in_err-catalog.ensures.refusal)
