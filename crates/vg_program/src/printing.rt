@@ -54,7 +54,8 @@ fn integer_name(params: &[Param], number: u32) -> &[u8]
     b""
 }
 
-fn put_number(alloc: Global, to: &mut Vec<u8>, number: u64) -> Result<(), AllocError>
+/// Appends a number in decimal digits.
+pub fn put_number(alloc: Global, to: &mut Vec<u8>, number: u64) -> Result<(), AllocError>
     ensures { OnOk result (to.new.items ≡ to.old.items ++ decimal number) }
 {
     let digits = number.to_string(alloc)?;
@@ -103,7 +104,8 @@ fn put_params(alloc: Global, to: &mut Vec<u8>, params: &[Param]) -> Result<(), A
     Ok(())
 }
 
-fn put_address(
+/// Appends an address as programs write it: the name of its pointer and the offset with its sign.
+pub fn put_address(
     alloc: Global,
     to: &mut Vec<u8>,
     params: &[Param],
@@ -224,7 +226,8 @@ fn put_lane(alloc: Global, to: &mut Vec<u8>, register: u32, lane: u32) -> Result
     put_number(alloc, to, lane as u64)
 }
 
-fn put_imm(alloc: Global, to: &mut Vec<u8>, imm: Option<u8>) -> Result<(), AllocError>
+/// Appends ` imm N`, or nothing where there is no immediate.
+pub fn put_imm(alloc: Global, to: &mut Vec<u8>, imm: Option<u8>) -> Result<(), AllocError>
     ensures { OnOk result (to.new.items ≡ to.old.items ++ imm_text imm) }
 {
     if let Some(number) = imm {
