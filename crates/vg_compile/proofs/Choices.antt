@@ -1,6 +1,5 @@
--- The plans between which is chosen.
-use Rattle.std.proofs.Common.{◌≡◌, ℕ, List, [], subst, sym}
-use Rattle.vg_plans.specs.Crowded.{empty}
+-- The plain plan is a plan.
+use Rattle.std.proofs.Common.{◌≡◌, ℕ, List, subst, sym}
 use Rattle.vg_shapes.specs.declared.match_table.Match.{Match}
 use Rattle.vg_shapes.specs.declared.pack.Pack.{Pack as Packed}
 use Rattle.vg_shapes.specs.declared.ssa.Ssa.{Ssa}
@@ -12,6 +11,3 @@ use Rattle.vg_plans.proofs.Plain.{plain-plan}
 pub plain_is_plan : (ds : List Description) (matches : List Match) (ssa : Ssa) (deps : List (ℕ × ℕ)) (plan : List Packed)
     → plan ≡ plain_of ds matches ssa deps → IsPlanFor ds matches ssa deps plan
 plain_is_plan ds matches ssa deps plan e = subst (IsPlanFor ds matches ssa deps) (sym e) (plain-plan (packing ds matches ssa deps) _)
-
-pub empty_is_plan : (ds : List Description) (matches : List Match) (ssa : Ssa) (deps : List (ℕ × ℕ)) → IsPlanFor ds matches ssa deps []
-empty_is_plan ds matches ssa deps = empty

@@ -1,5 +1,5 @@
 -- Plans of a kernel by the list of all its dependences: their orders, and what is emitted in them.
-use Rattle.std.proofs.Common.{◌≡◌, ℕ, List, refl, sym, subst}
+use Rattle.std.proofs.Common.{◌≡◌, ℕ, List, sym, subst}
 use Rattle.std.specs.List.{AllByRecursion}
 use Rattle.vg_program.specs.declared.program.Program.{Program}
 use Rattle.vg_shapes.specs.declared.match_table.Match.{Match}
@@ -15,6 +15,7 @@ use Rattle.vg_packing.specs.Laws.{IsPlanFor}
 use Rattle.vg_packing.specs.Packing.{plain_of}
 use Rattle.vg_packing.specs.Taken.{IsShort}
 use Rattle.vg_packs.specs.Walk.{NameEarlierUnits}
+use Rattle.vg_beam.specs.Chosen.{HaveShortPacks}
 use Rattle.vg_order.specs.ByList.{IsOrderBy, NameLesser, NameUnits, NamesCycle}
 use Rattle.vg_order.proofs.AllDependences.{dependences-give_orders, dependences-name_units}
 use Rattle.vg_emission.specs.Truth.{IsCallable}
@@ -56,5 +57,9 @@ is_emitted ds matches ssa plan order p is e = (order, is, e)
 pub known : (ds : List Description) (matches : List Match) (ssa : Ssa) → IsSound ssa → AllByRecursion IsCallable ds → AreMatches ds ssa matches → AreKnown ds matches ssa
 known ds matches ssa sound callable matched = record { sound = sound; described = callable; matched = matched }
 
-pub plain_short : (ds : List Description) (matches : List Match) (ssa : Ssa) (deps : List (ℕ × ℕ)) → AreKnown ds matches ssa → AllByRecursion IsShort (plain_of ds matches ssa deps)
-plain_short ds matches ssa deps k = plan-short ds matches ssa deps (plain_of ds matches ssa deps) k (plain_is_plan ds matches ssa deps _ refl)
+pub short_packs : (ds : List Description) (matches : List Match) (ssa : Ssa) (deps : List (ℕ × ℕ)) → AreKnown ds matches ssa → HaveShortPacks ds matches ssa deps
+short_packs ds matches ssa deps k plan is = plan-short ds matches ssa deps plan k is
+
+pub plain_short : (ds : List Description) (matches : List Match) (ssa : Ssa) (deps : List (ℕ × ℕ)) (plan : List Packed) → AreKnown ds matches ssa
+    → plan ≡ plain_of ds matches ssa deps → AllByRecursion IsShort plan
+plain_short ds matches ssa deps plan k e = plan-short ds matches ssa deps plan k (plain_is_plan ds matches ssa deps plan e)

@@ -1,14 +1,18 @@
 -- What the program of a kernel's numbered values is for the kernel.
-use Rattle.std.proofs.Common.{◌≡◌, ℕ, List, [], ◌∷◌, length, ap, ◌∙◌, subst, arith}
+use Rattle.std.proofs.Common.{◌≡◌, ℕ, List, [], ◌∷◌, length, map, ap, ◌∙◌, subst, arith}
 use Rattle.std.specs.List.{AllByRecursion}
 use Rattle.vg_catalog.specs.Called.{called_by, headers_of}
 use Rattle.vg_catalog.specs.Entries.{Entry}
 use Rattle.vg_kernel.specs.Cost.{scalar_cost}
 use Rattle.vg_kernel.specs.Tree.{Tree}
+use Rattle.vg_program.specs.declared.param.Param.{Param}
 use Rattle.vg_program.specs.declared.program.Program.{Program}
 use Rattle.vg_program.specs.Cost.{cost_of}
 use Rattle.vg_program.specs.Sizes.{TakeFew}
 use Rattle.vg_program.proofs.TextSizes.{short_fits}
+use Rattle.vg_plan_text.specs.declared.costs.Costs.{Costs}
+use Rattle.vg_plan_text.specs.PlanText.{plan_text}
+use Rattle.vg_shapes.specs.declared.pack.Pack.{Pack as Packed}
 use Rattle.vg_shapes.specs.declared.ssa.Ssa.{Ssa}
 use Rattle.vg_shapes.specs.Description.{Description}
 use Rattle.vg_shapes.specs.Sound.{IsSound}
@@ -22,7 +26,9 @@ use Rattle.vg_plan_laws.proofs.Chosen.{kernels-are-small}
 use Rattle.vg_instances.specs.Descriptions.{AreOf, descriptions}
 use Rattle.vg_instances.specs.Proper.{AreProper, IsProper}
 use Rattle.vg_compile.specs.Compiled.{IsCompiled}
-use Rattle.vg_compile.specs.Emitted.{CostsAtMostPlain, IsProgramFor}
+use Rattle.vg_compile.specs.Emitted.{IsChosenCost, IsProgramFor}
+use Rattle.vg_compile.specs.Means.{param_of}
+use Rattle.vg_compile.specs.Planned.{IsExplained, IsPlanOf, IsPlanned}
 use Rattle.vg_compile.proofs.Joined.{units-mean-kernels}
 use Rattle.vg_compile.proofs.Sizes.{CostSome, program-lines}
 
@@ -52,10 +58,10 @@ cost-some (e ∷ es) all = (all.0.cost, cost-some es all.1)
 
 -- ---- the whole
 
-pub compiled : (entries : List Entry) (set : ℕ) (k : Tree) (ssa : Ssa) (ds : List Description) (p : Program)
+pub compiled : (entries : List Entry) (set : ℕ) (k : Tree) (width : ℕ) (ssa : Ssa) (ds : List Description) (p : Program)
     → IsNumbering k ssa → StandsFor k ssa → IsSound ssa → ds ≡ descriptions set entries → AreOf entries ds → AreProper entries
-    → IsProgramFor ds ssa p → IsCompiled entries set k p
-compiled entries set k ssa ds p is stands sound same are proper program =
+    → IsProgramFor ds ssa width p → IsCompiled entries set k width p
+compiled entries set k width ssa ds p is stands sound same are proper program =
     let headers = headers_of entries in
     let rules = program.rules headers (all-headers entries ds are) in
     let lines = program-lines headers p (cost-some entries proper.headers) rules in
@@ -67,13 +73,38 @@ compiled entries set k ssa ds p is stands sound same are proper program =
       calls = subst (λ xs. CallsDescribed xs p.lines) same (program.calls headers (all-headers entries ds are));
       scalar = program.scalar ∙ units;
       cost = omega (arith, program.cost, units);
-      plain = (ssa, is, subst (λ xs. CostsAtMostPlain xs ssa (cost_of p)) same program.plain);
+      chosen = (ssa, is, subst (λ xs. IsChosenCost xs ssa width (cost_of p)) same program.chosen);
     }
 
 -- the same by the descriptions of a catalogue's entries
-pub compiled-by : (entries all : List Entry) (set : ℕ) (k : Tree) (ssa : Ssa) (ds xs : List Description) (p : Program)
+pub compiled-by : (entries all : List Entry) (set : ℕ) (k : Tree) (width : ℕ) (ssa : Ssa) (ds xs : List Description) (p : Program)
     → entries ≡ all → xs ≡ ds → IsNumbering k ssa → StandsFor k ssa → IsSound ssa → ds ≡ descriptions set entries → AreOf entries ds
-    → AreProper all → IsProgramFor xs ssa p → IsCompiled all set k p
-compiled-by entries all set k ssa ds xs p same slice is stands sound listed are proper program =
-    compiled all set k ssa ds p is stands sound (listed ∙ ap (descriptions set) same) (subst (λ es. AreOf es ds) same are) proper
-    (subst (λ d. IsProgramFor d ssa p) slice program)
+    → AreProper all → IsProgramFor xs ssa width p → IsCompiled all set k width p
+compiled-by entries all set k width ssa ds xs p same slice is stands sound listed are proper program =
+    compiled all set k width ssa ds p is stands sound (listed ∙ ap (descriptions set) same) (subst (λ es. AreOf es ds) same are) proper
+    (subst (λ d. IsProgramFor d ssa width p) slice program)
+
+-- ---- what is told of the plan
+
+-- by the descriptions of a catalogue's entries
+pub planned-by : (entries all : List Entry) (set : ℕ) (k : Tree) (width : ℕ) (ssa : Ssa) (ds xs : List Description) (packs : List Packed) (cost plain : ℕ)
+    → entries ≡ all → xs ≡ ds → IsNumbering k ssa → ds ≡ descriptions set entries → IsPlanned xs ssa width packs cost plain
+    → IsPlanOf all set k width packs cost plain
+planned-by entries all set k width ssa ds xs packs cost plain same slice is listed planned =
+    (ssa, is, subst (λ d. IsPlanned d ssa width packs cost plain) (slice ∙ listed ∙ ap (descriptions set) same) planned)
+
+pub explained-by : (entries all : List Entry) (set : ℕ) (k : Tree) (width : ℕ) (ssa : Ssa) (ds xs : List Description) (packs : List Packed) (costs : Costs) (params : List Param) (text : List ℕ)
+    → entries ≡ all → xs ≡ ds → IsNumbering k ssa → ds ≡ descriptions set entries → IsPlanned xs ssa width packs costs.plan costs.plain
+    → costs.scalar ≡ scalar_cost k → params ≡ map param_of k.params → text ≡ plan_text params xs ssa packs costs
+    → IsExplained all set k width text
+explained-by entries all set k width ssa ds xs packs costs params text same slice is listed planned scalar named e =
+    let about : xs ≡ descriptions set all = slice ∙ listed ∙ ap (descriptions set) same in
+    record {
+      ssa = ssa;
+      numbering = is;
+      packs = packs;
+      costs = costs;
+      planned = subst (λ d. IsPlanned d ssa width packs costs.plan costs.plain) about planned;
+      scalar = scalar;
+      text = e ∙ ap (λ ps. plan_text ps xs ssa packs costs) named ∙ ap (λ d. plan_text (map param_of k.params) d ssa packs costs) about;
+    }

@@ -2,3 +2,4 @@ pub mod Compiled
 pub mod Emitted
 pub mod Laws
 pub mod Means
+pub mod Planned

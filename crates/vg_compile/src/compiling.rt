@@ -22,21 +22,23 @@ use vg_ssa::number_values;
 ///
 /// It leaves the memory that the kernel leaves and traps where the kernel traps, in each layout that
 /// respects noalias, each call giving what the text of its entry means. It costs at most the kernel's
-/// scalar cost, and at most as much as the plain plan. Fails for want of memory alone.
+/// scalar cost, and exactly what the chosen plan costs, where the search keeps `width` plans of each size,
+/// from 1 to 4,096. Fails for want of memory alone.
 pub fn compile(
     alloc: Global,
     catalog: &Catalog,
     allowed: Extensions,
     kernel: &Kernel,
+    width: u32,
 ) -> Result<Program, AllocError>
     requires kernel { IsWellFormed (tree_of kernel.now) }
     requires written { AllWritten (entries_in catalog.now) }
     requires lanes { HaveLanes (entries_in catalog.now) }
     requires proper { AreProper (entries_in catalog.now) }
     ensures { IfOk result
-        (IsCompiled (entries_in catalog.now) (bits_in allowed) (tree_of kernel.now)) }
+        (IsCompiled (entries_in catalog.now) (bits_in allowed) (tree_of kernel.now) width) }
 {
     let ssa = number_values(alloc, kernel)?;
     let descriptions = descriptions_of(alloc, catalog.entries(), allowed)?;
-    compile_units(alloc, descriptions.as_slice(), &ssa)
+    compile_units(alloc, descriptions.as_slice(), &ssa, width)
 }

@@ -1,15 +1,21 @@
 //! The compiler over values: from the entries of a catalogue and a kernel to the program that calls them.
 //!
 //! `specs/Compiled.antt` says what is compiled of a kernel, `specs/Means.antt` when a program means it,
-//! and `specs/Emitted.antt` what is emitted for its numbered values by the descriptions of instances.
+//! `specs/Emitted.antt` what is emitted for its numbered values by the descriptions of instances, and
+//! `specs/Planned.antt` which plan is emitted and what is told of it.
 #![tactic(auto)]
 
-mod choice;
 mod compiling;
 mod emitting;
+mod explaining;
 mod law;
+mod params;
+mod planning;
 mod units;
 
 pub use compiling::compile;
+pub use explaining::explain;
 pub use law::units_mean_kernels;
+pub use params::params_of;
+pub use planning::{Chosen, plan_of};
 pub use units::compile_units;

@@ -7,27 +7,28 @@ ghost use Rattle.vg_emission.specs.Truth.{IsCallable};
 ghost use Rattle.vg_shapes.specs.Description.{description_of};
 ghost use Rattle.vg_shapes.specs.Sound.{IsSound};
 
-use crate::choice::cheaper_plan;
 use crate::emitting::emit_plan;
 use std::alloc::{AllocError, Global};
+use vg_beam::choose;
 use vg_deps::depends;
 use vg_match::build;
 use vg_program::Program;
 use vg_shapes::{Description, Ssa};
 
-/// A program for a kernel by the descriptions of instances that it may call: that of the plain plan where
-/// it costs less than the empty one, else that of the empty plan, which is the scalar program.
+/// A program for a kernel by the descriptions of instances that it may call: that of the chosen plan, where
+/// the search keeps `width` plans of each size.
 pub fn compile_units(
     alloc: Global,
     descriptions: &[Description],
     ssa: &Ssa,
+    width: u32,
 ) -> Result<Program, AllocError>
     requires sound { IsSound ssa.now }
     requires callable { AllByRecursion IsCallable (map description_of descriptions.now) }
-    ensures { IfOk result (IsProgramFor (map description_of descriptions.now) ssa.now) }
+    ensures { IfOk result (IsProgramFor (map description_of descriptions.now) ssa.now width) }
 {
     let table = build(alloc, descriptions, ssa)?;
     let deps = depends(alloc, ssa)?;
-    let plan = cheaper_plan(alloc, descriptions, &table, ssa, &deps)?;
+    let plan = choose(alloc, descriptions, &table, ssa, &deps, width)?;
     emit_plan(alloc, descriptions, &plan, &table, ssa, &deps)
 }

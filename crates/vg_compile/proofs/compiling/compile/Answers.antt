@@ -11,7 +11,7 @@ use Rattle.vg_compile.proofs.compiling.compile.Goals as goal
 pub returns : goal.returns
 returns c =
     IfOk-weaker c.compile_units.result _ _
-    (λ p is. compiled-by (map entry_of c.entries.result.now) (entries_in c.args.catalog.now) (bits_in c.args.allowed) (tree_of c.args.kernel.now)
+    (λ p is. compiled-by (map entry_of c.entries.result.now) (entries_in c.args.catalog.now) (bits_in c.args.allowed) (tree_of c.args.kernel.now) c.args.width
     c.in_ok-ssa.ssa (map description_of c.in_ok-descriptions.descriptions.items) (map description_of c.as_slice.result.now) p
     c.entries.ensures.entries (ap (map description_of) c.as_slice.ensures.value) c.in_ok-ssa.ensures.exact c.in_ok-ssa.ensures.stands_for c.in_ok-ssa.ensures.sound
     c.in_ok-descriptions.ensures.is c.in_ok-descriptions.ensures.are_of c.requires.proper is)

@@ -1,29 +1,29 @@
 use Rattle.std.proofs.Common.{map}
 use Rattle.std.proofs.lemmas.Result.{IfOk-weaker}
 use Rattle.vg_shapes.specs.Description.{description_of}
-use Rattle.vg_compile.proofs.Carried.{chosen-by, emitted-is}
+use Rattle.vg_compile.proofs.Carried.{emitted-is, picked-by}
 use Rattle.vg_compile.proofs.Near.{matches-near}
-use Rattle.vg_compile.proofs.Ordered.{known, plain_short}
+use Rattle.vg_compile.proofs.Ordered.{known, short_packs}
 use Rattle.vg_compile.proofs.units.compile_units.Goals as goal
 
-pub cheaper_plan-requires-clause-near : goal.cheaper_plan-requires-clause-near
-cheaper_plan-requires-clause-near c =
+pub choose-requires-clause-near : goal.choose-requires-clause-near
+choose-requires-clause-near c =
     let ds = map description_of c.args.descriptions.now in
     matches-near ds c.in_ok-table.table c.args.ssa.now
     (known ds c.in_ok-table.table c.args.ssa.now c.requires.sound c.requires.callable c.in_ok-table.ensures.matches)
 
-pub cheaper_plan-requires-clause-short : goal.cheaper_plan-requires-clause-short
-cheaper_plan-requires-clause-short c =
+pub choose-requires-clause-short : goal.choose-requires-clause-short
+choose-requires-clause-short c =
     let ds = map description_of c.args.descriptions.now in
-    plain_short ds c.in_ok-table.table c.args.ssa.now c.in_ok-deps.deps
+    short_packs ds c.in_ok-table.table c.args.ssa.now c.in_ok-deps.deps
     (known ds c.in_ok-table.table c.args.ssa.now c.requires.sound c.requires.callable c.in_ok-table.ensures.matches)
 
 pub returns : goal.returns
 returns c =
     let ds = map description_of c.args.descriptions.now in
     let all = known ds c.in_ok-table.table c.args.ssa.now c.requires.sound c.requires.callable c.in_ok-table.ensures.matches in
-    let chosen = chosen-by ds c.in_ok-table.table c.args.ssa.now c.in_ok-deps.deps c.in_ok-plan.plan c.in_ok-deps.ensures.exact
-    c.in_ok-plan.ensures.plan c.in_ok-plan.ensures.scalar c.in_ok-plan.ensures.plain in
+    let picked = picked-by ds c.in_ok-table.table c.args.ssa.now c.in_ok-deps.deps c.args.width c.in_ok-plan.plan c.in_ok-deps.ensures.exact
+    c.in_ok-plan.ensures.plan c.in_ok-plan.ensures.chosen in
     IfOk-weaker c.emit_plan.result _ _
-    (λ p is. emitted-is ds c.in_ok-table.table c.args.ssa.now c.in_ok-plan.plan p all c.in_ok-table.ensures.order chosen is)
+    (λ p is. emitted-is ds c.in_ok-table.table c.args.ssa.now c.args.width c.in_ok-plan.plan p all c.in_ok-table.ensures.order picked is)
     c.emit_plan.ensures

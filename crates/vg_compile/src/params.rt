@@ -26,8 +26,8 @@ fn param_of(alloc: Global, param: &KParam) -> Result<Param, AllocError>
     })
 }
 
-/// The parameters as a program writes them.
-pub(crate) fn params_of(alloc: Global, params: &[KParam]) -> Result<Vec<Param>, AllocError>
+/// The parameters of a kernel as programs write them.
+pub fn params_of(alloc: Global, params: &[KParam]) -> Result<Vec<Param>, AllocError>
     ensures { IfOk result (λ ps. ps.items ≡ map param_of params.now) }
 {
     let mut all = Vec::new(alloc);

@@ -1,0 +1,110 @@
+//! The plan of a kernel.
+
+ghost use Rattle.std.specs.Prelude.{◌≡◌, IfOk, map};
+ghost use Rattle.std.specs.List.{AllByRecursion};
+ghost use Rattle.vg_catalog.specs.Catalogs.{entries_in};
+ghost use Rattle.vg_catalog.specs.Extensions.{bits_in};
+ghost use Rattle.vg_catalog.specs.Written.{AllWritten};
+ghost use Rattle.vg_compile.specs.Planned.{IsPlanOf, IsPlanned};
+ghost use Rattle.vg_emission.specs.Truth.{IsCallable};
+ghost use Rattle.vg_instances.specs.Descriptions.{descriptions};
+ghost use Rattle.vg_instances.specs.Proper.{AreProper};
+ghost use Rattle.vg_kernel.specs.Cost.{scalar_cost};
+ghost use Rattle.vg_kernel.specs.Tree.{tree_of};
+ghost use Rattle.vg_kernel.specs.WellFormed.{IsWellFormed};
+ghost use Rattle.vg_listing.specs.Listed.{HaveLanes};
+ghost use Rattle.vg_shapes.specs.Description.{description_of};
+ghost use Rattle.vg_shapes.specs.Sound.{IsSound};
+
+use std::alloc::{AllocError, Global};
+use vg_beam::choose;
+use vg_catalog::{Catalog, Extensions};
+use vg_cost::plan_cost;
+use vg_deps::depends;
+use vg_instances::descriptions_of;
+use vg_kernel::{Kernel, scalar_cost};
+use vg_match::build;
+use vg_packs::plain_plan;
+use vg_shapes::{Description, Plan, Ssa};
+use vg_ssa::number_values;
+
+/// A plan of numbered values, with what it and the plain plan cost.
+#[derive(Drop)]
+pub(crate) struct Planned {
+    pub(crate) plan: Plan,
+    pub(crate) cost: u64,
+    pub(crate) plain: u64,
+}
+
+/// The chosen plan of numbered values, where the search keeps `width` plans of each size.
+pub(crate) fn plan_units(
+    alloc: Global,
+    descriptions: &[Description],
+    ssa: &Ssa,
+    width: u32,
+) -> Result<Planned, AllocError>
+    requires sound { IsSound ssa.now }
+    requires callable { AllByRecursion IsCallable (map description_of descriptions.now) }
+    ensures { IfOk result (λ p. IsPlanned (map description_of descriptions.now) ssa.now width
+        p.plan p.cost p.plain) }
+{
+    let table = build(alloc, descriptions, ssa)?;
+    let deps = depends(alloc, ssa)?;
+    let plan = choose(alloc, descriptions, &table, ssa, &deps, width)?;
+    let packs = plain_plan(alloc, descriptions, &table, ssa, &deps)?;
+    let plain = Plan::from_vec(packs);
+    let cost = plan_cost(alloc, &plan, descriptions, &table, ssa)?;
+    let plain_cost = plan_cost(alloc, &plain, descriptions, &table, ssa)?;
+    Ok(Planned {
+        plan,
+        cost,
+        plain: plain_cost,
+    })
+}
+
+/// The plan of a kernel, with the descriptions by which its packs name the instances that they call.
+#[derive(Drop)]
+pub struct Chosen {
+    pub plan: Plan,
+    /// The instances of the catalogue that packs may call.
+    pub descriptions: Vec<Description>,
+    /// What the plan costs.
+    pub cost: u64,
+    /// What the plain plan costs.
+    pub plain: u64,
+    /// What the kernel costs with a line for each load, operation and store.
+    pub scalar: u32,
+}
+
+/// The chosen plan of a kernel, which may call the instructions of a catalogue whose extension is in the
+/// set; the search keeps `width` plans of each size, and kernels of more than 256 loads, operations and
+/// stores are not searched. It is the plan of the program that `compile` gives. Fails for want of memory
+/// alone.
+pub fn plan_of(
+    alloc: Global,
+    catalog: &Catalog,
+    allowed: Extensions,
+    kernel: &Kernel,
+    width: u32,
+) -> Result<Chosen, AllocError>
+    requires kernel { IsWellFormed (tree_of kernel.now) }
+    requires written { AllWritten (entries_in catalog.now) }
+    requires lanes { HaveLanes (entries_in catalog.now) }
+    requires proper { AreProper (entries_in catalog.now) }
+    ensures plan { IfOk result (λ c. IsPlanOf (entries_in catalog.now) (bits_in allowed)
+        (tree_of kernel.now) width c.plan c.cost c.plain) }
+    ensures descriptions { IfOk result (λ c. map description_of c.descriptions.items
+        ≡ descriptions (bits_in allowed) (entries_in catalog.now)) }
+    ensures scalar { IfOk result (λ c. c.scalar ≡ scalar_cost (tree_of kernel.now)) }
+{
+    let ssa = number_values(alloc, kernel)?;
+    let descriptions = descriptions_of(alloc, catalog.entries(), allowed)?;
+    let Planned { plan, cost, plain } = plan_units(alloc, descriptions.as_slice(), &ssa, width)?;
+    Ok(Chosen {
+        plan,
+        descriptions,
+        cost,
+        plain,
+        scalar: scalar_cost(kernel),
+    })
+}
