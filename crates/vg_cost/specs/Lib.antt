@@ -1,3 +1,4 @@
 pub mod Had
 pub mod Lines
 pub mod Marks
+pub mod Running
