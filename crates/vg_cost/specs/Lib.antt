@@ -2,3 +2,4 @@ pub mod Had
 pub mod Lines
 pub mod Marks
 pub mod Running
+pub mod Taken

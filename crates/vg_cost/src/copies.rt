@@ -1,9 +1,10 @@
-//! Packs a second time.
+//! Packs and operands a second time.
 
 ghost use Rattle.std.specs.Prelude.{◌≡◌, ◌++◌, ◌∷◌, [], IfOk, take};
 
 use std::alloc::{AllocError, Global};
-use vg_shapes::Pack;
+use vg_base::Items;
+use vg_shapes::{Operand, Pack};
 
 /// The same pack a second time. Fails only for want of memory.
 fn copy_pack(alloc: Global, pack: &Pack) -> Result<Pack, AllocError>
@@ -37,4 +38,15 @@ pub(crate) fn longer(alloc: Global, packs: &[Pack], pack: &Pack) -> Result<Vec<P
     let mut copies = copy_packs(alloc, packs)?;
     copies.push(copy_pack(alloc, pack)?)?;
     Ok(copies)
+}
+
+/// The same operand a second time. Fails only for want of memory.
+pub(crate) fn copy_operand(alloc: Global, operand: &Operand) -> Result<Operand, AllocError>
+    ensures { IfOk result (λ o. o ≡ operand.now) }
+{
+    let slots = operand.slots.as_slice().to_vec(alloc)?;
+    Ok(Operand {
+        register: operand.register,
+        slots: Items::from_vec(slots),
+    })
 }

@@ -10,9 +10,12 @@ mod cost;
 mod lines;
 mod marks;
 mod price;
+mod recipe_cost;
 pub mod recipes;
 mod running;
 pub mod shuffle;
+mod taken;
+mod touch;
 
 pub use cost::plan_cost;
 pub use running::Running;

@@ -1,43 +1,26 @@
 //! The cost of a plan that grows.
 
 ghost use Rattle.std.specs.Prelude.{◌≡◌, ◌++◌, ◌∷◌, [], ℕ, IfOk, List, map};
-ghost use Rattle.std.specs.List.{AllByRecursion};
 ghost use Rattle.vg_cost.specs.Running.{StandsFor};
 ghost use Rattle.vg_packing.specs.Laws.{IsPlanFor};
 ghost use Rattle.vg_packing.specs.Taken.{IsShort, MatchesNear};
 ghost use Rattle.vg_shapes.specs.Description.{description_of};
 
 use crate::copies::longer;
-use crate::cost::plan_cost;
+use crate::price::{plus, price_of};
+use crate::taken::{Taken, add_all, keep_all, whole_cost};
 use std::alloc::{AllocError, Global};
-use vg_shapes::{Description, MatchTable, Pack, Plan, Ssa};
+use vg_packing::taken::operands_of;
+use vg_shapes::{Description, MatchTable, Pack, Ssa};
 
-/// A plan and what it costs.
+/// A plan and what it costs. A longer plan's cost is found from it by looking again at the operands
+/// of which the new pack has a value.
 #[derive(Drop)]
 pub struct Running {
     packs: Vec<Pack>,
+    taken: Vec<Taken>,
+    price: u64,
     cost: u64,
-}
-
-/// The plan of these packs and what it costs.
-fn costed(
-    alloc: Global,
-    packs: Vec<Pack>,
-    descriptions: &[Description],
-    table: &MatchTable,
-    ssa: &Ssa,
-) -> Result<Running, AllocError>
-    requires near { MatchesNear table.now }
-    requires short { AllByRecursion IsShort packs.items }
-    ensures packs { IfOk result (λ r. r.packs.items ≡ packs.items) }
-    ensures stands { IfOk result (StandsFor (map description_of descriptions.now) table.now ssa.now) }
-{
-    let plan = Plan::from_vec(packs);
-    let cost = plan_cost(alloc, &plan, descriptions, table, ssa)?;
-    Ok(Running {
-        packs: plan.into_vec(),
-        cost,
-    })
 }
 
 impl Running {
@@ -54,7 +37,13 @@ impl Running {
         ensures stands { IfOk result (StandsFor (map description_of descriptions.now) table.now
             ssa.now) }
     {
-        costed(alloc, Vec::new(alloc), descriptions, table, ssa)
+        let cost = whole_cost(alloc, ssa, &[], &[], 0)?;
+        Ok(Running {
+            packs: Vec::new(alloc),
+            taken: Vec::new(alloc),
+            price: 0,
+            cost,
+        })
     }
 
     /// The plan with a pack behind it. Fails for want of memory, and where the cost has too many
@@ -77,7 +66,25 @@ impl Running {
             ssa.now) }
     {
         let packs = longer(alloc, self.packs.as_slice(), pack)?;
-        costed(alloc, packs, descriptions, table, ssa)
+        let old = self.taken.as_slice();
+        let mut taken = keep_all(alloc, descriptions, ssa, packs.as_slice(), pack, old)?;
+        let operands = operands_of(alloc, descriptions, table, ssa, pack)?;
+        add_all(
+            alloc,
+            &mut taken,
+            descriptions,
+            ssa,
+            packs.as_slice(),
+            operands,
+        )?;
+        let price = plus(self.price, price_of(descriptions, pack))?;
+        let cost = whole_cost(alloc, ssa, packs.as_slice(), taken.as_slice(), price)?;
+        Ok(Running {
+            packs,
+            taken,
+            price,
+            cost,
+        })
     }
 
     /// What the plan costs.
