@@ -1,7 +1,10 @@
+pub mod Growing
 pub mod Had
+pub mod Known
 pub mod LaneTrees
 pub mod LineSteps
 pub mod Marking
+pub mod Own
 pub mod Steps
 pub mod Sums
 pub mod Zero

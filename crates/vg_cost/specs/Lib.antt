@@ -1,3 +1,5 @@
 pub mod Had
 pub mod Lines
 pub mod Marks
+pub mod Running
+pub mod Taken

@@ -5,11 +5,17 @@
 //! The cost of a plan is that of `vg_plans` over the packs of a kernel of `vg_packing`.
 #![tactic(auto)]
 
+mod copies;
 mod cost;
 mod lines;
 mod marks;
 mod price;
+mod recipe_cost;
 pub mod recipes;
+mod running;
 pub mod shuffle;
+mod taken;
+mod touch;
 
 pub use cost::plan_cost;
+pub use running::Running;

@@ -18,7 +18,7 @@ pub(crate) fn plus(a: u64, b: u64) -> Result<u64, AllocError>
 }
 
 /// What the line of a pack costs.
-fn price_of(descriptions: &[Description], pack: &Pack) -> u64
+pub(crate) fn price_of(descriptions: &[Description], pack: &Pack) -> u64
     ensures { result ≡ price_of (map description_of descriptions.now) pack.now }
 {
     match pack {

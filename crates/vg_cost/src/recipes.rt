@@ -65,7 +65,7 @@ fn push_had(
 }
 
 /// What the shuffles that make an operand and can be had cost.
-fn costs_had(
+pub(crate) fn costs_had(
     alloc: Global,
     descriptions: &[Description],
     ssa: &Ssa,
@@ -91,7 +91,7 @@ fn costs_had(
 }
 
 /// The least of costs, and at most this one.
-fn least_of(costs: &[u32], cost: u64) -> u64
+pub(crate) fn least_of(costs: &[u32], cost: u64) -> u64
     ensures { result ≡ least_of cost costs.now }
 {
     let mut least = cost;

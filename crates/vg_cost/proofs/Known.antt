@@ -1,0 +1,58 @@
+-- What is known of recipes, by the shuffles that can be had.
+use Rattle.std.proofs.Common.{◌≡◌, ℕ, ◌+◌, ◌<◌, ◌≤◌, Bool, true, false, List, [], ◌∷◌, ◌++◌, length, refl, sym, ◌∙◌, ap, arith, inl, inr}
+use Rattle.std.specs.Prelude.{◌&&◌, nat_eq, nat_lt, if◌then◌else◌}
+use Rattle.std.proofs.lemmas.Bool.{cases_Bool}
+use Rattle.std.proofs.lemmas.Bool.Decides.{nat_tests}
+use Rattle.vg_plans.specs.World.{inserted, is_reused, recipe_cost}
+use Rattle.vg_shapes.specs.declared.operand.Operand.{Operand}
+use Rattle.vg_shapes.specs.declared.pack.Pack.{Pack as Packed}
+use Rattle.vg_shapes.specs.declared.ssa.Ssa.{Ssa}
+use Rattle.vg_shapes.specs.Description.{Description}
+use Rattle.vg_packing.specs.Packing.{packing}
+use Rattle.vg_packing.specs.Shuffles.{shuffles}
+use Rattle.vg_packing.specs.Wants.{is_constant, wanted_values}
+use Rattle.vg_cost.specs.declared.recipe_cost.RecipeCost.{RecipeCost}
+use Rattle.vg_cost.specs.Had.{costs_had, least_of}
+use Rattle.vg_cost.specs.Taken.{recipe_for}
+use Rattle.vg_cost.proofs.Had.{all_more, cost_had, none_more}
+
+abbrev of_two : ℕ → Bool → RecipeCost
+of_two lines flag = record { lines = lines; is_inserted = flag }
+
+same-cost : {a b : ℕ} {c d : Bool} → a ≡ b → c ≡ d → of_two a c ≡ of_two b d
+same-cost {a} {b} {c} {d} p q = ap (λ x. of_two x c) p ∙ ap (λ y. of_two b y) q
+
+and-true : (b : Bool) → (b && true) ≡ b
+and-true true = refl
+and-true false = refl
+
+and-false : (b : Bool) → (b && false) ≡ false
+and-false true = refl
+and-false false = refl
+
+module _ (ds : List Description) (ssa : Ssa) (plan : List Packed) (o : Operand)
+    (free : is_reused (packing ds [] ssa []) plan o ≡ false) (some : is_constant o ≡ false)
+    (costs : List ℕ) (e : costs ≡ costs_had ds ssa plan (shuffles ds o)) where
+  inserts-them : (nat_lt 0 (length (wanted_values o)) && nat_eq (length costs) 0)
+      ≡ nat_lt 0 (length (inserted (packing ds [] ssa []) plan o))
+  inserts-them = elim (cases_Bool (nat_eq (length costs) 0)) [
+    | inl t ↦
+        let none : length costs ≤ 0 = grind (arith, nat_tests, t) in
+        ap (λ b. nat_lt 0 (length (wanted_values o)) && b) t ∙ and-true (nat_lt 0 (length (wanted_values o)))
+        ∙ ap (λ l. nat_lt 0 (length l)) (all_more ds ssa plan o free some costs e none)
+    | inr f ↦
+        let any : 0 < length costs = grind (arith, nat_tests, f) in
+        ap (λ b. nat_lt 0 (length (wanted_values o)) && b) f ∙ and-false (nat_lt 0 (length (wanted_values o)))
+        ∙ ap (λ l. nat_lt 0 (length l)) (none_more ds ssa plan o free some costs [] e any)
+  ]
+
+  pub made : (inserts lines values : ℕ) (flag : Bool) → inserts ≡ 1 + length (wanted_values o)
+      → values ≡ length (wanted_values o) → lines ≡ least_of inserts costs
+      → flag ≡ (nat_lt 0 values && nat_eq (length costs) 0)
+      → of_two lines flag ≡ recipe_for ds ssa plan o
+  made inserts lines values flag i v l f =
+      let cost : lines ≡ recipe_cost (packing ds [] ssa []) plan o = l ∙ cost_had ds ssa plan o free some inserts costs i e in
+      let there : flag ≡ nat_lt 0 (length (inserted (packing ds [] ssa []) plan o)) =
+      f ∙ ap (λ n. nat_lt 0 n && nat_eq (length costs) 0) v ∙ inserts-them
+      in
+      same-cost cost there

@@ -1,0 +1,13 @@
+use Rattle.std.proofs.Common.{map, subst, sym, refl, []}
+use Rattle.std.specs.List.{AllByRecursion}
+use Rattle.vg_packing.specs.Taken.{IsShort}
+use Rattle.vg_shapes.specs.Description.{description_of}
+use Rattle.vg_cost.specs.Running.{StandsFor}
+use Rattle.vg_cost.proofs.Growing.{stands-empty}
+use Rattle.vg_cost.proofs.running.Running.new.Goals as goal
+
+pub returns-clause-stands : goal.returns-clause-stands
+returns-clause-stands c =
+    stands-empty (map description_of c.args.descriptions.now) c.args.table.now c.args.ssa.now
+    record { packs = c.new.result; taken = c.new-2.result; price = 0; cost = c.in_ok-cost.cost }
+    c.new.ensures.items c.new-2.ensures.items refl c.in_ok-cost.ensures

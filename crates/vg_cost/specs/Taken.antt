@@ -1,0 +1,54 @@
+-- What is known of the operands that the packs of a plan take.
+use Rattle.std.specs.Prelude.{◌≡◌, ℕ, Bool, true, false, List, [], ◌∷◌, ◌++◌, length, nat_lt, if◌then◌else◌}
+use Rattle.std.specs.List.{list_any}
+use Rattle.vg_plans.specs.World.{inserted, is_in, recipe_cost}
+use Rattle.vg_shapes.specs.declared.operand.Operand.{Operand}
+use Rattle.vg_shapes.specs.declared.pack.Pack.{Pack as Packed}
+use Rattle.vg_shapes.specs.declared.ssa.Ssa.{Ssa}
+use Rattle.vg_shapes.specs.declared.wanted.Wanted.{Wanted}
+use Rattle.vg_shapes.specs.declared.wanted.Wanted.TheVariants.{Value, Constant, Nothing}
+use Rattle.vg_shapes.specs.Description.{Description}
+use Rattle.vg_shapes.specs.Pack.{units_of}
+use Rattle.vg_packing.specs.Packing.{packing}
+use Rattle.vg_packing.specs.SameAs.{same_operand}
+use Rattle.vg_packing.specs.Wants.{wanted_values}
+use Rattle.vg_cost.specs.declared.recipe_cost.RecipeCost.{RecipeCost}
+use Rattle.vg_cost.specs.declared.taken.Taken.{Taken}
+
+-- what the recipe of an operand costs, and whether it inserts values
+abbrev pub recipe_for : List Description → Ssa → List Packed → Operand → RecipeCost
+recipe_for ds ssa plan o = record {
+  lines = recipe_cost (packing ds [] ssa []) plan o;
+  is_inserted = nat_lt 0 (length (inserted (packing ds [] ssa []) plan o));
+}
+
+abbrev pub taken_for : List Description → Ssa → List Packed → Operand → Taken
+taken_for ds ssa plan o = record { operand = o; recipe = recipe_for ds ssa plan o }
+
+-- the values that the inserts of an operand take, by what is known of it
+abbrev pub inserted_for : Taken → List ℕ
+inserted_for t = if t.recipe.is_inserted then wanted_values t.operand else []
+
+-- a value that is wanted is a unit of the pack
+abbrev pub is_one_of : Packed → Wanted → Bool
+is_one_of p (Value v) = is_in v (units_of p)
+is_one_of p (Constant w n) = false
+is_one_of p Nothing = false
+
+-- the pack has one of the operand's values
+abbrev pub is_touched : Packed → Operand → Bool
+is_touched p o = list_any (λ s. is_one_of p s.wanted) o.slots
+
+-- what is known of an operand is so for the plan, unless the pack has one of the operand's values
+abbrev pub IsKnownBut : List Description → Ssa → List Packed → Packed → Taken → Type 0
+IsKnownBut ds ssa plan p t =
+    is_touched p t.operand ≡ false → t.recipe ≡ recipe_for ds ssa plan t.operand
+
+-- an operand more, if it is not there
+abbrev pub add_taken : (Operand → Taken) → List Taken → Operand → List Taken
+add_taken know ts o =
+    if list_any (λ t. same_operand o t.operand) ts then ts else ts ++ know o ∷ []
+
+abbrev pub add_all : (Operand → Taken) → List Taken → List Operand → List Taken
+add_all know ts [] = ts
+add_all know ts (o ∷ os) = add_all know (add_taken know ts o) os

@@ -1,0 +1,52 @@
+//! Packs and operands a second time.
+
+ghost use Rattle.std.specs.Prelude.{◌≡◌, ◌++◌, ◌∷◌, [], IfOk, take};
+
+use std::alloc::{AllocError, Global};
+use vg_base::Items;
+use vg_shapes::{Operand, Pack};
+
+/// The same pack a second time. Fails only for want of memory.
+fn copy_pack(alloc: Global, pack: &Pack) -> Result<Pack, AllocError>
+    ensures { IfOk result (λ p. p ≡ pack.now) }
+{
+    match pack {
+        Pack::Stores(units) => Ok(Pack::Stores(units.copy(alloc)?)),
+        Pack::Loads(units) => Ok(Pack::Loads(units.copy(alloc)?)),
+        Pack::Call { description, lanes } => Ok(Pack::Call {
+            description: *description,
+            lanes: lanes.copy(alloc)?,
+        }),
+    }
+}
+
+/// The same packs a second time. Fails only for want of memory.
+fn copy_packs(alloc: Global, packs: &[Pack]) -> Result<Vec<Pack>, AllocError>
+    ensures { IfOk result (λ copies. copies.items ≡ packs.now) }
+{
+    let mut copies = Vec::new(alloc);
+    'packs: for pack in packs {
+        copies.push(copy_pack(alloc, pack)?)?;
+    }
+    Ok(copies)
+}
+
+/// The same packs a second time, with one behind them. Fails only for want of memory.
+pub(crate) fn longer(alloc: Global, packs: &[Pack], pack: &Pack) -> Result<Vec<Pack>, AllocError>
+    ensures { IfOk result (λ copies. copies.items ≡ packs.now ++ pack.now ∷ []) }
+{
+    let mut copies = copy_packs(alloc, packs)?;
+    copies.push(copy_pack(alloc, pack)?)?;
+    Ok(copies)
+}
+
+/// The same operand a second time. Fails only for want of memory.
+pub(crate) fn copy_operand(alloc: Global, operand: &Operand) -> Result<Operand, AllocError>
+    ensures { IfOk result (λ o. o ≡ operand.now) }
+{
+    let slots = operand.slots.as_slice().to_vec(alloc)?;
+    Ok(Operand {
+        register: operand.register,
+        slots: Items::from_vec(slots),
+    })
+}
