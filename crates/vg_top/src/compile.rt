@@ -45,7 +45,7 @@ fn program_text(alloc: Global, catalog: &Catalog, text: &[u8]) -> Result<Vec<u8>
         Ok(kernel) => kernel,
         Err(ending) => return Err(ending),
     };
-    match vg_compile::compile(alloc, catalog, all_extensions(), &kernel) {
+    match vg_compile::compile(alloc, catalog, all_extensions(), &kernel, 32) {
         Ok(program) => match print_program(alloc, &program) {
             Ok(bytes) => Ok(bytes),
             Err(_) => Err(Ending::Memory),

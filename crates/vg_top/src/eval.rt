@@ -13,7 +13,7 @@ use crate::binding::{bind, bindings_of};
 use crate::ending::{Ending, FileNumber};
 use crate::files::{KERNEL_LIMIT, MEMORY_LIMIT, fetch};
 use crate::kernel_file::kernel_of_text;
-use crate::params::params_of;
+use vg_compile::params_of;
 use std::alloc::Global;
 use vg_kernel::Kernel;
 use vg_keval::{KState, Outcome, run_kernel};

@@ -11,7 +11,6 @@ pub mod instruction_file;
 pub mod kernel_file;
 pub mod lift;
 pub mod message;
-mod params;
 pub mod request;
 pub mod run;
 pub mod status;
