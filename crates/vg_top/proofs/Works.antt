@@ -7,7 +7,7 @@ use Rattle.vg_top.specs.declared.ending.FileNumber.{FileNumber}
 use Rattle.vg_top.specs.declared.ending.Ending.{Ending}
 use Rattle.vg_top.specs.declared.ending.Ending.TheVariants.{Usage, Instructions, Kernel, Program, Absent, ReadFault, TooLarge, Bindings, Trap, WriteFault, Memory}
 use Rattle.vg_top.specs.Causes.{MayStop, reads_instructions, reads_kernel, reads_program, runs}
-use Rattle.vg_top.specs.Request.{Asked, files_of}
+use Rattle.vg_request.specs.Request.{Asked, files_of}
 use Rattle.vg_top.specs.Works.{GrewBy, IsReadCount, CountsAbsence, CountsFault, Works, ReadsFile, IsOfFile, IsOfInstructions, IsOfKernel, IsOfProgram, IsOfRun, ending_of}
 
 one_more : (n : ℕ) (before middle now : Option ℕ) → n ≤ 9 → GrewBy n before middle → CountsRead middle now → GrewBy (n + 1) before now

@@ -5,34 +5,38 @@ use Rattle.vg_top.specs.declared.ending.Ending.TheVariants.{Usage, WriteFault}
 use Rattle.vg_top.specs.declared.status.Status.{Status}
 use Rattle.vg_top.specs.declared.status.Status.TheVariants as status
 use Rattle.vg_top.specs.Ending.{status_of}
-use Rattle.vg_top.specs.Request.{Asked, compile, run, eval, lift}
+use Rattle.vg_request.specs.Request.{Asked, compile, run, eval, lift, explain}
 
 -- the commands that read a file of instructions
 abbrev pub reads_instructions : Asked → Bool
-reads_instructions (compile instructions kernel) = true
+reads_instructions (compile instructions kernel choices) = true
 reads_instructions (run instructions program memory bindings) = true
 reads_instructions (eval kernel memory bindings) = false
+reads_instructions (explain instructions kernel choices) = true
 reads_instructions (lift instructions) = true
 
 -- the commands that read a kernel
 abbrev pub reads_kernel : Asked → Bool
-reads_kernel (compile instructions kernel) = true
+reads_kernel (compile instructions kernel choices) = true
 reads_kernel (run instructions program memory bindings) = false
 reads_kernel (eval kernel memory bindings) = true
+reads_kernel (explain instructions kernel choices) = true
 reads_kernel (lift instructions) = false
 
 -- the commands that read a program
 abbrev pub reads_program : Asked → Bool
-reads_program (compile instructions kernel) = false
+reads_program (compile instructions kernel choices) = false
 reads_program (run instructions program memory bindings) = true
 reads_program (eval kernel memory bindings) = false
+reads_program (explain instructions kernel choices) = false
 reads_program (lift instructions) = false
 
 -- the commands that bind parameters and run something on a memory
 abbrev pub runs : Asked → Bool
-runs (compile instructions kernel) = false
+runs (compile instructions kernel choices) = false
 runs (run instructions program memory bindings) = true
 runs (eval kernel memory bindings) = true
+runs (explain instructions kernel choices) = false
 runs (lift instructions) = false
 
 -- A request may end so: its instructions, its kernel, its program are refused only where it reads

@@ -8,7 +8,8 @@ use Rattle.vg_kernel.specs.Statements.{kernel_of}
 use Rattle.vg_kernel.specs.Tree.{Tree}
 use Rattle.vg_top.specs.declared.ending.Ending.{Ending}
 use Rattle.vg_top.specs.declared.ending.Ending.TheVariants.{Bindings}
-use Rattle.vg_top.specs.Binding.{Binding, InputLists, inputs_of}
+use Rattle.vg_request.specs.Binding.{Binding}
+use Rattle.vg_top.specs.Inputs.{InputLists, inputs_of}
 use Rattle.vg_compile.specs.Means.{param_of}
 use Rattle.vg_top.specs.Files.{first_file, second_file, kernel_limit, memory_limit, file_of}
 use Rattle.vg_top.specs.KernelFile.{kernel_or_refusal}

@@ -16,7 +16,8 @@ use Rattle.vg_top.specs.declared.ending.Ending.TheVariants.{Program as ProgramRe
 use Rattle.vg_top.specs.Files.{first_file, second_file, third_file, instructions_limit, program_limit, memory_limit, file_of}
 use Rattle.vg_catalog.specs.Files.{file_of as entries_of}
 use Rattle.vg_top.specs.InstructionFile.{entries_or_refusal}
-use Rattle.vg_top.specs.Binding.{Binding, InputLists, inputs_of}
+use Rattle.vg_request.specs.Binding.{Binding}
+use Rattle.vg_top.specs.Inputs.{InputLists, inputs_of}
 
 -- a fault of the program file, which has this number
 abbrev pub program_or_refusal : FileNumber → Result Program ProgramFault → Result Program Ending

@@ -8,30 +8,35 @@ use Rattle.vg_top.specs.declared.ending.Ending.TheVariants.{Usage}
 use Rattle.vg_top.specs.declared.status.Status.{Status}
 use Rattle.vg_top.specs.declared.status.Status.TheVariants as status
 use Rattle.vg_top.specs.Ending.{status_of}
-use Rattle.vg_top.specs.Request.{Asked, compile, run, eval, lift, request_of}
-use Rattle.vg_top.specs.Compile.{compiled}
+use Rattle.vg_request.specs.Request.{Asked, compile, run, eval, lift, explain, request_of}
+use Rattle.vg_top.specs.OnKernel.{source_told}
 use Rattle.vg_top.specs.Eval.{evaluated}
 use Rattle.vg_top.specs.Lift.{listed}
 use Rattle.vg_top.specs.Run.{ran}
-use Rattle.vg_top.specs.Answer.{Source, Answer}
+use Rattle.vg_top.specs.Answer.{Source, Answer, Explanation}
 use Rattle.vg_top.specs.Files.{Tells}
 use Rattle.vg_top.specs.Line.{line_of}
 
 -- what is to be written
 pub data Outcome : Type 0 where
   program_for : Source → Outcome
+  plan_for : Source → Outcome
   memory_left : List ℕ → Outcome
   listing : List ℕ → Outcome
 
--- the text of a program that means the kernel, or the memory, or the lines on instances
+-- the text of a program that means the kernel, the lines on its plan, the memory, or the lines on
+-- instances
 abbrev pub IsAnswer : Outcome → List ℕ → Type 0
 IsAnswer (program_for s) bytes = Answer s bytes
+IsAnswer (plan_for s) bytes = Explanation s bytes
 IsAnswer (memory_left memory) bytes = bytes ≡ memory
 IsAnswer (listing lines) bytes = bytes ≡ lines
 
 abbrev pub outcome_of : Held → Asked → Result Outcome Ending
-outcome_of held (compile instructions kernel) =
-    compiled held instructions kernel >>= λ s. Ok (program_for s)
+outcome_of held (compile instructions kernel choices) =
+    source_told held instructions kernel choices >>= λ s. Ok (program_for s)
+outcome_of held (explain instructions kernel choices) =
+    source_told held instructions kernel choices >>= λ s. Ok (plan_for s)
 outcome_of held (run instructions program memory bindings) =
     ran held instructions program memory bindings >>= λ left. Ok (memory_left left)
 outcome_of held (eval kernel memory bindings) =

@@ -8,7 +8,7 @@ use Rattle.vg_top.specs.declared.ending.FileNumber.{FileNumber}
 use Rattle.vg_top.specs.declared.ending.Ending.{Ending}
 use Rattle.vg_top.specs.declared.ending.Ending.TheVariants.{Usage, Instructions, Kernel, Program, Absent, ReadFault, TooLarge, Bindings, Trap, WriteFault, Memory}
 use Rattle.vg_top.specs.Causes.{MayStop}
-use Rattle.vg_top.specs.Request.{Asked, files_in}
+use Rattle.vg_request.specs.Request.{Asked, files_in}
 
 -- where told and far below its last value, the number of reads is so many more
 abbrev pub GrewBy : ℕ → Option ℕ → Option ℕ → Type 0

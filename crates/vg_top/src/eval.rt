@@ -3,21 +3,22 @@
 ghost use Rattle.std.specs.Prelude.{Some, IfSome, IfErr};
 ghost use Rattle.vg_kernel.specs.Tree.{tree_of};
 ghost use Rattle.vg_top.specs.Files.{Tells};
-ghost use Rattle.vg_top.specs.Request.{eval as eval_asked};
+ghost use Rattle.vg_request.specs.Request.{eval as eval_asked};
 ghost use Rattle.vg_top.specs.Works.{Works, IsOfRun, ending_of};
-ghost use Rattle.vg_top.specs.Binding.{bindings_in};
+ghost use Rattle.vg_request.specs.Binding.{bindings_in};
 ghost use Rattle.vg_top.specs.Eval.{evaluated, evaluated_on};
 ghost use Rattle.vg_top.specs.Run.{AreLeft};
 
-use crate::binding::{bind, bindings_of};
 use crate::ending::{Ending, FileNumber};
 use crate::files::{KERNEL_LIMIT, MEMORY_LIMIT, fetch};
+use crate::inputs::bind;
 use crate::kernel_file::kernel_of_text;
-use vg_compile::params_of;
 use std::alloc::Global;
+use vg_compile::params_of;
 use vg_kernel::Kernel;
 use vg_keval::{KState, Outcome, run_kernel};
 use vg_outside::{Bytes, Shelf};
+use vg_request::binding::bindings_of;
 
 /// What a kernel leaves of a memory, its parameters bound by the words.
 fn evaluate_on(

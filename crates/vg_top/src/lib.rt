@@ -2,16 +2,15 @@
 //! written and the status.
 #![tactic(auto)]
 
-pub mod binding;
-pub mod compile;
 pub mod ending;
 pub mod eval;
 pub mod files;
+pub mod inputs;
 pub mod instruction_file;
 pub mod kernel_file;
 pub mod lift;
 pub mod message;
-pub mod request;
+pub mod on_kernel;
 pub mod run;
 pub mod status;
 pub mod top;

@@ -5,7 +5,7 @@ ghost use Rattle.vg_catalog.specs.Files.{file_of};
 ghost use Rattle.vg_top.specs.Files.{first_file, Tells};
 ghost use Rattle.vg_top.specs.InstructionFile.{entries_or_refusal};
 ghost use Rattle.vg_top.specs.Lift.{AreLines, lines_of, listed};
-ghost use Rattle.vg_top.specs.Request.{lift as lift_asked};
+ghost use Rattle.vg_request.specs.Request.{lift as lift_asked};
 ghost use Rattle.vg_top.specs.Works.{Works, IsOfInstructions, ending_of};
 
 use crate::ending::{Ending, FileNumber};

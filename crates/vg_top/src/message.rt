@@ -3,16 +3,16 @@
 ghost use Rattle.std.specs.Prelude.{◌≡◌, ◌++◌, ◌∷◌, [], option_map};
 ghost use Rattle.std.specs.Fmt.{decimal};
 ghost use Rattle.vg_program.specs.Faults.{place_of_fault};
-ghost use Rattle.vg_top.specs.Request.{files_in, asked_of};
+ghost use Rattle.vg_request.specs.Request.{files_in, asked_of};
 ghost use Rattle.vg_top.specs.Line.{file_name, place_text, costs_text, instructions_refusal, kernel_refusal, program_refusal, head_of, tail_of, line_of, Writes, Says};
 
 use crate::ending::{Ending, FileNumber};
-use crate::request::Request;
 use itoa::Buffer;
 use vg_catalog::CatalogFault;
 use vg_kernel::KernelFault;
 use vg_outside::{Sink, SinkFault};
 use vg_program::ProgramFault;
+use vg_request::Request;
 use vg_text::Place;
 
 /// The name of a file of a request. Words that are no request name none.
@@ -20,7 +20,7 @@ fn file_name<'a>(request: Option<Request<'a>>, number: FileNumber) -> &'a str
     ensures { result.now ≡ file_name (files_in (option_map asked_of request.entry)) number }
 {
     match request {
-        Some(request) => request.file_name(number),
+        Some(request) => request.file_name(number.0),
         None => "",
     }
 }

@@ -7,14 +7,14 @@ ghost use Rattle.vg_catalog.specs.Called.{headers_of};
 ghost use Rattle.vg_program.specs.Faults.{read};
 ghost use Rattle.vg_program.specs.Valid.{KeepsRules};
 ghost use Rattle.vg_top.specs.Files.{Tells};
-ghost use Rattle.vg_top.specs.Request.{run as run_asked};
+ghost use Rattle.vg_request.specs.Request.{run as run_asked};
 ghost use Rattle.vg_top.specs.Works.{Works, IsOfProgram, IsOfRun, ending_of};
-ghost use Rattle.vg_top.specs.Binding.{bindings_in};
+ghost use Rattle.vg_request.specs.Binding.{bindings_in};
 ghost use Rattle.vg_top.specs.Run.{ran, ran_on, program_or_refusal, AreLeft, IsProgram};
 
-use crate::binding::{bind, bindings_of};
 use crate::ending::{Ending, FileNumber};
 use crate::files::{INSTRUCTIONS_LIMIT, MEMORY_LIMIT, PROGRAM_LIMIT, fetch};
+use crate::inputs::bind;
 use crate::instruction_file::catalog_of_text;
 use std::alloc::Global;
 use vg_machine::{Machine, Outcome};
@@ -22,6 +22,7 @@ use vg_outside::{Bytes, Shelf};
 use vg_program::{Program, ProgramFault, parse_program};
 use vg_pseudo::Header;
 use vg_range::Checked;
+use vg_request::binding::bindings_of;
 
 /// The program of the text of the request's file of this number, which may call instructions of
 /// these headers.

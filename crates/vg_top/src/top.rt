@@ -4,23 +4,23 @@ ghost use Rattle.std.specs.Prelude.{◌≡◌, ◌≢◌, ◌<◌, ◌≤◌, �
 ghost use Rattle.vg_outside.specs.Count.{Rose};
 ghost use Rattle.vg_outside.specs.Sink.{Appends, AppendsFront};
 ghost use Rattle.vg_top.specs.declared.ending.Ending.{Ending};
-ghost use Rattle.vg_top.specs.Request.{request_of, files_in, asked_of};
+ghost use Rattle.vg_request.specs.Request.{request_of, files_in, asked_of};
 ghost use Rattle.vg_top.specs.Causes.{MayEnd};
 ghost use Rattle.vg_top.specs.Files.{Tells};
 ghost use Rattle.vg_top.specs.Verdict.{asked_outcome, verdict, VecAnswers, IsAnswered, status_told, status_from, line_from, EndedBy};
 ghost use Rattle.vg_top.specs.Line.{Says};
 ghost use Rattle.vg_top.specs.Works.{Works, Reads, ending_of};
 
-use crate::compile::compile;
 use crate::ending::Ending;
 use crate::eval::eval;
 use crate::lift::lift;
 use crate::message::say;
-use crate::request::{Request, request_of};
+use crate::on_kernel::{Task, on_kernel};
 use crate::run::run;
 use crate::status::Status;
 use std::alloc::Global;
 use vg_outside::{Shelf, Sink, Words};
+use vg_request::{Request, request_of};
 
 /// What is asked for, whole in memory.
 fn answer<S: Shelf>(
@@ -38,8 +38,16 @@ fn answer<S: Shelf>(
             Request::Compile {
                 instructions,
                 kernel,
+                options,
             },
-        ) => compile(alloc, shelf, instructions, kernel),
+        ) => on_kernel(alloc, shelf, Task::Program, instructions, kernel, options),
+        Some(
+            Request::Explain {
+                instructions,
+                kernel,
+                options,
+            },
+        ) => on_kernel(alloc, shelf, Task::Plan, instructions, kernel, options),
         Some(
             Request::Run {
                 instructions,
@@ -63,7 +71,10 @@ fn answer<S: Shelf>(
 /// Does what the words of a command line ask for.
 ///
 /// `compile INSTRUCTIONS KERNEL` reads the two files from `shelf` and writes the text of a program
-/// to `out`: a program that means the kernel and costs no more than it.
+/// to `out`: a program that means the kernel and costs no more than it. With `--with EXTENSION`,
+/// once or more, it calls entries of those extensions alone; `--width N` is the width of the search.
+/// `explain INSTRUCTIONS KERNEL`, with the same options, writes the lines on the packs of that program and
+/// on what its plan, the plain plan and the kernel cost.
 /// `run INSTRUCTIONS PROGRAM MEMORY name=number ..` writes the memory that the program leaves of the
 /// one in the file, with its parameters bound by the words, and `eval KERNEL MEMORY name=number ..`
 /// the memory that the kernel leaves. `lift INSTRUCTIONS` writes lines on each instance of the

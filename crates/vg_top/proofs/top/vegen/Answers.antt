@@ -11,7 +11,7 @@ use Rattle.vg_top.specs.declared.status.Status.TheVariants as status
 use Rattle.vg_top.specs.Causes.{MayEnd}
 use Rattle.vg_top.specs.Ending.{status_of}
 use Rattle.vg_top.specs.Line.{Says, line_of}
-use Rattle.vg_top.specs.Request.{Asked, asked_of, files_in, request_of}
+use Rattle.vg_request.specs.Request.{Asked, asked_of, files_in, request_of}
 use Rattle.vg_top.specs.Works.{Reads}
 use Rattle.vg_top.specs.Verdict.{asked_outcome, status_told, EndedBy, IsAnswered, Outcome, VecAnswers}
 use Rattle.vg_top.specs.Files.{Tells}

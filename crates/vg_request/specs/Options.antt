@@ -1,0 +1,85 @@
+-- What the options of a command say, and the two files beside them.
+use Rattle.std.specs.Prelude.{ℕ, ◌&&◌, List, [], ◌∷◌, Option, Some, None, ◌^◌, nat_le, bit_or, if◌then◌else◌}
+use Rattle.std.specs.Option.{option_and_then, option_map}
+use Rattle.vg_text.specs.Number.{decimal_value}
+use Rattle.vg_catalog.specs.Extensions.{extension_place, bits_in}
+use Rattle.vg_request.specs.declared.options.Options.{Options}
+use Rattle.vg_request.specs.declared.reading.OnKernel.{OnKernel}
+use Rattle.vg_request.specs.Parts.{Part, parts_of, widths_in, extensions_in, words_in}
+
+-- the width of the search, and the extensions whose entries may be called: bit i stands for the
+-- extension at place i of their list
+pub record Choices : Type 0 where
+  pub width : ℕ
+  pub allowed : ℕ
+
+-- the width where none is given
+abbrev pub usual_width : ℕ
+usual_width = 32
+
+-- the set of all ten extensions
+abbrev pub all_extensions : ℕ
+all_extensions = 1023
+
+-- the number of a width: 1 to 4096
+abbrev pub width_number : List ℕ → Option ℕ
+width_number v =
+    option_and_then (λ n. if nat_le 1 n && nat_le n 4096 then Some n else None) (decimal_value v)
+
+-- at most one width is given
+abbrev pub width_of : List (List ℕ) → Option ℕ
+width_of [] = Some usual_width
+width_of (v ∷ []) = width_number v
+width_of _ = None
+
+-- the set of the extension of this name alone
+abbrev pub extension_named : List ℕ → Option ℕ
+extension_named name = option_map (λ i. 2 ^ i) (extension_place name)
+
+-- a set with the extensions of these names
+abbrev pub with_named : ℕ → List (List ℕ) → Option ℕ
+with_named set [] = Some set
+with_named set (name ∷ names) =
+    option_and_then (λ one. with_named (bit_or set one) names) (extension_named name)
+
+-- the extensions that are named, and all where none is
+abbrev pub allowed_of : List (List ℕ) → Option ℕ
+allowed_of [] = Some all_extensions
+allowed_of (name ∷ names) = with_named 0 (name ∷ names)
+
+-- what the options say
+abbrev pub choices_of : List Part → Option Choices
+choices_of parts =
+    option_and_then (λ width.
+    option_map (λ allowed. record { width = width; allowed = allowed })
+    (allowed_of (extensions_in parts))) (width_of (widths_in parts))
+
+-- an instruction file, a kernel, and what the options say
+pub record KernelAsked : Type 0 where
+  pub instructions : List ℕ
+  pub kernel : List ℕ
+  pub choices : Choices
+
+-- the words that are left are two files
+abbrev pub two_files : Choices → List (List ℕ) → Option KernelAsked
+two_files choices (instructions ∷ kernel ∷ []) =
+    Some (record { instructions = instructions; kernel = kernel; choices = choices })
+two_files choices _ = None
+
+-- `INSTRUCTIONS KERNEL`, with options anywhere among them
+abbrev pub kernel_asked : List (List ℕ) → Option KernelAsked
+kernel_asked words =
+    option_and_then (λ parts.
+    option_and_then (λ choices. two_files choices (words_in parts))
+    (choices_of parts)) (parts_of words)
+
+-- what the code's values stand for
+abbrev pub choices_seen : Options → Choices
+choices_seen o = record { width = o.width; allowed = bits_in o.allowed }
+
+abbrev pub kernel_seen : OnKernel → KernelAsked
+kernel_seen k = record {
+  instructions = k.instructions.now;
+  kernel = k.kernel.now;
+  choices = choices_seen k.options;
+}

@@ -1,0 +1,98 @@
+-- The requests: what the words of a command line ask for.
+use Rattle.std.specs.Prelude.{ℕ, ◌-◌, List, [], ◌∷◌, Option, Some, None, codes, slice_get, unwrap_or, if◌then◌else◌}
+use Rattle.std.specs.Str.{bytes_eq}
+use Rattle.std.specs.List.{list_all}
+use Rattle.std.specs.Option.{option_and_then, option_map}
+use Rattle.vg_request.specs.declared.request.Request.{Request}
+use Rattle.vg_request.specs.declared.request.Request.TheVariants.{Compile, Run, Eval, Lift, Explain}
+use Rattle.vg_request.specs.Binding.{Binding, is_binding, bindings_in}
+use Rattle.vg_request.specs.Options.{Choices, kernel_asked, choices_seen}
+use Rattle.vg_request.specs.Word.{plain_word}
+
+-- what is asked for, each file by its name
+pub data Asked : Type 0 where
+  compile : List ℕ → List ℕ → Choices → Asked
+  run : List ℕ → List ℕ → List ℕ → List Binding → Asked
+  eval : List ℕ → List ℕ → List Binding → Asked
+  lift : List ℕ → Asked
+  explain : List ℕ → List ℕ → Choices → Asked
+
+-- the names of its files, in the order in which they are read
+abbrev pub files_of : Asked → List (List ℕ)
+files_of (compile instructions kernel choices) = instructions ∷ kernel ∷ []
+files_of (run instructions program memory bindings) = instructions ∷ program ∷ memory ∷ []
+files_of (eval kernel memory bindings) = kernel ∷ memory ∷ []
+files_of (lift instructions) = instructions ∷ []
+files_of (explain instructions kernel choices) = instructions ∷ kernel ∷ []
+
+-- words that are no request name no file
+abbrev pub files_in : Option Asked → List (List ℕ)
+files_in None = []
+files_in (Some asked) = files_of asked
+
+-- the name of a file, by its number among them, from 1
+abbrev pub file_name : List (List ℕ) → ℕ → List ℕ
+file_name files number = unwrap_or (slice_get files (number - 1)) []
+
+-- the three files of `run`, and the words that bind the parameters
+abbrev pub run_of : List ℕ → List ℕ → List ℕ → List (List ℕ) → Option Asked
+run_of a b c words =
+    if list_all is_binding words
+    then option_and_then (λ instructions.
+    option_and_then (λ program.
+    option_map (λ memory. run instructions program memory (bindings_in words))
+    (plain_word c)) (plain_word b)) (plain_word a)
+    else None
+
+-- the two files of `eval`, and the words that bind the parameters
+abbrev pub eval_of : List ℕ → List ℕ → List (List ℕ) → Option Asked
+eval_of a b words =
+    if list_all is_binding words
+    then option_and_then (λ kernel.
+    option_map (λ memory. eval kernel memory (bindings_in words))
+    (plain_word b)) (plain_word a)
+    else None
+
+-- the words behind `compile INSTRUCTIONS KERNEL`, with options anywhere among them
+abbrev pub compile_words : List (List ℕ) → Option Asked
+compile_words words =
+    option_map (λ k. compile k.instructions k.kernel k.choices) (kernel_asked words)
+
+-- the words behind `run INSTRUCTIONS PROGRAM MEMORY name=number ..`
+abbrev pub run_words : List (List ℕ) → Option Asked
+run_words (a ∷ b ∷ c ∷ words) = run_of a b c words
+run_words _ = None
+
+-- the words behind `eval KERNEL MEMORY name=number ..`
+abbrev pub eval_words : List (List ℕ) → Option Asked
+eval_words (a ∷ b ∷ words) = eval_of a b words
+eval_words _ = None
+
+-- the words behind `lift INSTRUCTIONS`
+abbrev pub lift_words : List (List ℕ) → Option Asked
+lift_words (a ∷ []) = option_map (λ instructions. lift instructions) (plain_word a)
+lift_words _ = None
+
+-- the words behind `explain INSTRUCTIONS KERNEL`, with options anywhere among them
+abbrev pub explain_words : List (List ℕ) → Option Asked
+explain_words words =
+    option_map (λ k. explain k.instructions k.kernel k.choices) (kernel_asked words)
+
+-- the command, and what stands behind it; all other words are no request
+abbrev pub request_of : List (List ℕ) → Option Asked
+request_of [] = None
+request_of (command ∷ words) =
+    if bytes_eq command (codes "compile") then compile_words words
+    else if bytes_eq command (codes "run") then run_words words
+    else if bytes_eq command (codes "eval") then eval_words words
+    else if bytes_eq command (codes "lift") then lift_words words
+    else if bytes_eq command (codes "explain") then explain_words words
+    else None
+
+-- what a request of the code asks for
+abbrev pub asked_of : Request → Asked
+asked_of (Compile a b options) = compile a.now b.now (choices_seen options)
+asked_of (Run a b c words) = run a.now b.now c.now (bindings_in words.now)
+asked_of (Eval a b words) = eval a.now b.now (bindings_in words.now)
+asked_of (Lift a) = lift a.now
+asked_of (Explain a b options) = explain a.now b.now (choices_seen options)

@@ -1,0 +1,16 @@
+//! What the words of a command line ask for.
+//!
+//! [`request_of`] reads them. `specs/Request.antt` says what they mean: the command, the options
+//! that are taken out first (`specs/Parts.antt`, `specs/Options.antt`), the files that are left,
+//! and the words that bind parameters (`specs/Binding.antt`).
+#![tactic(auto)]
+
+pub mod binding;
+pub mod options;
+mod part;
+mod reading;
+pub mod request;
+mod word;
+
+pub use options::Options;
+pub use request::{Request, request_of};

@@ -1,7 +1,0 @@
-use Rattle.std.proofs.Common.{sym, ◌∙◌, map, arith}
-use Rattle.vg_top.specs.Binding.{binding_seen}
-use Rattle.vg_top.proofs.Bindings.{value_none}
-use Rattle.vg_top.proofs.binding.values_of.Goals as goal
-
-pub returns-in-None : goal.returns-in-None
-returns-in-None c = sym (value_none (map binding_seen c.args.bindings.now) c.params.all.items c.args.pointers c.args.params.now c.params.param-index c.param-item.result (omega arith) c.param-item.is (cc) (sym c.in-None.ensures)) ∙ c.params.invariant
