@@ -1,4 +1,4 @@
-use Rattle.std.proofs.Common.{arith, refl}
+use Rattle.std.proofs.Common.{arith, refl, sym}
 use Rattle.std.proofs.lemmas.Result.{err_from_is_err_and}
 use Rattle.vg_request.specs.Options.{choices_seen}
 use Rattle.vg_top.specs.Files.{first_file, second_file}
@@ -28,7 +28,7 @@ returns-clause-shelf g c =
     let reads = kernel-read c.args.task c.args.instructions.now c.args.kernel.now (choices_seen c.args.options) in
     let one = reads_on s 0 first_file _ _ _ (omega arith) (begins s c.args.shelf.now) c.in_ok-file.ensures.shelf in
     let both = reads_on s 1 second_file _ _ _ (omega arith) one c.in_ok-text.ensures.shelf in
-    kernel_last s _ second_file _ _ _ (omega arith) two reads both c.text_of.ensures.refusal
+    kernel_last s _ second_file _ _ _ (omega arith) (sym two) reads both c.text_of.ensures.refusal
 
 pub returns-in_err-catalog-clause-shelf : goal.returns-in_err-catalog-clause-shelf
 returns-in_err-catalog-clause-shelf g c =
