@@ -2,23 +2,30 @@
 use Rattle.std.specs.Prelude.{ℕ, ◌*◌, List, [], ◌∷◌, ◌++◌, length, filter, flat_map, Option, Some, None, codes, slice_get}
 use Rattle.std.specs.Fmt.{decimal}
 use Rattle.std.specs.Option.{is_some}
+use Rattle.vg_base.specs.Trap.{◌>>=◌}
 use Rattle.vg_program.specs.declared.param.Param.{Param}
 use Rattle.vg_program.specs.Text.{address_text, imm_text}
 use Rattle.vg_shapes.specs.declared.access.Access.{Access}
 use Rattle.vg_shapes.specs.declared.pack.Pack.{Pack as Packed}
 use Rattle.vg_shapes.specs.declared.pack.Pack.TheVariants.{Stores, Loads, Call}
 use Rattle.vg_shapes.specs.declared.ssa.Ssa.{Ssa}
+use Rattle.vg_shapes.specs.declared.unit.Unit.{Unit as Work}
 use Rattle.vg_shapes.specs.Description.{Description}
 use Rattle.vg_plan_text.specs.declared.costs.Costs.{Costs}
-use Rattle.vg_shapes.specs.Layout.{access_at}
+use Rattle.vg_shapes.specs.Layout.{access_of}
+use Rattle.vg_shapes.specs.Units.{unit_at}
 
 abbrev pub newline : List ℕ
 newline = 10 ∷ []
 
+-- what a unit reads or writes, if it is there and does
+abbrev pub accessed : Option Work → Option Access
+accessed unit = unit >>= access_of
+
 -- what the first of these units reads or writes
 abbrev pub first_access : Ssa → List ℕ → Option Access
 first_access ssa [] = None
-first_access ssa (v ∷ vs) = access_at ssa v
+first_access ssa (v ∷ vs) = accessed (unit_at ssa v)
 
 -- `pack load 16 p+4`: how many bytes so many accesses as this one have, and where the first stands
 abbrev pub access_line : List Param → List ℕ → ℕ → Option Access → List ℕ

@@ -2,10 +2,8 @@
 
 ghost use Rattle.std.specs.Prelude.{◌≡◌, ◌*◌, ◌++◌, IfOk, OnOk, codes, filter, flat_map, length, map, option_map, slice_get};
 ghost use Rattle.std.specs.Option.{is_some};
-ghost use Rattle.vg_base.specs.Trap.{◌>>=◌};
 ghost use Rattle.vg_shapes.specs.Description.{description_of};
-ghost use Rattle.vg_shapes.specs.Layout.{access_of};
-ghost use Rattle.vg_plan_text.specs.PlanText.{access_line, call_line, cost_line, first_access, pack_line, plan_text};
+ghost use Rattle.vg_plan_text.specs.PlanText.{access_line, accessed, call_line, cost_line, first_access, pack_line, plan_text};
 
 use crate::costs::Costs;
 use std::alloc::{AllocError, Global};
@@ -16,7 +14,7 @@ use vg_shapes::{Access, Description, Pack, Plan, Ssa, Unit};
 
 /// What a unit reads or writes, if it is there and does.
 fn access_of(unit: Option<Unit>) -> Option<Access>
-    ensures { result ≡ unit >>= access_of }
+    ensures { result ≡ accessed unit }
 {
     match unit {
         None => None,
@@ -78,7 +76,7 @@ fn put_call(
     count: usize,
 ) -> Result<(), AllocError>
     ensures { OnOk result (to.new.items ≡ to.old.items
-        ++ call_line (option_map (λ d. description_of d.now) description) count) }
+        ++ call_line (option_map (λ d. description_of d.now) description.entry) count) }
 {
     match description {
         None => Ok(()),
