@@ -89,7 +89,7 @@ planned-is ds matches ssa width packs cost plain known ordered picked e f = reco
   matches = matches;
   table = record { matched = known.matched; ordered = ordered };
   chosen = picked.is;
-  cost = e;
-  plain = f;
+  costs = e;
+  plain_costs = f;
   optimal = optimal-cost ds matches ssa width packs cost known picked e;
 }

@@ -1,5 +1,5 @@
 -- Plans of a kernel by the list of all its dependences: their orders, and what is emitted in them.
-use Rattle.std.proofs.Common.{◌≡◌, ℕ, List, sym, subst}
+use Rattle.std.proofs.Common.{◌≡◌, ◌∙◌, ℕ, List, ap, sym, subst}
 use Rattle.std.specs.List.{AllByRecursion}
 use Rattle.vg_program.specs.declared.program.Program.{Program}
 use Rattle.vg_shapes.specs.declared.match_table.Match.{Match}
@@ -11,6 +11,7 @@ use Rattle.vg_shapes.specs.Description.{Description}
 use Rattle.vg_shapes.specs.Matches.{AreMatches}
 use Rattle.vg_shapes.specs.Nodes.{ArePacks, IsOrder}
 use Rattle.vg_shapes.specs.Sound.{IsSound}
+use Rattle.vg_packing.specs.Laws as plans
 use Rattle.vg_packing.specs.Laws.{IsPlanFor}
 use Rattle.vg_packing.specs.Packing.{plain_of}
 use Rattle.vg_packing.specs.Taken.{IsShort}
@@ -63,3 +64,10 @@ short_packs ds matches ssa deps k plan is = plan-short ds matches ssa deps plan 
 pub plain_short : (ds : List Description) (matches : List Match) (ssa : Ssa) (deps : List (ℕ × ℕ)) (plan : List Packed) → AreKnown ds matches ssa
     → plan ≡ plain_of ds matches ssa deps → AllByRecursion IsShort plan
 plain_short ds matches ssa deps plan k e = plan-short ds matches ssa deps plan k (plain_is_plan ds matches ssa deps plan e)
+
+-- what the plain plan costs, by the list of all dependences
+pub plain-cost : (ds : List Description) (matches : List Match) (ssa : Ssa) (deps : List (ℕ × ℕ)) (plan : List Packed) (cost : ℕ)
+    → deps ≡ dependences ssa → plan ≡ plain_of ds matches ssa deps → cost ≡ plans.cost_of ds matches ssa (dependences ssa) plan
+    → cost ≡ plans.cost_of ds matches ssa (dependences ssa) (plain_of ds matches ssa (dependences ssa))
+plain-cost ds matches ssa deps plan cost same is e =
+    e ∙ ap (plans.cost_of ds matches ssa (dependences ssa)) (is ∙ ap (plain_of ds matches ssa) same)

@@ -106,5 +106,5 @@ explained-by entries all set k width ssa ds xs packs costs params text same slic
       costs = costs;
       planned = subst (λ d. IsPlanned d ssa width packs costs.plan costs.plain) about planned;
       scalar = scalar;
-      text = e ∙ ap (λ ps. plan_text ps xs ssa packs costs) named ∙ ap (λ d. plan_text (map param_of k.params) d ssa packs costs) about;
+      lines = e ∙ ap (λ ps. plan_text ps xs ssa packs costs) named ∙ ap (λ d. plan_text (map param_of k.params) d ssa packs costs) about;
     }

@@ -24,8 +24,8 @@ pub record IsPlanned (ds : List Description) (ssa : Ssa) (width : ℕ) (packs : 
   pub matches : List Match
   pub table : IsTableOf ds ssa matches
   pub chosen : packs ≡ chosen_of ds matches ssa (dependences ssa) width
-  pub cost : cost ≡ plan.cost_of ds matches ssa (dependences ssa) packs
-  pub plain : plain ≡ plan.cost_of ds matches ssa (dependences ssa)
+  pub costs : cost ≡ plan.cost_of ds matches ssa (dependences ssa) packs
+  pub plain_costs : plain ≡ plan.cost_of ds matches ssa (dependences ssa)
       (plain_of ds matches ssa (dependences ssa))
   pub optimal : IsOptimalCost ds matches ssa width cost
 
@@ -42,4 +42,4 @@ pub record IsExplained (entries : List Entry) (set : ℕ) (k : Tree) (width : �
   pub costs : Costs
   pub planned : IsPlanned (descriptions set entries) ssa width packs costs.plan costs.plain
   pub scalar : costs.scalar ≡ scalar_cost k
-  pub text : text ≡ plan_text (map param_of k.params) (descriptions set entries) ssa packs costs
+  pub lines : text ≡ plan_text (map param_of k.params) (descriptions set entries) ssa packs costs

@@ -45,5 +45,12 @@ pub fn explain(
         plain: planned.plain,
         scalar: u64::from(scalar_cost(kernel)),
     };
-    print_plan(alloc, params.as_slice(), descriptions, &ssa, &planned.plan, costs)
+    print_plan(
+        alloc,
+        params.as_slice(),
+        descriptions,
+        &ssa,
+        &planned.plan,
+        costs,
+    )
 }
