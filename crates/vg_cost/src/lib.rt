@@ -9,11 +9,14 @@ mod copies;
 mod cost;
 mod lines;
 mod marks;
+mod places;
 mod price;
 mod recipe_cost;
 pub mod recipes;
 mod running;
+mod scan;
 pub mod shuffle;
+mod shuffles;
 mod taken;
 mod touch;
 
