@@ -26,8 +26,8 @@ pub struct Running {
 }
 
 impl Running {
-    /// The plan of no packs. Fails for want of memory, and where the cost or a unit's number has too
-    /// many bits to be counted.
+    /// The plan of no packs. Fails for want of memory, and where the cost or a unit's number has
+    /// too many bits to be counted.
     pub fn new(
         alloc: Global,
         descriptions: &[Description],
@@ -62,7 +62,8 @@ impl Running {
     ) -> Result<Running, AllocError>
         requires near { MatchesNear table.now }
         requires short { IsShort pack.now }
-        requires stands { StandsFor (map description_of descriptions.now) table.now ssa.now self.now }
+        requires stands { StandsFor (map description_of descriptions.now) table.now ssa.now
+            self.now }
         requires plan { (deps : List (ℕ × ℕ)) × IsPlanFor (map description_of descriptions.now)
             table.now ssa.now deps (self.now.packs.items ++ pack.now ∷ []) }
         ensures packs { IfOk result (λ r. r.packs.items ≡ self.now.packs.items ++ pack.now ∷ []) }

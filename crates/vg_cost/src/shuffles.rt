@@ -41,7 +41,8 @@ fn are_tight_lanes(params: usize, lanes: &[Term]) -> bool
 
 #[tactic(auto, using(crate::proofs::Scanned::tight_lanes))]
 fn has_tight_lanes(description: &Description) -> bool
-    ensures { result ≡ list_all (is_tight_lane (length description.now.params)) (map tree description.now.lanes) }
+    ensures { result ≡ list_all (is_tight_lane (length description.now.params))
+        (map tree description.now.lanes) }
 {
     let params = description.params.as_slice();
     are_tight_lanes(params.len(), description.lanes.as_slice())

@@ -40,7 +40,8 @@ fn keep(
     taken: &Taken,
 ) -> Result<Taken, AllocError>
     requires shuffles { AreShuffles (map description_of descriptions.now) known.now }
-    requires known { IsKnownBut (map description_of descriptions.now) ssa.now packs.now pack.now taken.now }
+    requires known { IsKnownBut (map description_of descriptions.now) ssa.now packs.now pack.now
+        taken.now }
     ensures { IfOk result (λ t. t ≡ taken_for (map description_of descriptions.now) ssa.now
         packs.now taken.now.operand) }
 {
@@ -66,8 +67,10 @@ pub(crate) fn keep_all(
     taken: &[Taken],
 ) -> Result<Vec<Taken>, AllocError>
     requires shuffles { AreShuffles (map description_of descriptions.now) known.now }
-    requires known { AllByRecursion (IsKnownBut (map description_of descriptions.now) ssa.now packs.now pack.now) taken.now }
-    ensures { IfOk result (λ kept. kept.items ≡ map (λ t. taken_for (map description_of descriptions.now) ssa.now packs.now t.operand) taken.now) }
+    requires known { AllByRecursion (IsKnownBut (map description_of descriptions.now) ssa.now
+        packs.now pack.now) taken.now }
+    ensures { IfOk result (λ kept. kept.items ≡ map (λ t. taken_for
+        (map description_of descriptions.now) ssa.now packs.now t.operand) taken.now) }
 {
     let mut kept = Vec::new(alloc);
     'taken: for one in taken {
@@ -94,7 +97,9 @@ fn add_taken(
     operand: Operand,
 ) -> Result<(), AllocError>
     requires { AreShuffles (map description_of descriptions.now) known.now }
-    ensures { OnOk result (taken.new.items ≡ add_taken (taken_for (map description_of descriptions.now) ssa.now packs.now) taken.old.items operand) }
+    ensures { OnOk result (taken.new.items ≡ add_taken
+        (taken_for (map description_of descriptions.now) ssa.now packs.now) taken.old.items
+        operand) }
 {
     if has_operand(taken.as_slice(), &operand) {
         return Ok(());
@@ -115,7 +120,9 @@ pub(crate) fn add_all(
     operands: Vec<Operand>,
 ) -> Result<(), AllocError>
     requires { AreShuffles (map description_of descriptions.now) known.now }
-    ensures { OnOk result (taken.new.items ≡ add_all (taken_for (map description_of descriptions.now) ssa.now packs.now) taken.old.items operands.items) }
+    ensures { OnOk result (taken.new.items ≡ add_all
+        (taken_for (map description_of descriptions.now) ssa.now packs.now) taken.old.items
+        operands.items) }
 {
     'operands: for operand in operands {
         add_taken(alloc, taken, descriptions, ssa, packs, known, operand)?;
@@ -136,7 +143,8 @@ fn recipes_cost(taken: &[Taken]) -> Result<u64, AllocError>
 
 /// Appends the value that is wanted, if it is one.
 fn push_value(values: &mut Vec<u32>, wanted: Wanted) -> Result<(), AllocError>
-    ensures { OnOk result (values.new.items ≡ values.old.items ++ filter_map value_of (wanted ∷ [])) }
+    ensures { OnOk result (values.new.items ≡ values.old.items
+        ++ filter_map value_of (wanted ∷ [])) }
 {
     match value_of(wanted) {
         Some(value) => {
@@ -149,7 +157,8 @@ fn push_value(values: &mut Vec<u32>, wanted: Wanted) -> Result<(), AllocError>
 
 /// Appends the values that slots want.
 fn push_values(values: &mut Vec<u32>, slots: &[Slot]) -> Result<(), AllocError>
-    ensures { OnOk result (values.new.items ≡ values.old.items ++ filter_map (λ s. value_of s.wanted) slots.now) }
+    ensures { OnOk result (values.new.items ≡ values.old.items
+        ++ filter_map (λ s. value_of s.wanted) slots.now) }
 {
     'slots: for slot in slots {
         push_value(values, slot.wanted)?;
