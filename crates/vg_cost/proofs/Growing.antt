@@ -23,6 +23,7 @@ use Rattle.vg_cost.specs.declared.recipe_cost.RecipeCost.{RecipeCost}
 use Rattle.vg_cost.specs.declared.taken.Taken.{Taken}
 use Rattle.vg_cost.specs.declared.running.Running.{Running}
 use Rattle.vg_cost.specs.Running.{StandsFor}
+use Rattle.vg_cost.specs.Shuffling.{AreShuffles}
 use Rattle.vg_cost.specs.Taken.{IsKnownBut, add_all, add_taken, inserted_for, is_touched, recipe_for, taken_for}
 use Rattle.vg_cost.proofs.Own.{is-other, own-values}
 use Rattle.vg_cost.proofs.Steps.{all_push}
@@ -134,10 +135,11 @@ pub not_added : (know : Operand → Taken) (ts : List Taken) (o : Operand) → l
 not_added know ts o t = rw t refl
 
 pub stands-empty : (ds : List Description) (matches : List Match) (ssa : Ssa) (r : Running)
-    → r.packs.items ≡ [] → r.taken.items ≡ [] → r.price ≡ 0
+    → r.packs.items ≡ [] → r.taken.items ≡ [] → AreShuffles ds r.shuffles → r.price ≡ 0
     → r.cost ≡ 0 + sum_by (λ (t : Taken). t.recipe.lines) [] + scalar_lines (packing [] [] ssa []) [] (flat_map inserted_for []) (falling_units ssa)
     → StandsFor ds matches ssa r
-stands-empty ds matches ssa r e t p c = record {
+stands-empty ds matches ssa r e t known p c = record {
+  shuffles = known;
   short = subst (AllByRecursion IsShort) (sym e) tt;
   cost = λ deps.
       known-cost ds matches ssa deps [] 0 r.cost [] refl refl c ∙ ap (plan_cost (packing ds matches ssa deps)) (sym e);
@@ -147,7 +149,9 @@ stands-empty ds matches ssa r e t p c = record {
 
 -- the longer plan: its packs, what is kept of the operands, those of the pack, and its cost
 pub stands-longer : (ds : List Description) (matches : List Match) (ssa : Ssa) (old : Running) (p : Packed) (r : Running)
-    → StandsFor ds matches ssa old → IsShort p → r.packs.items ≡ old.packs.items ++ p ∷ []
+    → StandsFor ds matches ssa old → IsShort p
+    → r.shuffles.numbers.items ≡ old.shuffles.numbers.items → r.shuffles.are_tight ≡ old.shuffles.are_tight
+    → r.packs.items ≡ old.packs.items ++ p ∷ []
     → (ts : List Taken) (os : List Operand)
     → ts ≡ map (λ t. taken_for ds ssa (old.packs.items ++ p ∷ []) t.operand) old.taken.items
     → os ≡ operands_of ds matches ssa p
@@ -156,7 +160,7 @@ pub stands-longer : (ds : List Description) (matches : List Match) (ssa : Ssa) (
     → r.cost ≡ r.price + sum_by (λ t. t.recipe.lines) r.taken.items
     + scalar_lines (packing [] [] ssa []) (old.packs.items ++ p ∷ []) (flat_map inserted_for r.taken.items) (falling_units ssa)
     → StandsFor ds matches ssa r
-stands-longer ds matches ssa old p r s short e ts os kept own all price cost =
+stands-longer ds matches ssa old p r s short same tight e ts os kept own all price cost =
     let plan = old.packs.items in
     let longer = plan ++ p ∷ [] in
     let before = operands (packing ds matches ssa []) plan in
@@ -173,6 +177,7 @@ stands-longer ds matches ssa old p r s short e ts os kept own all price cost =
     price ∙ ap (λ n. n + price_of ds p) s.price ∙ sym (sum_by_push (price_of ds) plan p)
     in
     record {
+      shuffles = record { numbers = same ∙ s.shuffles.numbers; tight = tight ∙ s.shuffles.tight };
       short = subst (AllByRecursion IsShort) (sym e) (all_push IsShort plan p s.short short);
       cost = λ deps.
           known-cost ds matches ssa deps longer r.price r.cost r.taken.items paid taken cost

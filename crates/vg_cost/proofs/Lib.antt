@@ -5,6 +5,8 @@ pub mod LaneTrees
 pub mod LineSteps
 pub mod Marking
 pub mod Own
+pub mod Scanned
 pub mod Steps
+pub mod Stood
 pub mod Sums
 pub mod Zero

@@ -8,6 +8,7 @@ use Rattle.vg_shapes.specs.Description.{Description}
 use Rattle.vg_packing.specs.Packing.{packing, price_of}
 use Rattle.vg_packing.specs.Taken.{IsShort}
 use Rattle.vg_cost.specs.declared.running.Running.{Running}
+use Rattle.vg_cost.specs.Shuffling.{AreShuffles}
 use Rattle.vg_cost.specs.Taken.{taken_for}
 
 -- what is kept is told by the packs alone, however the plan has grown
@@ -16,5 +17,6 @@ pub record StandsFor (ds : List Description) (matches : List Match) (ssa : Ssa) 
   pub cost : (deps : List (ℕ × ℕ)) → r.cost ≡ plan_cost (packing ds matches ssa deps) r.packs.items
   -- the operands of the packs, each once, and what their recipes cost
   pub taken : r.taken.items ≡ map (taken_for ds ssa r.packs.items) (operands (packing ds matches ssa []) r.packs.items)
+  pub shuffles : AreShuffles ds r.shuffles
   -- the lines of the packs
   pub price : r.price ≡ sum_by (price_of ds) r.packs.items

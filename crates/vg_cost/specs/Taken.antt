@@ -1,5 +1,5 @@
 -- What is known of the operands that the packs of a plan take.
-use Rattle.std.specs.Prelude.{◌≡◌, ℕ, Bool, true, false, List, [], ◌∷◌, ◌++◌, length, nat_lt, if◌then◌else◌}
+use Rattle.std.specs.Prelude.{◌≡◌, ℕ, ◌+◌, Bool, true, false, filter, List, [], ◌∷◌, ◌++◌, length, nat_lt, if◌then◌else◌}
 use Rattle.std.specs.List.{list_any}
 use Rattle.vg_plans.specs.World.{inserted, is_in, recipe_cost}
 use Rattle.vg_shapes.specs.declared.operand.Operand.{Operand}
@@ -11,7 +11,7 @@ use Rattle.vg_shapes.specs.Description.{Description}
 use Rattle.vg_shapes.specs.Pack.{units_of}
 use Rattle.vg_packing.specs.Packing.{packing}
 use Rattle.vg_packing.specs.SameAs.{same_operand}
-use Rattle.vg_packing.specs.Wants.{wanted_values}
+use Rattle.vg_packing.specs.Wants.{wanted_values, wants_value}
 use Rattle.vg_cost.specs.declared.recipe_cost.RecipeCost.{RecipeCost}
 use Rattle.vg_cost.specs.declared.taken.Taken.{Taken}
 
@@ -20,6 +20,13 @@ abbrev pub recipe_for : List Description → Ssa → List Packed → Operand →
 recipe_for ds ssa plan o = record {
   lines = recipe_cost (packing ds [] ssa []) plan o;
   is_inserted = nat_lt 0 (length (inserted (packing ds [] ssa []) plan o));
+}
+
+-- of inserts of all values
+abbrev pub inserts_for : Operand → RecipeCost
+inserts_for o = record {
+  lines = 1 + length (filter (λ s. wants_value s.wanted) o.slots);
+  is_inserted = nat_lt 0 (length (filter (λ s. wants_value s.wanted) o.slots));
 }
 
 abbrev pub taken_for : List Description → Ssa → List Packed → Operand → Taken

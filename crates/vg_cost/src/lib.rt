@@ -3,17 +3,24 @@
 //! `specs/Had.antt` lists the costs of the shuffles that can be had, `specs/Marks.antt` says which
 //! numbers are marked, and `specs/Lines.antt` which lines units and extracts take by such marks.
 //! The cost of a plan is that of `vg_plans` over the packs of a kernel of `vg_packing`.
+//!
+//! A plan that grows keeps its cost (`specs/Running.antt`): what is known of each operand that its
+//! packs take (`specs/Taken.antt`), and which descriptions are shuffles (`specs/Shuffling.antt`). By
+//! the places where packs have values (`specs/Places.antt`) most shuffles need not be looked at.
 #![tactic(auto)]
 
 mod copies;
 mod cost;
 mod lines;
 mod marks;
+mod places;
 mod price;
 mod recipe_cost;
 pub mod recipes;
 mod running;
+mod scan;
 pub mod shuffle;
+mod shuffles;
 mod taken;
 mod touch;
 

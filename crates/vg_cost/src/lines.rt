@@ -110,7 +110,7 @@ fn lines_below(ssa: &Ssa, packed: &[bool], marks: &mut [bool], end: u32) -> Resu
 }
 
 /// The first number behind those of all units, or want of memory where it has more than 32 bits.
-fn end_of_units(ssa: &Ssa) -> Result<u32, AllocError>
+pub(crate) fn end_of_units(ssa: &Ssa) -> Result<u32, AllocError>
     ensures { IfOk result (λ end. end ≡ arguments ssa.now + length ssa.now.units) }
 {
     let count = ssa.units.as_slice().len();

@@ -39,7 +39,7 @@ pub fn are_reused(
 }
 
 /// Appends what the shuffle of an instance that makes an operand costs, if it can be had.
-fn push_had(
+pub(crate) fn push_had(
     alloc: Global,
     costs: &mut Vec<u32>,
     descriptions: &[Description],
@@ -65,7 +65,7 @@ fn push_had(
 }
 
 /// What the shuffles that make an operand and can be had cost.
-pub(crate) fn costs_had(
+fn costs_had(
     alloc: Global,
     descriptions: &[Description],
     ssa: &Ssa,

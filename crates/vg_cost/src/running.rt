@@ -8,6 +8,7 @@ ghost use Rattle.vg_shapes.specs.Description.{description_of};
 
 use crate::copies::longer;
 use crate::price::{plus, price_of};
+use crate::shuffles::Shuffles;
 use crate::taken::{Taken, add_all, keep_all, whole_cost};
 use std::alloc::{AllocError, Global};
 use vg_packing::taken::operands_of;
@@ -19,13 +20,14 @@ use vg_shapes::{Description, MatchTable, Pack, Ssa};
 pub struct Running {
     packs: Vec<Pack>,
     taken: Vec<Taken>,
+    shuffles: Shuffles,
     price: u64,
     cost: u64,
 }
 
 impl Running {
-    /// The plan of no packs. Fails for want of memory, and where the cost or a unit's number has too
-    /// many bits to be counted.
+    /// The plan of no packs. Fails for want of memory, and where the cost or a unit's number has
+    /// too many bits to be counted.
     pub fn new(
         alloc: Global,
         descriptions: &[Description],
@@ -37,10 +39,12 @@ impl Running {
         ensures stands { IfOk result (StandsFor (map description_of descriptions.now) table.now
             ssa.now) }
     {
+        let shuffles = Shuffles::new(alloc, descriptions)?;
         let cost = whole_cost(alloc, ssa, &[], &[], 0)?;
         Ok(Running {
             packs: Vec::new(alloc),
             taken: Vec::new(alloc),
+            shuffles,
             price: 0,
             cost,
         })
@@ -58,7 +62,8 @@ impl Running {
     ) -> Result<Running, AllocError>
         requires near { MatchesNear table.now }
         requires short { IsShort pack.now }
-        requires stands { StandsFor (map description_of descriptions.now) table.now ssa.now self.now }
+        requires stands { StandsFor (map description_of descriptions.now) table.now ssa.now
+            self.now }
         requires plan { (deps : List (ℕ × ℕ)) × IsPlanFor (map description_of descriptions.now)
             table.now ssa.now deps (self.now.packs.items ++ pack.now ∷ []) }
         ensures packs { IfOk result (λ r. r.packs.items ≡ self.now.packs.items ++ pack.now ∷ []) }
@@ -66,8 +71,9 @@ impl Running {
             ssa.now) }
     {
         let packs = longer(alloc, self.packs.as_slice(), pack)?;
+        let known = &self.shuffles;
         let old = self.taken.as_slice();
-        let mut taken = keep_all(alloc, descriptions, ssa, packs.as_slice(), pack, old)?;
+        let mut taken = keep_all(alloc, descriptions, ssa, packs.as_slice(), pack, known, old)?;
         let operands = operands_of(alloc, descriptions, table, ssa, pack)?;
         add_all(
             alloc,
@@ -75,6 +81,7 @@ impl Running {
             descriptions,
             ssa,
             packs.as_slice(),
+            known,
             operands,
         )?;
         let price = plus(self.price, price_of(descriptions, pack))?;
@@ -82,6 +89,7 @@ impl Running {
         Ok(Running {
             packs,
             taken,
+            shuffles: self.shuffles.copy(alloc)?,
             price,
             cost,
         })

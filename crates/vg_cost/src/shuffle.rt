@@ -25,7 +25,7 @@ pub struct Shuffle {
 
 #[tactic(auto, using(crate::proofs::Zero::divided_by_none))]
 /// The number of the lane in which a bit stands, or 0 where lanes have no width.
-fn lane_of(low: u32, width: u32) -> u32
+pub(crate) fn lane_of(low: u32, width: u32) -> u32
     ensures { result ≡ low / width }
 {
     if width == 0 { 0 } else { low / width }

@@ -2,6 +2,7 @@
 
 ghost use Rattle.std.specs.Prelude.{◌≡◌, ◌+◌, ◌++◌, ◌∷◌, [], IfOk, OnOk, filter_map, flat_map, map, sum_by};
 ghost use Rattle.std.specs.List.{list_any, AllByRecursion};
+ghost use Rattle.vg_cost.specs.Shuffling.{AreShuffles};
 ghost use Rattle.vg_cost.specs.Taken.{IsKnownBut, add_all, add_taken, inserted_for, taken_for};
 ghost use Rattle.vg_packing.specs.Packing.{falling_units, packing};
 ghost use Rattle.vg_packing.specs.SameAs.{same_operand};
@@ -13,6 +14,7 @@ use crate::copies::copy_operand;
 use crate::lines::scalar_lines;
 use crate::price::plus;
 use crate::recipe_cost::{RecipeCost, recipe_cost};
+use crate::shuffles::Shuffles;
 use crate::touch::is_touched;
 use std::alloc::{AllocError, Global};
 use vg_packing::same::is_same_operand;
@@ -34,15 +36,18 @@ fn keep(
     ssa: &Ssa,
     packs: &[Pack],
     pack: &Pack,
+    known: &Shuffles,
     taken: &Taken,
 ) -> Result<Taken, AllocError>
-    requires known { IsKnownBut (map description_of descriptions.now) ssa.now packs.now pack.now taken.now }
+    requires shuffles { AreShuffles (map description_of descriptions.now) known.now }
+    requires known { IsKnownBut (map description_of descriptions.now) ssa.now packs.now pack.now
+        taken.now }
     ensures { IfOk result (λ t. t ≡ taken_for (map description_of descriptions.now) ssa.now
         packs.now taken.now.operand) }
 {
     let operand = copy_operand(alloc, &taken.operand)?;
     if is_touched(pack, &taken.operand) {
-        let recipe = recipe_cost(alloc, descriptions, ssa, packs, &taken.operand)?;
+        let recipe = recipe_cost(alloc, descriptions, ssa, packs, known, &taken.operand)?;
         return Ok(Taken { operand, recipe });
     }
     Ok(Taken {
@@ -58,14 +63,18 @@ pub(crate) fn keep_all(
     ssa: &Ssa,
     packs: &[Pack],
     pack: &Pack,
+    known: &Shuffles,
     taken: &[Taken],
 ) -> Result<Vec<Taken>, AllocError>
-    requires known { AllByRecursion (IsKnownBut (map description_of descriptions.now) ssa.now packs.now pack.now) taken.now }
-    ensures { IfOk result (λ kept. kept.items ≡ map (λ t. taken_for (map description_of descriptions.now) ssa.now packs.now t.operand) taken.now) }
+    requires shuffles { AreShuffles (map description_of descriptions.now) known.now }
+    requires known { AllByRecursion (IsKnownBut (map description_of descriptions.now) ssa.now
+        packs.now pack.now) taken.now }
+    ensures { IfOk result (λ kept. kept.items ≡ map (λ t. taken_for
+        (map description_of descriptions.now) ssa.now packs.now t.operand) taken.now) }
 {
     let mut kept = Vec::new(alloc);
     'taken: for one in taken {
-        let longer = keep(alloc, descriptions, ssa, packs, pack, one)?;
+        let longer = keep(alloc, descriptions, ssa, packs, pack, known, one)?;
         kept.push(longer)?;
     }
     Ok(kept)
@@ -84,14 +93,18 @@ fn add_taken(
     descriptions: &[Description],
     ssa: &Ssa,
     packs: &[Pack],
+    known: &Shuffles,
     operand: Operand,
 ) -> Result<(), AllocError>
-    ensures { OnOk result (taken.new.items ≡ add_taken (taken_for (map description_of descriptions.now) ssa.now packs.now) taken.old.items operand) }
+    requires { AreShuffles (map description_of descriptions.now) known.now }
+    ensures { OnOk result (taken.new.items ≡ add_taken
+        (taken_for (map description_of descriptions.now) ssa.now packs.now) taken.old.items
+        operand) }
 {
     if has_operand(taken.as_slice(), &operand) {
         return Ok(());
     }
-    let recipe = recipe_cost(alloc, descriptions, ssa, packs, &operand)?;
+    let recipe = recipe_cost(alloc, descriptions, ssa, packs, known, &operand)?;
     taken.push(Taken { operand, recipe })?;
     Ok(())
 }
@@ -103,12 +116,16 @@ pub(crate) fn add_all(
     descriptions: &[Description],
     ssa: &Ssa,
     packs: &[Pack],
+    known: &Shuffles,
     operands: Vec<Operand>,
 ) -> Result<(), AllocError>
-    ensures { OnOk result (taken.new.items ≡ add_all (taken_for (map description_of descriptions.now) ssa.now packs.now) taken.old.items operands.items) }
+    requires { AreShuffles (map description_of descriptions.now) known.now }
+    ensures { OnOk result (taken.new.items ≡ add_all
+        (taken_for (map description_of descriptions.now) ssa.now packs.now) taken.old.items
+        operands.items) }
 {
     'operands: for operand in operands {
-        add_taken(alloc, taken, descriptions, ssa, packs, operand)?;
+        add_taken(alloc, taken, descriptions, ssa, packs, known, operand)?;
     }
     Ok(())
 }
@@ -126,7 +143,8 @@ fn recipes_cost(taken: &[Taken]) -> Result<u64, AllocError>
 
 /// Appends the value that is wanted, if it is one.
 fn push_value(values: &mut Vec<u32>, wanted: Wanted) -> Result<(), AllocError>
-    ensures { OnOk result (values.new.items ≡ values.old.items ++ filter_map value_of (wanted ∷ [])) }
+    ensures { OnOk result (values.new.items ≡ values.old.items
+        ++ filter_map value_of (wanted ∷ [])) }
 {
     match value_of(wanted) {
         Some(value) => {
@@ -139,7 +157,8 @@ fn push_value(values: &mut Vec<u32>, wanted: Wanted) -> Result<(), AllocError>
 
 /// Appends the values that slots want.
 fn push_values(values: &mut Vec<u32>, slots: &[Slot]) -> Result<(), AllocError>
-    ensures { OnOk result (values.new.items ≡ values.old.items ++ filter_map (λ s. value_of s.wanted) slots.now) }
+    ensures { OnOk result (values.new.items ≡ values.old.items
+        ++ filter_map (λ s. value_of s.wanted) slots.now) }
 {
     'slots: for slot in slots {
         push_value(values, slot.wanted)?;

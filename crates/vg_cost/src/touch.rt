@@ -40,7 +40,7 @@ fn has_lane(lanes: &[Option<u32>], number: u32) -> bool
 }
 
 /// Whether a number is that of a unit of a pack.
-fn has_unit(pack: &Pack, number: u32) -> bool
+pub(crate) fn has_unit(pack: &Pack, number: u32) -> bool
     ensures { result ≡ is_in number (units_of pack.now) }
 {
     match pack {

@@ -10,3 +10,5 @@ mod kernels;
 mod plans;
 #[cfg(test)]
 mod recipes;
+#[cfg(test)]
+mod running;

@@ -19,7 +19,8 @@ pub enum Two {
     Call(u32, u32),
 }
 
-fn pack_of(alloc: Global, two: Two) -> Result<Pack, AllocError> {
+/// The pack of these units.
+pub fn pack_of(alloc: Global, two: Two) -> Result<Pack, AllocError> {
     match two {
         Two::Stores(low, high) => Ok(Pack::Stores(Lanes::from_slice(alloc, &[low, high])?)),
         Two::Loads(low, high) => Ok(Pack::Loads(Lanes::from_slice(alloc, &[low, high])?)),
@@ -43,7 +44,8 @@ pub fn plan_of(alloc: Global, packs: &[Two]) -> Result<Plan, AllocError> {
     Ok(Plan::from_vec(made))
 }
 
-fn is_short(pack: &Pack) -> bool
+/// Whether a pack has at most 64 lanes.
+pub fn is_short(pack: &Pack) -> bool
     ensures { result ≡ true → IsShort pack.now }
 {
     match pack {

@@ -6,6 +6,7 @@ use Rattle.vg_cost.proofs.taken.keep_all.Goals as goal
 
 pub keep-requires : goal.keep-requires
 keep-requires c = record {
+  shuffles = c.requires.shuffles;
   known = all_at (IsKnownBut (map description_of c.args.descriptions.now) c.args.ssa.now c.args.packs.now c.args.pack.now)
       c.args.taken.now c.taken.one-index c.one-item.result c.one-item.result c.requires.known c.taken-test.true c.one-item.is;
 }

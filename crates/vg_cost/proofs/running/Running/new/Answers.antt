@@ -9,5 +9,5 @@ use Rattle.vg_cost.proofs.running.Running.new.Goals as goal
 pub returns-clause-stands : goal.returns-clause-stands
 returns-clause-stands c =
     stands-empty (map description_of c.args.descriptions.now) c.args.table.now c.args.ssa.now
-    record { packs = c.new.result; taken = c.new-2.result; price = 0; cost = c.in_ok-cost.cost }
-    c.new.ensures.items c.new-2.ensures.items refl c.in_ok-cost.ensures
+    record { packs = c.new-2.result; taken = c.new-3.result; shuffles = c.in_ok-shuffles.shuffles; price = 0; cost = c.in_ok-cost.cost }
+    c.new-2.ensures.items c.new-3.ensures.items c.in_ok-shuffles.ensures refl c.in_ok-cost.ensures

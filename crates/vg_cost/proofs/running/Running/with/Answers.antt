@@ -16,6 +16,7 @@ keep_all-requires c =
     let longer : c.as_slice-2.result.now ≡ plan ++ p ∷ [] = c.as_slice-2.ensures.value ∙ c.in_ok-packs.ensures ∙ ap (λ l. l ++ p ∷ []) c.as_slice.ensures.value in
     let taken : c.as_slice-old.result.now ≡ map (taken_for ds c.args.ssa.now plan) os = c.as_slice-old.ensures.value ∙ c.requires.stands.taken in
     record {
+      shuffles = c.requires.stands.shuffles;
       known = subst (λ q. AllByRecursion (IsKnownBut ds c.args.ssa.now q p) c.as_slice-old.result.now) (sym longer)
           (subst (AllByRecursion (IsKnownBut ds c.args.ssa.now (plan ++ p ∷ []) p)) (sym taken) (known-but ds c.args.ssa.now plan p os));
     }
@@ -32,8 +33,8 @@ returns-clause-stands c =
     ∙ ap (map (λ t. taken_for ds ssa (plan ++ p ∷ []) t.operand)) c.as_slice-old.ensures.value
     in
     stands-longer ds c.args.table.now ssa c.args.self.now p
-    record { packs = c.in_ok-packs.packs; taken = c.add_all.new.taken; price = c.in_ok-price.price; cost = c.in_ok-cost.cost }
-    c.requires.stands c.requires.short longer
+    record { packs = c.in_ok-packs.packs; taken = c.add_all.new.taken; shuffles = c.in_ok-copy.field-0; price = c.in_ok-price.price; cost = c.in_ok-cost.cost }
+    c.requires.stands c.requires.short c.in_ok-copy.ensures.numbers c.in_ok-copy.ensures.tight longer
     c.in_ok-taken.taken.items c.in_ok-operands.operands.items kept
     c.in_ok-operands.ensures
     (c.in_ok-add_all.ensures ∙ ap (λ q. add_all (taken_for ds ssa q) c.in_ok-taken.taken.items c.in_ok-operands.operands.items) (c.as_slice-3.ensures.value ∙ longer))

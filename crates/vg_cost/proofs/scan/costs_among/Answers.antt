@@ -1,0 +1,15 @@
+use Rattle.std.proofs.Common.{ap, map, subst}
+use Rattle.std.specs.Result.{IfOk}
+use Rattle.std.specs.List.{flat_map}
+use Rattle.vg_shapes.specs.Description.{description_of}
+use Rattle.vg_cost.specs.Had.{costs_had}
+use Rattle.vg_cost.proofs.Scanned.{all-shuffles}
+use Rattle.vg_cost.proofs.scan.costs_among.Goals as goal
+use Rattle.std.proofs.Common.{◌≡◌, ◌∙◌}
+
+pub returns : goal.returns
+returns c =
+    let ds = map description_of c.args.descriptions.now in
+    subst (λ l. IfOk c.costs_of.result (λ costs. costs.items ≡ costs_had ds c.args.ssa.now c.args.packs.now l))
+    (all-shuffles ds c.args.operand.now c.as_slice-numbers.result.now (c.as_slice-numbers.ensures.value ∙ c.requires.numbers))
+    c.costs_of.ensures

@@ -1,0 +1,38 @@
+use Rattle.std.proofs.Common.{◌≡◌, ◌∙◌, ◌++◌, ◌∷◌, [], subst, sym}
+use Rattle.std.specs.Prelude.{IsTrue}
+use Rattle.vg_plans.specs.Members.{Has}
+use Rattle.vg_plans.specs.World.{follows}
+use Rattle.vg_packing.specs.Laws.{IsPlanFor}
+use Rattle.vg_packing.specs.Packing.{packing}
+use Rattle.vg_packs.specs.Walk.{IsFree}
+use Rattle.vg_cost_cases.proofs.Grown.{free-more, plan-more}
+use Rattle.vg_cost_cases.proofs.running.grown.Goals as goal
+
+pub with-requires-clause-plan : goal.with-requires-clause-plan
+with-requires-clause-plan c =
+    let w = packing [] c.args.table.now c.args.ssa.now c.args.deps.now in
+    let is : IsTrue c.in_ok-may_follow.may_follow = c.if-not-may_follow.false in
+    let has : Has c.in_ok-pack.pack (follows w c.args.plan.now.packs.items) =
+    subst (λ q. Has c.in_ok-pack.pack (follows w q)) c.packs.ensures (c.in_ok-may_follow.ensures.member.0 is)
+    in
+    (c.args.deps.now, plan-more c.args.table.now c.args.ssa.now c.args.deps.now c.args.plan.now.packs.items c.in_ok-pack.pack has c.requires.plan)
+
+pub returns-clause-free : goal.returns-clause-free
+returns-clause-free c =
+    let w = packing [] c.args.table.now c.args.ssa.now c.args.deps.now in
+    let is : IsTrue c.in_ok-may_follow.may_follow = c.if-not-may_follow.false in
+    let has : Has c.in_ok-pack.pack (follows w c.args.plan.now.packs.items) =
+    subst (λ q. Has c.in_ok-pack.pack (follows w q)) c.packs.ensures (c.in_ok-may_follow.ensures.member.0 is)
+    in
+    subst (IsFree c.args.table.now c.args.ssa.now c.args.deps.now) (sym c.in_ok-longer.ensures.packs)
+    (free-more c.args.table.now c.args.ssa.now c.args.deps.now c.args.plan.now.packs.items c.in_ok-pack.pack has)
+
+pub returns-clause-plan : goal.returns-clause-plan
+returns-clause-plan c =
+    let w = packing [] c.args.table.now c.args.ssa.now c.args.deps.now in
+    let is : IsTrue c.in_ok-may_follow.may_follow = c.if-not-may_follow.false in
+    let has : Has c.in_ok-pack.pack (follows w c.args.plan.now.packs.items) =
+    subst (λ q. Has c.in_ok-pack.pack (follows w q)) c.packs.ensures (c.in_ok-may_follow.ensures.member.0 is)
+    in
+    subst (IsPlanFor [] c.args.table.now c.args.ssa.now c.args.deps.now) (sym c.in_ok-longer.ensures.packs)
+    (plan-more c.args.table.now c.args.ssa.now c.args.deps.now c.args.plan.now.packs.items c.in_ok-pack.pack has c.requires.plan)
