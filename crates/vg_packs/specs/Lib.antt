@@ -4,4 +4,5 @@ pub mod Making
 pub mod Marks
 pub mod Placed
 pub mod Plain
+pub mod PlanMarks
 pub mod Walk

@@ -47,8 +47,9 @@ fn push_producers(
     Ok(())
 }
 
-/// Appends the packs that produce what a pack takes.
-fn push_produced(
+/// Appends the packs that produce what a pack takes. Where it has more than 64 loads or stores, or more
+/// than some 2^24 lanes, there is no memory.
+pub fn push_produced(
     alloc: Global,
     packs: &mut Vec<Pack>,
     descriptions: &[Description],

@@ -13,13 +13,15 @@ mod marks;
 mod needs;
 mod placed;
 mod plain;
+mod plan_marks;
 mod producing;
 mod taking;
 mod walk;
 
-pub use follows::{compatible, tried};
+pub use follows::{compatible, push_produced, tried};
 pub use groups::store_groups;
 pub use law::{dependences_are_earlier, store_groups_are_listed};
 pub use plain::plain_plan;
+pub use plan_marks::PlanMarks;
 pub use producing::producers;
 pub use walk::stays_plan;

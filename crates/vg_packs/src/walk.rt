@@ -9,8 +9,9 @@ ghost use Rattle.vg_shapes.specs.Units.{arguments, is_unit};
 ghost use Rattle.vg_packs.specs.Marks.{AreMarks, is_packed_by};
 ghost use Rattle.vg_packs.specs.Walk.{HasWay, IsApart, IsFree, IsSettled, LeadsApart, NameUnits, Pushed, is_in_plan, is_lane_in, node_needs};
 
-use crate::marks::{clear_marks, is_marked, mark_pack, mark_plan, some_marked};
+use crate::marks::{clear_marks, is_marked, mark_pack, some_marked};
 use crate::needs::{is_in_plan, node_needs, pack_needs};
+use crate::plan_marks::PlanMarks;
 use std::alloc::{AllocError, Global};
 use vg_shapes::{DepList, MatchTable, Pack, Ssa};
 
@@ -71,7 +72,7 @@ fn walk_down(
 }
 
 /// The first number behind those of all units.
-fn end_of_units(ssa: &Ssa) -> Result<usize, AllocError>
+pub(crate) fn end_of_units(ssa: &Ssa) -> Result<usize, AllocError>
     ensures { IfOk result (λ end. end ≡ arguments ssa.now + length ssa.now.units) }
 {
     let first = ssa.arguments();
@@ -118,7 +119,7 @@ fn reaches_by(
 }
 
 /// The same, with marks of its own.
-fn reaches_itself(
+pub(crate) fn reaches_itself(
     alloc: Global,
     table: &MatchTable,
     ssa: &Ssa,
@@ -188,7 +189,7 @@ fn lanes_overlap(packed: &[bool], plan: &[Pack], lanes: &[Option<u32>]) -> bool
 }
 
 /// Whether some unit of a pack is one of a plan, of which the units are marked.
-fn overlaps(packed: &[bool], plan: &[Pack], pack: &Pack) -> bool
+pub(crate) fn overlaps(packed: &[bool], plan: &[Pack], pack: &Pack) -> bool
     ensures { result ≡ list_any (is_packed_by packed.now plan.now) (units_of pack.now) }
 {
     match pack {
@@ -196,32 +197,6 @@ fn overlaps(packed: &[bool], plan: &[Pack], pack: &Pack) -> bool
         Pack::Loads(units) => some_packed(packed, plan, units.as_slice()),
         Pack::Call { lanes, .. } => lanes_overlap(packed, plan, lanes.as_slice()),
     }
-}
-
-/// Whether a plan stays one with a pack behind it, with clear marks for its units.
-fn stays_by(
-    alloc: Global,
-    plan: &[Pack],
-    packed: &mut [bool],
-    pack: &Pack,
-    table: &MatchTable,
-    ssa: &Ssa,
-    deps: &DepList,
-    end: usize,
-) -> Result<bool, AllocError>
-    requires names { NameUnits ssa.now deps.now }
-    requires free { IsFree table.now ssa.now deps.now plan.now }
-    requires end { end ≡ arguments ssa.now + length ssa.now.units }
-    requires clear { packed.old ≡ replicate end false }
-    ensures { IfOk result (λ b. b ≡ stays_plan (packing [] table.now ssa.now deps.now) plan.now pack.now) }
-{
-    mark_plan(packed, plan);
-    let overlap = overlaps(packed, plan, pack);
-    if overlap {
-        return Ok(false);
-    }
-    let reached = reaches_itself(alloc, table, ssa, deps, plan, packed, pack, end)?;
-    Ok(!reached)
 }
 
 /// Whether a plan that has no cycle stays one with a pack behind it: no unit of the pack is in it, and
@@ -238,16 +213,6 @@ pub fn stays_plan(
     requires free { IsFree table.now ssa.now deps.now plan.now }
     ensures { IfOk result (λ b. b ≡ stays_plan (packing [] table.now ssa.now deps.now) plan.now pack.now) }
 {
-    let end = end_of_units(ssa)?;
-    let mut packed = clear_marks(alloc, end)?;
-    stays_by(
-        alloc,
-        plan,
-        packed.as_mut_slice(),
-        pack,
-        table,
-        ssa,
-        deps,
-        end,
-    )
+    let marks = PlanMarks::new(alloc, ssa, plan)?;
+    marks.stays_plan(alloc, plan, pack, table, ssa, deps)
 }

@@ -1,6 +1,6 @@
 pub mod Answers
+pub mod BoundInputs
 pub mod Endings
 pub mod Fronts
-pub mod Inputs
 pub mod Ready
 pub mod Works

@@ -1,6 +1,6 @@
 use Rattle.std.proofs.Common.{map}
 use Rattle.vg_request.specs.Binding.{binding_seen}
-use Rattle.vg_top.proofs.Inputs.{values_fit}
+use Rattle.vg_top.proofs.BoundInputs.{values_fit}
 use Rattle.vg_top.proofs.inputs.bind.Goals as goal
 
 pub returns-clause-fits : goal.returns-clause-fits

@@ -1,5 +1,5 @@
 use Rattle.std.proofs.Common.{Some, None}
-use Rattle.vg_top.proofs.Inputs.{number_once}
+use Rattle.vg_top.proofs.BoundInputs.{number_once}
 use Rattle.vg_top.proofs.inputs.number_of.Goals as goal
 
 pub returns-in-Some : goal.returns-in-Some

@@ -1,6 +1,6 @@
 use Rattle.std.proofs.Common.{sym, ◌∙◌, map, arith}
 use Rattle.vg_request.specs.Binding.{binding_seen}
-use Rattle.vg_top.proofs.Inputs.{value_none}
+use Rattle.vg_top.proofs.BoundInputs.{value_none}
 use Rattle.vg_top.proofs.inputs.values_of.Goals as goal
 
 pub returns-in-None : goal.returns-in-None

@@ -1,9 +1,9 @@
-use Rattle.std.proofs.Common.{◌≡◌, ◌≢◌, ◌∙◌, ℕ, sym, subst, ap, length, Option, Some, None, Result, Ok, Err}
+use Rattle.std.proofs.Common.{◌≡◌, ◌≢◌, ◌∙◌, ℕ, sym, subst, ap, length, Option, Some, None, Result, Ok, Err, refl}
 use Rattle.std.specs.Prelude.{Vec}
 use Rattle.std.specs.declared.alloc.Global.{Global}
 use Rattle.std.specs.Option.{IfSome, option_map}
 use Rattle.vg_outside.specs.Shelf.{Held}
-use Rattle.vg_outside.specs.Sink.{AppendsFront}
+use Rattle.vg_outside.specs.Sink.{Appends, AppendsFront}
 use Rattle.vg_top.specs.declared.ending.Ending.{Ending}
 use Rattle.vg_top.specs.declared.ending.Ending.TheVariants.{WriteFault}
 use Rattle.vg_top.specs.declared.status.Status.{Status}
@@ -117,6 +117,39 @@ told_answered (Some held) a bytes t = by (asked_outcome held a) t
     by : (v : Result Outcome Ending) → Tells VecAnswers (Ok bytes) v → IsAnswered v bytes.items
     by (Ok outcome) t = t
     by (Err e) t = t
+
+-- and the status is the verdict's
+told_well : (holds : Option Held) (a : Option Asked) (bytes : Vec ℕ Global) → IfSome holds (λ held. Tells VecAnswers (Ok bytes) (asked_outcome held a))
+    → IfSome holds (λ held. status.Ok ≡ status_told (asked_outcome held a))
+told_well None a bytes t = tt
+told_well (Some held) a bytes t = by (asked_outcome held a) t
+  where
+    by : (v : Result Outcome Ending) → Tells VecAnswers (Ok bytes) v → status.Ok ≡ status_told v
+    by (Ok outcome) t = refl
+    by (Err e) t = absurd t
+
+pub returns-in-Ok-write-clause-answered : goal.returns-in-Ok-write-clause-answered
+returns-in-Ok-write-clause-answered g c = λ _.
+    let holds = g.S.Shelf.holds c.args.shelf.now in
+    let written = g.O.Sink.written in
+    let bytes = c.in-Ok.bytes in (
+      bytes.items,
+      subst (λ bs. Appends (written c.args.out.now) bs (written c.write.new.self)) c.as_slice.ensures.value c.in-Ok-write.ensures.whole,
+      subst (λ (a : Option Asked). IfSome holds (λ held. IsAnswered (asked_outcome held a) bytes.items)) c.request_of-request.ensures
+          (told_answered holds (option_map asked_of c.request_of-request.result) bytes c.in-Ok.ensures.told),
+    )
+
+pub returns-in-Ok-write-clause-told : goal.returns-in-Ok-write-clause-told
+returns-in-Ok-write-clause-told g c = λ _ _ _.
+    let holds = g.S.Shelf.holds c.args.shelf.now in
+    subst (λ (a : Option Asked). IfSome holds (λ held. status.Ok ≡ status_told (asked_outcome held a))) c.request_of-request.ensures
+    (told_well holds (option_map asked_of c.request_of-request.result) c.in-Ok.bytes c.in-Ok.ensures.told)
+
+pub returns-in-Ok-write-clause-complete : goal.returns-in-Ok-write-clause-complete
+returns-in-Ok-write-clause-complete g c = λ _ _ _ _ _.
+    let holds = g.S.Shelf.holds c.args.shelf.now in
+    subst (λ (a : Option Asked). IfSome holds (λ held. status.Ok ≡ status_told (asked_outcome held a))) c.request_of-request.ensures
+    (told_well holds (option_map asked_of c.request_of-request.result) c.in-Ok.bytes c.in-Ok.ensures.told)
 
 pub returns-clause-cut_off : goal.returns-clause-cut_off
 returns-clause-cut_off g c = elim c.match-answer.branch [

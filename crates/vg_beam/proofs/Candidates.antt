@@ -1,0 +1,285 @@
+-- Plans of a level that are met and kept.
+use Rattle.std.proofs.Common.{◌≡◌, ℕ, ◌+◌, ◌<◌, ◌≤◌, Bool, true, false, List, [], ◌∷◌, ◌++◌, length, map, take, get_or, refl, sym, ◌∙◌, ap, subst, append-nil, append_assoc}
+use Rattle.std.specs.Prelude.{◌||◌, bytes_eq, flat_map}
+use Rattle.std.specs.List.{AllByRecursion, list_any}
+use Rattle.std.proofs.lemmas.List.{map-append, take_more}
+use Rattle.vg_cost.specs.declared.running.Running.{Running}
+use Rattle.vg_cost.specs.Running.{StandsFor}
+use Rattle.vg_packing.proofs.Tried.{is-packing}
+use Rattle.vg_packing.specs.Groups.{store_groups}
+use Rattle.vg_packing.specs.Laws.{IsPlanFor, cost_of}
+use Rattle.vg_packing.specs.Packing.{packing}
+use Rattle.vg_packing.specs.Taken.{IsShort}
+use Rattle.vg_packs.proofs.Free.{free-first}
+use Rattle.vg_packs.proofs.Turns.{pushed-free, stays-any}
+use Rattle.vg_packs.specs.Walk.{IsFree, NameEarlierUnits, is_in_plan}
+use Rattle.vg_plans.proofs.Lists.{every-append, has-map, take-whole}
+use Rattle.vg_plans.proofs.Members.{from-filter, has-filter}
+use Rattle.vg_plans.specs.Crowded.{empty, more}
+use Rattle.vg_plans.specs.Members.{Every, Has}
+use Rattle.vg_plans.specs.World.{World, same_packs, stays_plan, tried}
+use Rattle.vg_shapes.specs.declared.match_table.Match.{Match}
+use Rattle.vg_shapes.specs.declared.operand.Operand.{Operand}
+use Rattle.vg_shapes.specs.declared.pack.Pack.{Pack as Packed}
+use Rattle.vg_shapes.specs.declared.ssa.Ssa.{Ssa}
+use Rattle.vg_shapes.specs.Description.{Description}
+use Rattle.vg_shapes.specs.Pack.{units_of}
+use Rattle.vg_beam.specs.declared.board.Board.{Board}
+use Rattle.vg_beam.specs.declared.candidate.Candidate.{Candidate}
+use Rattle.vg_beam.specs.declared.kept.Kept.{Kept}
+use Rattle.vg_beam.specs.declared.met.Met.{Met}
+use Rattle.vg_beam.specs.Board.{Grows, IsBoard, IsOpened, no_pack, pack_at, produced_at, produced_by}
+use Rattle.vg_beam.specs.Candidate.{IsCandidate, IsGrown, AreGrown, grown_plan, grown_plans}
+use Rattle.vg_beam.specs.Chosen.{HaveShortPacks}
+use Rattle.vg_beam.specs.Kept.{IsKept, plan_of, plans_of}
+use Rattle.vg_beam.specs.Key.{AreApart, IsKey, Names, has_key, with_number}
+use Rattle.vg_beam.specs.Met.{IsMet, Meets, is_known}
+use Rattle.vg_beam.proofs.Boards.{at-along, grows-join, grows-same, inside-along, names-along}
+use Rattle.vg_beam.proofs.Growing.{HasPrice, flat-snoc, grown-known, grown-new, grown-refused, grown-step}
+use Rattle.vg_beam.proofs.Keys.{key-longer, same-key}
+use Rattle.vg_beam.proofs.Numbers.{every-any, every-at, has-at, key-grow, key-none, names-join, zero-at}
+
+all-last : (plan : List Packed) (p : Packed) → AllByRecursion IsShort (plan ++ p ∷ []) → IsShort p
+all-last [] p a = a.0
+all-last (q ∷ plan) p a = all-last plan p a.1
+
+any-snoc : {X : Type 0} (test : X → Bool) (xs : List X) (x : X) → list_any test (xs ++ x ∷ []) ≡ (test x || list_any test xs)
+any-snoc test [] x = refl
+any-snoc test (y ∷ xs) x = ap (λ b. test y || b) (any-snoc test xs x) ∙ turn (test y) (test x) (list_any test xs)
+  where
+    turn : (a b c : Bool) → (a || (b || c)) ≡ (b || (a || c))
+    turn true true c = refl
+    turn true false c = refl
+    turn false b c = refl
+
+module _ (ds : List Description) (matches : List Match) (ssa : Ssa) (deps : List (ℕ × ℕ)) where
+  abbrev world : World Packed Operand Operand
+  world = packing ds matches ssa deps
+
+  pub plan-free : NameEarlierUnits ssa deps → (plan : List Packed) → IsPlanFor ds matches ssa deps plan → IsFree matches ssa deps plan
+  plan-free earlier _ empty = free-first matches ssa deps earlier.earlier
+  plan-free earlier _ (more plan p is h) =
+      let t = (from-filter (stays_plan world plan) p (tried world plan) h).1 in
+      pushed-free ds matches ssa deps plan plan (plan ++ p ∷ []) p true refl (sym t ∙ stays-any ds matches ssa deps plan p) refl refl
+
+  pub longer-plan : (plan : List Packed) (p : Packed) → IsPlanFor ds matches ssa deps plan → Has p (tried world plan)
+      → stays_plan (packing [] matches ssa deps) plan p ≡ true → IsPlanFor ds matches ssa deps (plan ++ p ∷ [])
+  longer-plan plan p is h t =
+      more plan p is (has-filter (stays_plan world plan) p (tried world plan) h (stays-any ds matches ssa deps plan p ∙ t))
+
+  pub overlap-stays : (plan : List Packed) (p : Packed) → list_any (is_in_plan plan) (units_of p) ≡ true
+      → stays_plan (packing [] matches ssa deps) plan p ≡ false
+  overlap-stays plan p t = rw t refl
+
+  pub last-short : HaveShortPacks ds matches ssa deps → (plan : List Packed) (p : Packed) → IsPlanFor ds matches ssa deps (plan ++ p ∷ []) → IsShort p
+  last-short short plan p is = all-last plan p (short (plan ++ p ∷ []) is)
+
+  -- ---- meeting
+
+  module _ (packs : List Packed) (level : List Kept) where
+    pub meets-none : (plan : List Packed) (m : Met) → IsMet ds matches ssa deps packs level m
+        → Meets ds matches ssa deps packs level plan [] m m
+    meets-none plan m is = record { met = is; plans = refl }
+
+    pub meets-known : (plan : List Packed) (p : Packed) (m : Met) (key : List ℕ) → IsMet ds matches ssa deps packs level m
+        → IsKey no_pack packs key (plan ++ p ∷ []) → is_known m key ≡ true
+        → Meets ds matches ssa deps packs level plan (p ∷ []) m m
+    meets-known plan p m key is k t = record {
+      met = is;
+      plans = grown-known (stays_plan world plan) (same_packs world) plan (grown_plans packs level m.candidates.items) p
+          (sym (is.known key (plan ++ p ∷ []) k) ∙ t);
+    }
+
+    pub meets-refused : (plan : List Packed) (p : Packed) (m : Met) → IsMet ds matches ssa deps packs level m
+        → stays_plan (packing [] matches ssa deps) plan p ≡ false
+        → Meets ds matches ssa deps packs level plan (p ∷ []) m m
+    meets-refused plan p m is f = record {
+      met = is;
+      plans = grown-refused (stays_plan world plan) (same_packs world) plan (grown_plans packs level m.candidates.items) p
+          (stays-any ds matches ssa deps plan p ∙ f);
+    }
+
+    pub meets-new : (plan : List Packed) (p : Packed) (old new : Met) (key : List ℕ) (c : Candidate) → AreApart no_pack packs
+        → IsMet ds matches ssa deps packs level old
+        → IsKey no_pack packs key (plan ++ p ∷ []) → is_known old key ≡ false
+        → stays_plan (packing [] matches ssa deps) plan p ≡ true
+        → new.candidates.items ≡ old.candidates.items ++ c ∷ []
+        → ((q : List ℕ) → is_known new q ≡ (bytes_eq q key || is_known old q))
+        → grown_plan packs level c ≡ plan ++ p ∷ []
+        → IsCandidate ds matches ssa deps packs level c
+        → Meets ds matches ssa deps packs level plan (p ∷ []) old new
+    meets-new plan p old new key c apart is k f t items known e candidate =
+        let whole : grown_plans packs level new.candidates.items ≡ grown_plans packs level old.candidates.items ++ (plan ++ p ∷ []) ∷ [] =
+        ap (grown_plans packs level) items ∙ map-append (grown_plan packs level) old.candidates.items (c ∷ [])
+        ∙ ap (λ q. grown_plans packs level old.candidates.items ++ q ∷ []) e in
+        record {
+          met = record {
+            candidates = subst (Every (IsCandidate ds matches ssa deps packs level)) (sym items)
+                (every-append (IsCandidate ds matches ssa deps packs level) old.candidates.items (c ∷ []) is.candidates (candidate, tt));
+            known = λ q other j.
+                known q
+                ∙ ap (λ b. b || is_known old q) (same-key world (is-packing ds matches ssa deps) no_pack packs apart q key other (plan ++ p ∷ []) j k)
+                ∙ ap (λ b. same_packs world other (plan ++ p ∷ []) || b) (is.known q other j)
+                ∙ sym (any-snoc (same_packs world other) (grown_plans packs level old.candidates.items) (plan ++ p ∷ []))
+                ∙ ap (list_any (same_packs world other)) (sym whole);
+          };
+          plans = whole ∙ grown-new (stays_plan world plan) (same_packs world) plan (grown_plans packs level old.candidates.items) p
+              (stays-any ds matches ssa deps plan p ∙ t) (sym (is.known key (plan ++ p ∷ []) k) ∙ f);
+        }
+
+    pub met-first : (m : Met) → m.candidates.items ≡ [] → m.keys.keys ≡ [] → IsMet ds matches ssa deps packs level m
+    met-first m none keys = record {
+      candidates = subst (Every (IsCandidate ds matches ssa deps packs level)) (sym none) tt;
+      known = λ q other j.
+          ap (λ ks. has_key (λ k. k.items) ks q) keys
+          ∙ sym (ap (λ cs. list_any (same_packs world other) (grown_plans packs level cs)) none);
+    }
+
+    pub meets-step : (plan : List Packed) (numbers : List ℕ) (i n : ℕ) (old mid new : Met) → i < length numbers → n ≡ get_or numbers i n
+        → Meets ds matches ssa deps packs level plan (map (pack_at packs) (take i numbers)) old mid
+        → Meets ds matches ssa deps packs level plan (pack_at packs n ∷ []) mid new
+        → Meets ds matches ssa deps packs level plan (map (pack_at packs) (take (i + 1) numbers)) old new
+    meets-step plan numbers i n old mid new l is a b = record {
+      met = b.met;
+      plans = grown-step (stays_plan world plan) (same_packs world) plan (pack_at packs) numbers i n
+          (grown_plans packs level old.candidates.items) (grown_plans packs level mid.candidates.items) (grown_plans packs level new.candidates.items)
+          l is a.plans b.plans;
+    }
+
+    pub meets-end : (plan : List Packed) (numbers : List ℕ) (i : ℕ) (old new : Met) → length numbers ≤ i
+        → Names no_pack packs numbers (tried world plan)
+        → Meets ds matches ssa deps packs level plan (map (pack_at packs) (take i numbers)) old new
+        → Meets ds matches ssa deps packs level plan (tried world plan) old new
+    meets-end plan numbers i old new l names a =
+        subst (λ ps. Meets ds matches ssa deps packs level plan ps old new) (ap (map (pack_at packs)) (take-whole i numbers l) ∙ names.names) a
+
+    -- a number that is tried
+    pub number-tried : (plan : List Packed) (numbers : List ℕ) (i : ℕ) → i < length numbers → Names no_pack packs numbers (tried world plan)
+        → (get_or numbers i 0 < length packs) × Has (pack_at packs (get_or numbers i 0)) (tried world plan)
+    number-tried plan numbers i l names = (
+      every-at (λ n. n < length packs) numbers i (get_or numbers i 0) names.inside l (zero-at numbers i l),
+      subst (Has (pack_at packs (get_or numbers i 0))) names.names
+          (has-map (pack_at packs) (get_or numbers i 0) numbers (has-at numbers i (get_or numbers i 0) l (zero-at numbers i l))),
+    )
+
+    -- a candidate that is met
+    pub is-candidate : (parent pack cost : ℕ) (plan : List Packed) (r : Running) → parent < length level → pack < length packs
+        → plan ≡ get_or (plans_of level) parent [] → IsPlanFor ds matches ssa deps (plan ++ pack_at packs pack ∷ [])
+        → r.packs.items ≡ plan ++ pack_at packs pack ∷ [] → StandsFor ds matches ssa r → cost ≡ r.cost
+        → IsCandidate ds matches ssa deps packs level (record { parent = parent; pack = pack; cost = cost })
+    is-candidate parent pack cost plan r l m e is q s price =
+        let whole : plan ++ pack_at packs pack ∷ [] ≡ get_or (plans_of level) parent [] ++ pack_at packs pack ∷ [] = ap (λ l. l ++ pack_at packs pack ∷ []) e in
+        record {
+          parent = l;
+          pack = m;
+          plan = subst (IsPlanFor ds matches ssa deps) whole is;
+          cost = price ∙ s.cost deps ∙ ap (cost_of ds matches ssa deps) (q ∙ whole);
+        }
+
+  -- ---- growing
+
+  pub kept-along : (packs longer : List Packed) (k : Kept) → Grows packs longer → IsKept ds matches ssa deps packs k → IsKept ds matches ssa deps longer k
+  kept-along packs longer k g is = record {
+    plan = is.plan;
+    stands = is.stands;
+    key = subst (λ l. IsKey no_pack l k.key (plan_of k)) (sym g.1) (key-grow no_pack packs g.0 k.key (plan_of k) is.key);
+    tried = names-along packs longer k.tried (tried world (plan_of k)) g is.tried;
+  }
+
+  pub all-along : (packs longer : List Packed) (ks : List Kept) → Grows packs longer → Every (IsKept ds matches ssa deps packs) ks
+      → Every (IsKept ds matches ssa deps longer) ks
+  all-along packs longer [] g a = tt
+  all-along packs longer (k ∷ ks) g a = (kept-along packs longer k g a.0, all-along packs longer ks g a.1)
+
+  pub grown-along : (packs longer : List Packed) (level : List Kept) (c : Candidate) → Grows packs longer → c.pack < length packs
+      → grown_plan longer level c ≡ grown_plan packs level c
+  grown-along packs longer level c g l = ap (λ p. get_or (plans_of level) c.parent [] ++ p ∷ []) (at-along packs longer c.pack g l)
+
+  pub candidate-along : (packs longer : List Packed) (level : List Kept) (c : Candidate) → Grows packs longer
+      → IsCandidate ds matches ssa deps packs level c → IsCandidate ds matches ssa deps longer level c
+  candidate-along packs longer level c g is =
+      let e = grown-along packs longer level c g is.pack in
+      record {
+        parent = is.parent;
+        pack = inside-along packs longer c.pack g is.pack;
+        plan = subst (IsPlanFor ds matches ssa deps) (sym e) is.plan;
+        cost = is.cost ∙ ap (cost_of ds matches ssa deps) (sym e);
+      }
+
+  pub kept-grown : (old new : Board) (k next : Kept) (n : ℕ) → n < length old.packs.items → IsKept ds matches ssa deps old.packs.items k
+      → IsOpened ds matches ssa old new n
+      → plan_of next ≡ plan_of k ++ pack_at old.packs.items n ∷ [] → StandsFor ds matches ssa next.running
+      → IsPlanFor ds matches ssa deps (plan_of k ++ pack_at old.packs.items n ∷ [])
+      → next.key ≡ with_number n k.key → next.tried ≡ k.tried ++ produced_at new n
+      → IsKept ds matches ssa deps new.packs.items next
+  kept-grown old new k next n l is o e stands plan key numbers =
+      let there = kept-along old.packs.items new.packs.items k o.grows is in
+      let p = pack_at old.packs.items n in
+      let same : pack_at new.packs.items n ≡ p = at-along old.packs.items new.packs.items n o.grows l in
+      let behind : tried world (plan_of k ++ p ∷ []) ≡ tried world (plan_of k) ++ produced_by ds matches ssa p =
+      ap (λ q. world.groups ++ q) (flat-snoc (produced_by ds matches ssa) (plan_of k) p)
+      ∙ sym (append_assoc world.groups (flat_map (produced_by ds matches ssa) (plan_of k)) (produced_by ds matches ssa p)) in
+      record {
+        plan = subst (IsPlanFor ds matches ssa deps) (sym e) plan;
+        stands = stands;
+        key = subst (λ q. IsKey no_pack new.packs.items next.key q) (sym e)
+            (subst (λ q. IsKey no_pack new.packs.items q (plan_of k ++ p ∷ [])) (sym key)
+            (subst (λ q. IsKey no_pack new.packs.items (with_number n k.key) (plan_of k ++ q ∷ [])) same
+            (key-longer no_pack new.packs.items k.key (plan_of k) n there.key (inside-along old.packs.items new.packs.items n o.grows l))));
+        tried = subst (λ q. Names no_pack new.packs.items next.tried (tried world q)) (sym e)
+            (subst (λ q. Names no_pack new.packs.items q (tried world (plan_of k ++ p ∷ []))) (sym numbers)
+            (subst (Names no_pack new.packs.items (k.tried ++ produced_at new n)) (sym behind)
+            (names-join no_pack new.packs.items k.tried (produced_at new n) (tried world (plan_of k)) (produced_by ds matches ssa p) there.tried o.produced)));
+      }
+
+  pub kept-first : (packs : List Packed) (k : Kept) (groups : List Packed) → plan_of k ≡ [] → StandsFor ds matches ssa k.running
+      → k.key ≡ [] → Names no_pack packs k.tried groups → groups ≡ store_groups ssa → IsKept ds matches ssa deps packs k
+  kept-first packs k groups e stands key names g = record {
+    plan = subst (IsPlanFor ds matches ssa deps) (sym e) empty;
+    stands = stands;
+    key = subst (λ q. IsKey no_pack packs k.key q) (sym e) (subst (λ q. IsKey no_pack packs q []) (sym key) (key-none no_pack packs));
+    tried = subst (λ q. Names no_pack packs k.tried (tried world q)) (sym e)
+        (subst (Names no_pack packs k.tried) (g ∙ sym (append-nil (store_groups ssa))) names);
+  }
+
+  pub grown-first : (b : Board) (level : List Kept) (ks : List Kept) → ks ≡ [] → IsBoard ds matches ssa b
+      → AreGrown ds matches ssa deps b b level [] ks
+  grown-first b level ks e is = record {
+    board = is;
+    grows = grows-same b.packs.items;
+    kept = subst (Every (IsKept ds matches ssa deps b.packs.items)) (sym e) tt;
+    plans = ap plans_of e;
+  }
+
+  pub grown-more : (first mid new : Board) (level : List Kept) (cs : List Candidate) (i : ℕ) (d : Candidate) (ks next : List Kept) (k : Kept)
+      → i < length cs → AreGrown ds matches ssa deps first mid level (take i cs) ks
+      → IsGrown ds matches ssa deps mid new level (get_or cs i d) k → Every (IsCandidate ds matches ssa deps first.packs.items level) cs → next ≡ ks ++ k ∷ []
+      → AreGrown ds matches ssa deps first new level (take (i + 1) cs) next
+  grown-more first mid new level cs i d ks next k l a b all e =
+      let c = get_or cs i d in
+      let candidate = every-any (IsCandidate ds matches ssa deps first.packs.items level) cs i d all l in
+      let more : take (i + 1) cs ≡ take i cs ++ c ∷ [] = take_more cs i d l in
+      let plan : plan_of k ≡ grown_plan first.packs.items level c =
+      b.plan ∙ grown-along first.packs.items mid.packs.items level c a.grows candidate.pack in
+      record {
+        board = b.board;
+        grows = grows-join first.packs.items mid.packs.items new.packs.items a.grows b.grows;
+        kept = subst (Every (IsKept ds matches ssa deps new.packs.items)) (sym e)
+            (every-append (IsKept ds matches ssa deps new.packs.items) ks (k ∷ [])
+            (all-along mid.packs.items new.packs.items ks b.grows a.kept) (b.kept, tt));
+        plans =
+            ap plans_of e ∙ map-append plan_of ks (k ∷ []) ∙ ap (λ q. q ++ plan_of k ∷ []) a.plans
+            ∙ ap (λ q. grown_plans first.packs.items level (take i cs) ++ q ∷ []) plan
+            ∙ sym (ap (grown_plans first.packs.items level) more ∙ map-append (grown_plan first.packs.items level) (take i cs) (c ∷ []));
+      }
+
+  pub grown-all : (old new : Board) (level : List Kept) (cs : List Candidate) (i : ℕ) (ks : List Kept) → length cs ≤ i
+      → AreGrown ds matches ssa deps old new level (take i cs) ks → AreGrown ds matches ssa deps old new level cs ks
+  grown-all old new level cs i ks l a = subst (λ q. AreGrown ds matches ssa deps old new level q ks) (take-whole i cs l) a
+
+  -- ---- the least of candidates
+
+  pub each-priced : (packs : List Packed) (level : List Kept) (cs : List Candidate) → Every (IsCandidate ds matches ssa deps packs level) cs
+      → Every (HasPrice (grown_plan packs level) (λ (c : Candidate). c.cost) (cost_of ds matches ssa deps)) cs
+  each-priced packs level [] a = tt
+  each-priced packs level (c ∷ cs) a = (a.0.cost, each-priced packs level cs a.1)

@@ -1,0 +1,6 @@
+pub mod Boards
+pub mod Candidates
+pub mod Chosen
+pub mod Growing
+pub mod Keys
+pub mod Numbers

@@ -1,0 +1,16 @@
+use Rattle.std.proofs.Common.{map}
+use Rattle.vg_shapes.specs.Description.{description_of}
+use Rattle.vg_beam.proofs.Chosen.{by-sizes, is-chosen}
+use Rattle.vg_beam.proofs.choosing.choose.Goals as goal
+
+pub returns-clause-plan : goal.returns-clause-plan
+returns-clause-plan c =
+    by-sizes (map description_of c.args.descriptions.now) c.args.table.now c.args.ssa.now c.args.deps.now c.args.width c.in_ok-plan.plan
+    c.sizes_of-sizes.result c.sizes_of-sizes.ensures c.in_ok-plan.ensures
+
+pub returns-clause-chosen : goal.returns-clause-chosen
+returns-clause-chosen c =
+    is-chosen (map description_of c.args.descriptions.now) c.args.table.now c.args.ssa.now c.args.deps.now c.args.width
+    c.chosen_plans_fit.ensures c.chosen_plans_are_optimal.ensures c.kernel_plans_are_short.ensures c.in_ok-plan.plan
+    (by-sizes (map description_of c.args.descriptions.now) c.args.table.now c.args.ssa.now c.args.deps.now c.args.width c.in_ok-plan.plan
+    c.sizes_of-sizes.result c.sizes_of-sizes.ensures c.in_ok-plan.ensures)

@@ -1,0 +1,64 @@
+use Rattle.std.proofs.Common.{◌≡◌, ◌∙◌, ◌++◌, ◌∷◌, [], ap, arith, map, subst, sym}
+use Rattle.vg_packing.specs.Laws.{cost_of}
+use Rattle.vg_packing.specs.Packing.{packing, plain_of}
+use Rattle.vg_plans.proofs.Lists.{every-kept}
+use Rattle.vg_plans.specs.Levels.{candidates, chosen, first_least, kept_of}
+use Rattle.vg_plans.specs.Members.{Every}
+use Rattle.vg_plans.specs.World.{follows, same_packs}
+use Rattle.vg_shapes.specs.Description.{description_of}
+use Rattle.vg_beam.specs.declared.candidate.Candidate.{Candidate}
+use Rattle.vg_beam.specs.Candidate.{IsCandidate, grown_plan, grown_plans}
+use Rattle.vg_beam.specs.Kept.{IsKept, plans_of}
+use Rattle.vg_beam.proofs.Candidates.{each-priced}
+use Rattle.vg_beam.proofs.Growing.{first-best, first-level, map-kept, next-best, next-level}
+use Rattle.vg_beam.proofs.choosing.search.Goals as goal
+
+pub sizes-init : goal.sizes-init
+sizes-init c =
+    let w = packing (map description_of c.args.descriptions.now) c.args.table.now c.args.ssa.now c.args.deps.now in
+    let one = c.in_ok-push.ensures.items ∙ ap (λ l. l ++ c.in_ok-empty.empty ∷ []) c.new-level.ensures.items in
+    record {
+      board = c.in_ok-empty.ensures.board;
+      kept = subst (Every (IsKept (map description_of c.args.descriptions.now) c.args.table.now c.args.ssa.now c.args.deps.now c.empty_plan.new.board.packs.items)) (sym one) (c.in_ok-empty.ensures.kept c.args.deps.now, tt);
+      level = first-level (follows w) (same_packs w) (cost_of (map description_of c.args.descriptions.now) c.args.table.now c.args.ssa.now c.args.deps.now) c.args.width (plans_of c.push.new.self.items)
+          (ap plans_of one ∙ ap (λ p. p ∷ []) c.in_ok-empty.ensures.plan);
+      best = first-best (follows w) (same_packs w) (cost_of (map description_of c.args.descriptions.now) c.args.table.now c.args.ssa.now c.args.deps.now) c.args.width (plain_of (map description_of c.args.descriptions.now) c.args.table.now c.args.ssa.now c.args.deps.now) c.args.first.plan c.requires.plan;
+      cost = c.requires.cost;
+    }
+
+pub grow_all-requires-clause-candidates : goal.grow_all-requires-clause-candidates
+grow_all-requires-clause-candidates c =
+    let is = IsCandidate (map description_of c.args.descriptions.now) c.args.table.now c.args.ssa.now c.args.deps.now c.sizes.board.packs.items c.as_slice-plans.result.now in
+    subst (Every is) (sym (c.as_slice-in-sizes.ensures.value ∙ c.in_ok-kept.ensures))
+    (every-kept is (λ (q : Candidate). q.cost) c.args.width c.in_ok-met.met.items c.in_ok-met.ensures.candidates)
+
+pub sizes-preserved : goal.sizes-preserved
+sizes-preserved c =
+    let w = packing (map description_of c.args.descriptions.now) c.args.table.now c.args.ssa.now c.args.deps.now in
+    let i = c.sizes.invariant in
+    let packs = c.sizes.board.packs.items in
+    let plans = c.as_slice-plans.result.now in
+    let met = c.in_ok-met.met.items in
+    let seen = c.as_slice-plans.ensures.value in
+    let found = c.in_ok-met.ensures.plans ∙ ap (λ l. candidates (follows w) (same_packs w) (plans_of l)) seen in
+    let kept =
+    c.in_ok-next.ensures.plans ∙ ap (grown_plans packs plans) (c.as_slice-in-sizes.ensures.value ∙ c.in_ok-kept.ensures)
+    ∙ map-kept (grown_plan packs plans) (λ (q : Candidate). q.cost) (cost_of (map description_of c.args.descriptions.now) c.args.table.now c.args.ssa.now c.args.deps.now) c.args.width met (each-priced (map description_of c.args.descriptions.now) c.args.table.now c.args.ssa.now c.args.deps.now packs plans met c.in_ok-met.ensures.candidates)
+    ∙ ap (kept_of (cost_of (map description_of c.args.descriptions.now) c.args.table.now c.args.ssa.now c.args.deps.now) c.args.width) found in
+    let better =
+    c.in_ok-better.ensures.plan
+    ∙ ap (first_least (cost_of (map description_of c.args.descriptions.now) c.args.table.now c.args.ssa.now c.args.deps.now) c.sizes.best.plan) (ap (grown_plans packs plans) c.as_slice.ensures.value ∙ found) in
+    record {
+      board = c.in_ok-next.ensures.board;
+      kept = c.in_ok-next.ensures.kept;
+      level = next-level (follows w) (same_packs w) (cost_of (map description_of c.args.descriptions.now) c.args.table.now c.args.ssa.now c.args.deps.now) c.args.width c.sizes._size (plans_of c.sizes.level.items) (plans_of c.in_ok-next.next.items) i.level kept;
+      best = next-best (follows w) (same_packs w) (cost_of (map description_of c.args.descriptions.now) c.args.table.now c.args.ssa.now c.args.deps.now) c.args.width c.sizes._size (plans_of c.sizes.level.items) (plain_of (map description_of c.args.descriptions.now) c.args.table.now c.args.ssa.now c.args.deps.now) c.sizes.best.plan c.in_ok-better.better.plan
+          i.level i.best better;
+      cost = c.in_ok-better.ensures.cost;
+    }
+
+pub returns : goal.returns
+returns c =
+    let w = packing (map description_of c.args.descriptions.now) c.args.table.now c.args.ssa.now c.args.deps.now in
+    let e : c.sizes._size ≡ c.args.sizes = omega (arith, c.sizes-test.false, c.sizes.auto._size-end) in
+    c.sizes.invariant.best ∙ ap (λ n. chosen (follows w) (same_packs w) (cost_of (map description_of c.args.descriptions.now) c.args.table.now c.args.ssa.now c.args.deps.now) c.args.width n (plain_of (map description_of c.args.descriptions.now) c.args.table.now c.args.ssa.now c.args.deps.now)) e

@@ -1,0 +1,38 @@
+use Rattle.std.proofs.Common.{arith, ap, map}
+use Rattle.vg_packing.specs.Packing.{packing}
+use Rattle.vg_plans.proofs.Lists.{every-has}
+use Rattle.vg_plans.specs.World.{follows, same_packs}
+use Rattle.vg_shapes.specs.Description.{description_of}
+use Rattle.vg_beam.specs.Candidate.{grown_plans}
+use Rattle.vg_beam.specs.Kept.{IsKept, plan_of, plans_of}
+use Rattle.vg_beam.proofs.Candidates.{met-first}
+use Rattle.vg_beam.proofs.Growing.{plans-end, plans-step}
+use Rattle.vg_beam.proofs.Numbers.{length-map}
+use Rattle.vg_beam.proofs.search.candidates.Goals as goal
+
+pub plans-init : goal.plans-init
+plans-init c = record {
+  met = met-first (map description_of c.args.descriptions.now) c.args.table.now c.args.ssa.now c.args.deps.now c.args.board.now.packs.items c.args.level.now
+      c.new-met.result c.new-met.ensures.candidates c.new-met.ensures.keys;
+  plans = ap (grown_plans c.args.board.now.packs.items c.args.level.now) c.new-met.ensures.candidates;
+}
+
+pub meet_all-requires-clause-kept : goal.meet_all-requires-clause-kept
+meet_all-requires-clause-kept c =
+    every-has (IsKept (map description_of c.args.descriptions.now) c.args.table.now c.args.ssa.now c.args.deps.now c.args.board.now.packs.items) _ c.args.level.now c.requires.level c.kept_at-kept.ensures.member
+
+pub plans-preserved : goal.plans-preserved
+plans-preserved c =
+    let w = packing (map description_of c.args.descriptions.now) c.args.table.now c.args.ssa.now c.args.deps.now in
+    record {
+      met = c.in_ok-meet_all.ensures.met;
+      plans = plans-step (follows w) (same_packs w) (plans_of c.args.level.now) c.plans.parent (plan_of c.kept_at-kept.result.now) _ _
+          (omega (arith, c.plans-test.true, length-map plan_of c.args.level.now)) c.kept_at-kept.ensures.plan
+          c.plans.invariant.plans c.in_ok-meet_all.ensures.plans;
+    }
+
+pub returns-clause-plans : goal.returns-clause-plans
+returns-clause-plans c =
+    let w = packing (map description_of c.args.descriptions.now) c.args.table.now c.args.ssa.now c.args.deps.now in
+    plans-end (follows w) (same_packs w) (plans_of c.args.level.now) c.plans.parent _
+    (omega (arith, c.plans-test.false, length-map plan_of c.args.level.now)) c.plans.invariant.plans

@@ -1,0 +1,49 @@
+-- Plans that are met: a plan that was kept with a pack behind it.
+use Rattle.std.specs.Prelude.{◌≡◌, ◌<◌, ◌++◌, ◌∷◌, ℕ, List, [], length, get_or, map}
+use Rattle.vg_packing.specs.Laws.{IsPlanFor, cost_of}
+use Rattle.vg_plans.specs.Members.{Every}
+use Rattle.vg_shapes.specs.declared.match_table.Match.{Match}
+use Rattle.vg_shapes.specs.declared.pack.Pack.{Pack as Packed}
+use Rattle.vg_shapes.specs.declared.ssa.Ssa.{Ssa}
+use Rattle.vg_shapes.specs.Description.{Description}
+use Rattle.vg_beam.specs.declared.candidate.Candidate.{Candidate}
+use Rattle.vg_beam.specs.declared.kept.Kept.{Kept}
+use Rattle.vg_beam.specs.declared.board.Board.{Board}
+use Rattle.vg_beam.specs.Board.{Grows, IsBoard, pack_at}
+use Rattle.vg_beam.specs.Kept.{IsKept, plan_of, plans_of}
+
+-- the plan of a candidate
+abbrev pub grown_plan : List Packed → List Kept → Candidate → List Packed
+grown_plan packs level c = get_or (plans_of level) c.parent [] ++ pack_at packs c.pack ∷ []
+
+abbrev pub grown_plans : List Packed → List Kept → List Candidate → List (List Packed)
+grown_plans packs level met = map (grown_plan packs level) met
+
+pub record IsCandidate
+    (ds : List Description) (matches : List Match) (ssa : Ssa) (deps : List (ℕ × ℕ))
+    (packs : List Packed) (level : List Kept) (c : Candidate)
+    : Type 0 where
+  pub parent : c.parent < length level
+  pub pack : c.pack < length packs
+  pub plan : IsPlanFor ds matches ssa deps (grown_plan packs level c)
+  pub cost : c.cost ≡ cost_of ds matches ssa deps (grown_plan packs level c)
+
+-- a candidate of a level is kept, on a board that grew
+pub record IsGrown
+    (ds : List Description) (matches : List Match) (ssa : Ssa) (deps : List (ℕ × ℕ))
+    (old new : Board) (level : List Kept) (c : Candidate) (k : Kept)
+    : Type 0 where
+  pub board : IsBoard ds matches ssa new
+  pub grows : Grows old.packs.items new.packs.items
+  pub kept : IsKept ds matches ssa deps new.packs.items k
+  pub plan : plan_of k ≡ grown_plan old.packs.items level c
+
+-- candidates of a level are kept, on a board that grew
+pub record AreGrown
+    (ds : List Description) (matches : List Match) (ssa : Ssa) (deps : List (ℕ × ℕ))
+    (old new : Board) (level : List Kept) (cs : List Candidate) (ks : List Kept)
+    : Type 0 where
+  pub board : IsBoard ds matches ssa new
+  pub grows : Grows old.packs.items new.packs.items
+  pub kept : Every (IsKept ds matches ssa deps new.packs.items) ks
+  pub plans : plans_of ks ≡ grown_plans old.packs.items level cs

@@ -1,0 +1,39 @@
+-- What the search promises of the plan that it chooses.
+use Rattle.std.specs.Prelude.{◌≤◌, ◌<◌, ℕ, List, [], length}
+use Rattle.std.specs.List.{AllByRecursion}
+use Rattle.vg_packing.specs.Laws.{IsPlanFor, MatchUnits, cost_of}
+use Rattle.vg_packing.specs.Packing.{packing, plain_of}
+use Rattle.vg_packing.specs.Taken.{IsShort}
+use Rattle.vg_plans.specs.Crowded.{Crowded}
+use Rattle.vg_plans.specs.World.{follows, same_packs}
+use Rattle.vg_shapes.specs.declared.match_table.Match.{Match}
+use Rattle.vg_shapes.specs.declared.pack.Pack.{Pack as Packed}
+use Rattle.vg_shapes.specs.declared.ssa.Ssa.{Ssa}
+use Rattle.vg_shapes.specs.Description.{Description}
+
+-- the packs of plans for a kernel have few lanes
+abbrev pub HaveShortPacks : List Description → List Match → Ssa → List (ℕ × ℕ) → Type 0
+HaveShortPacks ds matches ssa deps =
+    (plan : List Packed) → IsPlanFor ds matches ssa deps plan → AllByRecursion IsShort plan
+
+-- more than so many plans of this number of packs, no two of the same packs
+abbrev pub IsCrowded : List Description → List Match → Ssa → List (ℕ × ℕ) → ℕ → ℕ → Type 0
+IsCrowded ds matches ssa deps =
+    Crowded (follows (packing ds matches ssa deps)) (same_packs (packing ds matches ssa deps))
+
+-- A plan that costs at most as much as the plain and as the empty one. In a kernel of at most 256 units
+-- it costs at most as much as each plan where no lesser number of packs is crowded.
+pub record IsChosen
+    (ds : List Description) (matches : List Match) (ssa : Ssa) (deps : List (ℕ × ℕ)) (width : ℕ)
+    (chosen : List Packed)
+    : Type 0 where
+  pub plan : IsPlanFor ds matches ssa deps chosen
+  pub below_plain :
+      cost_of ds matches ssa deps chosen
+      ≤ cost_of ds matches ssa deps (plain_of ds matches ssa deps)
+  pub below_scalar : cost_of ds matches ssa deps chosen ≤ cost_of ds matches ssa deps []
+  pub optimal :
+      MatchUnits ssa matches → length ssa.units ≤ 256 →
+      (plan : List Packed) → IsPlanFor ds matches ssa deps plan →
+      ((size : ℕ) → size < length plan → IsCrowded ds matches ssa deps width size → ⊥) →
+      cost_of ds matches ssa deps chosen ≤ cost_of ds matches ssa deps plan

@@ -1,0 +1,29 @@
+-- Plans that are kept.
+use Rattle.std.specs.Prelude.{ℕ, List, map}
+use Rattle.vg_cost.specs.Running.{StandsFor}
+use Rattle.vg_packing.specs.Laws.{IsPlanFor}
+use Rattle.vg_packing.specs.Packing.{packing}
+use Rattle.vg_plans.specs.World.{tried}
+use Rattle.vg_shapes.specs.declared.match_table.Match.{Match}
+use Rattle.vg_shapes.specs.declared.pack.Pack.{Pack as Packed}
+use Rattle.vg_shapes.specs.declared.ssa.Ssa.{Ssa}
+use Rattle.vg_shapes.specs.Description.{Description}
+use Rattle.vg_beam.specs.declared.kept.Kept.{Kept}
+use Rattle.vg_beam.specs.Board.{no_pack}
+use Rattle.vg_beam.specs.Key.{IsKey, Names}
+
+abbrev pub plan_of : Kept → List Packed
+plan_of k = k.running.packs.items
+
+abbrev pub plans_of : List Kept → List (List Packed)
+plans_of level = map plan_of level
+
+-- a plan with its cost, its key, and the numbers of the packs that are tried behind it
+pub record IsKept
+    (ds : List Description) (matches : List Match) (ssa : Ssa) (deps : List (ℕ × ℕ))
+    (packs : List Packed) (k : Kept)
+    : Type 0 where
+  pub plan : IsPlanFor ds matches ssa deps (plan_of k)
+  pub stands : StandsFor ds matches ssa k.running
+  pub key : IsKey no_pack packs k.key (plan_of k)
+  pub tried : Names no_pack packs k.tried (tried (packing ds matches ssa deps) (plan_of k))

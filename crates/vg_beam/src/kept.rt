@@ -1,0 +1,149 @@
+//! Plans that are kept.
+
+ghost use Rattle.std.specs.Prelude.{◌≡◌, ◌<◌, ◌++◌, ◌∷◌, [], ℕ, IfOk, List, OnOk, get_or, length, map};
+ghost use Rattle.vg_packing.specs.Laws.{IsPlanFor};
+ghost use Rattle.vg_packing.specs.Taken.{MatchesNear};
+ghost use Rattle.vg_plans.specs.Members.{Every, Has};
+ghost use Rattle.vg_shapes.specs.Description.{description_of};
+ghost use Rattle.vg_beam.specs.Board.{IsBoard};
+ghost use Rattle.vg_beam.specs.Candidate.{AreGrown, IsCandidate, IsGrown};
+ghost use Rattle.vg_beam.specs.Chosen.{HaveShortPacks};
+ghost use Rattle.vg_beam.specs.Kept.{IsKept, plan_of, plans_of};
+
+use crate::board::Board;
+use crate::candidate::Candidate;
+use crate::key::with_number;
+use std::alloc::{AllocError, Global};
+use vg_base::Items;
+use vg_cost::Running;
+use vg_packs::store_groups;
+use vg_shapes::{DepList, Description, MatchTable, Ssa};
+
+/// A plan that may grow: the plan with its cost, the numbers of its packs, rising, and the numbers of
+/// the packs that are tried behind it.
+#[derive(Drop)]
+pub(crate) struct Kept {
+    pub(crate) running: Running,
+    pub(crate) key: Items<u32>,
+    pub(crate) tried: Items<u32>,
+}
+
+/// The plan at a place of a level.
+pub(crate) fn kept_at(level: &[Kept], place: usize) -> &Kept
+    requires { place < length level.now }
+    ensures member { Has result.now level.now }
+    ensures plan { plan_of result.now ≡ get_or (plans_of level.now) place [] }
+{
+    &level[place]
+}
+
+/// The empty plan, behind which the store groups are tried.
+pub(crate) fn empty_plan(
+    alloc: Global,
+    board: &mut Board,
+    descriptions: &[Description],
+    table: &MatchTable,
+    ssa: &Ssa,
+) -> Result<Kept, AllocError>
+    requires near { MatchesNear table.now }
+    requires board { IsBoard (map description_of descriptions.now) table.now ssa.now board.old }
+    ensures board { OnOk result (IsBoard (map description_of descriptions.now) table.now ssa.now
+        board.new) }
+    ensures kept { IfOk result (λ kept. (deps : List (ℕ × ℕ)) →
+        IsKept (map description_of descriptions.now) table.now ssa.now deps
+        board.new.packs.items kept) }
+    ensures plan { IfOk result (λ kept. plan_of kept ≡ []) }
+{
+    let running = Running::new(alloc, descriptions, table, ssa)?;
+    let groups = store_groups(alloc, ssa)?;
+    let tried = board.number_all(alloc, groups.as_slice(), descriptions, table, ssa)?;
+    Ok(Kept {
+        running,
+        key: Items::from_vec(Vec::new(alloc)),
+        tried: Items::from_vec(tried),
+    })
+}
+
+/// Two lists, one behind the other.
+fn joined(alloc: Global, first: &[u32], second: &[u32]) -> Result<Items<u32>, AllocError>
+    ensures { IfOk result (λ both. both ≡ first.now ++ second.now) }
+{
+    let mut both = first.to_vec(alloc)?;
+    both.extend_from_slice(second)?;
+    Ok(Items::from_vec(both))
+}
+
+/// The plan of a candidate of a level.
+fn grow(
+    alloc: Global,
+    board: &mut Board,
+    level: &[Kept],
+    candidate: &Candidate,
+    descriptions: &[Description],
+    table: &MatchTable,
+    ssa: &Ssa,
+    _deps: &DepList,
+) -> Result<Kept, AllocError>
+    requires near { MatchesNear table.now }
+    requires short { HaveShortPacks (map description_of descriptions.now) table.now ssa.now
+        _deps.now }
+    requires board { IsBoard (map description_of descriptions.now) table.now ssa.now board.old }
+    requires level { Every (IsKept (map description_of descriptions.now) table.now ssa.now
+        _deps.now board.old.packs.items) level.now }
+    requires candidate { IsCandidate (map description_of descriptions.now) table.now ssa.now
+        _deps.now board.old.packs.items level.now candidate.now }
+    ensures { IfOk result (IsGrown (map description_of descriptions.now) table.now ssa.now
+        _deps.now board.old board.new level.now candidate.now) }
+{
+    let parent = kept_at(level, candidate.parent);
+    let pack = board.pack(candidate.pack);
+    let running = parent.running.with(alloc, pack, descriptions, table, ssa)?;
+    let key = with_number(alloc, parent.key.as_slice(), candidate.pack)?;
+    board.open(alloc, candidate.pack, descriptions, table, ssa)?;
+    let produced = board.produced(candidate.pack);
+    let tried = joined(alloc, parent.tried.as_slice(), produced)?;
+    Ok(Kept {
+        running,
+        key: Items::from_vec(key),
+        tried,
+    })
+}
+
+/// The plans of candidates of a level.
+pub(crate) fn grow_all(
+    alloc: Global,
+    board: &mut Board,
+    level: &[Kept],
+    candidates: &[Candidate],
+    descriptions: &[Description],
+    table: &MatchTable,
+    ssa: &Ssa,
+    _deps: &DepList,
+) -> Result<Vec<Kept>, AllocError>
+    requires near { MatchesNear table.now }
+    requires short { HaveShortPacks (map description_of descriptions.now) table.now ssa.now
+        _deps.now }
+    requires board { IsBoard (map description_of descriptions.now) table.now ssa.now board.old }
+    requires level { Every (IsKept (map description_of descriptions.now) table.now ssa.now
+        _deps.now board.old.packs.items) level.now }
+    requires candidates { Every (IsCandidate (map description_of descriptions.now) table.now
+        ssa.now _deps.now board.old.packs.items level.now) candidates.now }
+    ensures { IfOk result (λ next. AreGrown (map description_of descriptions.now) table.now
+        ssa.now _deps.now board.old board.new level.now candidates.now next.items) }
+{
+    let mut next = Vec::new(alloc);
+    'candidates: for candidate in candidates {
+        let kept = grow(
+            alloc,
+            board,
+            level,
+            candidate,
+            descriptions,
+            table,
+            ssa,
+            _deps,
+        )?;
+        next.push(kept)?;
+    }
+    Ok(next)
+}

@@ -1,0 +1,18 @@
+//! The search for the plan of a kernel that is emitted: plans grow by one pack at a time, at most so
+//! many of each size are kept, and the first of the least cost is chosen.
+//!
+//! `specs/Chosen.antt` says what is promised of the chosen plan. The plan itself is defined in
+//! `vg_packing`; `specs/Board.antt`, `specs/Kept.antt` and `specs/Met.antt` say what the search keeps.
+#![tactic(auto)]
+
+mod board;
+mod candidate;
+mod choosing;
+mod kept;
+mod key;
+mod met;
+mod packs;
+mod priced_plan;
+mod search;
+
+pub use choosing::choose;

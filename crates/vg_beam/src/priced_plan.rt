@@ -1,0 +1,117 @@
+//! A plan and its cost.
+
+ghost use Rattle.std.specs.Prelude.{◌≡◌, ◌<◌, ◌++◌, ◌∷◌, [], ℕ, IfOk, List, get_or, length, map};
+ghost use Rattle.std.specs.List.{AllByRecursion};
+ghost use Rattle.vg_packing.specs.Laws.{cost_of};
+ghost use Rattle.vg_packing.specs.Packing.{plain_of};
+ghost use Rattle.vg_packing.specs.Taken.{IsShort, MatchesNear};
+ghost use Rattle.vg_packs.specs.Walk.{NameEarlierUnits};
+ghost use Rattle.vg_plans.specs.Levels.{first_least};
+ghost use Rattle.vg_plans.specs.Members.{Every};
+ghost use Rattle.vg_shapes.specs.Description.{description_of};
+ghost use Rattle.vg_beam.specs.Candidate.{IsCandidate, grown_plan, grown_plans};
+ghost use Rattle.vg_beam.specs.Chosen.{HaveShortPacks};
+
+use crate::board::Board;
+use crate::candidate::{Candidate, least_below};
+use crate::kept::{Kept, kept_at};
+use crate::packs::{copy_pack, copy_packs};
+use std::alloc::{AllocError, Global};
+use vg_cost::plan_cost;
+use vg_packs::plain_plan;
+use vg_shapes::{DepList, Description, MatchTable, Plan, Ssa};
+
+/// A plan and its cost.
+#[derive(Drop)]
+pub(crate) struct PricedPlan {
+    pub(crate) plan: Plan,
+    pub(crate) cost: u64,
+}
+
+/// The empty plan, or the plain plan where that costs less.
+pub(crate) fn first_plan(
+    alloc: Global,
+    descriptions: &[Description],
+    table: &MatchTable,
+    ssa: &Ssa,
+    deps: &DepList,
+) -> Result<PricedPlan, AllocError>
+    requires near { MatchesNear table.now }
+    requires earlier { NameEarlierUnits ssa.now deps.now }
+    requires short { HaveShortPacks (map description_of descriptions.now) table.now ssa.now
+        deps.now }
+    ensures plan { IfOk result (λ first. first.plan ≡ first_least (cost_of (map description_of
+        descriptions.now) table.now ssa.now deps.now) [] (plain_of (map description_of
+        descriptions.now) table.now ssa.now deps.now ∷ [])) }
+    ensures cost { IfOk result (λ first. first.cost ≡ cost_of (map description_of
+        descriptions.now) table.now ssa.now deps.now first.plan) }
+{
+    let packs = plain_plan(alloc, descriptions, table, ssa, deps)?;
+    let plain = Plan::from_vec(packs);
+    let empty = Plan::from_vec(Vec::new(alloc));
+    let plain_cost = plan_cost(alloc, &plain, descriptions, table, ssa)?;
+    let empty_cost = plan_cost(alloc, &empty, descriptions, table, ssa)?;
+    if plain_cost < empty_cost {
+        Ok(PricedPlan {
+            plan: plain,
+            cost: plain_cost,
+        })
+    } else {
+        Ok(PricedPlan {
+            plan: empty,
+            cost: empty_cost,
+        })
+    }
+}
+
+/// The plan of a candidate of a level.
+fn plan_of(
+    alloc: Global,
+    board: &Board,
+    level: &[Kept],
+    candidate: Candidate,
+) -> Result<Plan, AllocError>
+    requires parent { candidate.parent < length level.now }
+    requires pack { candidate.pack < length board.now.packs.items }
+    ensures { IfOk result (λ plan. plan ≡ grown_plan board.now.packs.items level.now candidate) }
+{
+    let parent = kept_at(level, candidate.parent);
+    let mut packs = copy_packs(alloc, parent.running.packs())?;
+    let last = copy_pack(alloc, board.pack(candidate.pack))?;
+    packs.push(last)?;
+    Ok(Plan::from_vec(packs))
+}
+
+/// The first of the least cost, in a list of a plan and the candidates of a level.
+pub(crate) fn lesser(
+    alloc: Global,
+    best: PricedPlan,
+    board: &Board,
+    level: &[Kept],
+    met: &[Candidate],
+    _descriptions: &[Description],
+    _table: &MatchTable,
+    _ssa: &Ssa,
+    _deps: &DepList,
+) -> Result<PricedPlan, AllocError>
+    requires cost { best.cost ≡ cost_of (map description_of _descriptions.now) _table.now _ssa.now
+        _deps.now best.plan }
+    requires met { Every (IsCandidate (map description_of _descriptions.now) _table.now _ssa.now
+        _deps.now board.now.packs.items level.now) met.now }
+    ensures plan { IfOk result (λ better. better.plan ≡ first_least (cost_of (map description_of
+        _descriptions.now) _table.now _ssa.now _deps.now) best.plan (grown_plans
+        board.now.packs.items level.now met.now)) }
+    ensures cost { IfOk result (λ better. better.cost ≡ cost_of (map description_of
+        _descriptions.now) _table.now _ssa.now _deps.now better.plan) }
+{
+    match least_below(met, best.cost) {
+        None => Ok(best),
+        Some(candidate) => {
+            let plan = plan_of(alloc, board, level, candidate)?;
+            Ok(PricedPlan {
+                plan,
+                cost: candidate.cost,
+            })
+        }
+    }
+}

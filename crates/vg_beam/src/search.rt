@@ -1,0 +1,174 @@
+//! Growing the plans of a level by one pack.
+
+ghost use Rattle.std.specs.Prelude.{◌≡◌, ◌<◌, ◌∷◌, [], IfOk, OnOk, get_or, length, map};
+ghost use Rattle.vg_packing.specs.Packing.{packing};
+ghost use Rattle.vg_packing.specs.Taken.{MatchesNear};
+ghost use Rattle.vg_packs.specs.PlanMarks.{MarksPlan};
+ghost use Rattle.vg_packs.specs.Walk.{NameEarlierUnits};
+ghost use Rattle.vg_plans.specs.Levels.{candidates};
+ghost use Rattle.vg_plans.specs.Members.{Every, Has};
+ghost use Rattle.vg_plans.specs.World.{follows, same_packs, tried};
+ghost use Rattle.vg_shapes.specs.Description.{description_of};
+ghost use Rattle.vg_beam.specs.Board.{IsBoard, pack_at};
+ghost use Rattle.vg_beam.specs.Candidate.{IsCandidate, grown_plans};
+ghost use Rattle.vg_beam.specs.Chosen.{HaveShortPacks};
+ghost use Rattle.vg_beam.specs.Kept.{IsKept, plan_of, plans_of};
+ghost use Rattle.vg_beam.specs.Met.{IsMet, Meets};
+
+use crate::board::Board;
+use crate::candidate::Candidate;
+use crate::kept::{Kept, kept_at};
+use crate::key::with_number;
+use crate::met::Met;
+use std::alloc::{AllocError, Global};
+use vg_packs::PlanMarks;
+use vg_shapes::{DepList, Description, MatchTable, Ssa};
+
+/// Meets a plan of a level with a pack behind it that is tried there, if it stays a plan and none of the
+/// same packs was met.
+fn meet(
+    alloc: Global,
+    board: &Board,
+    _level: &[Kept],
+    parent: usize,
+    kept: &Kept,
+    marks: &PlanMarks,
+    pack: u32,
+    met: &mut Met,
+    descriptions: &[Description],
+    table: &MatchTable,
+    ssa: &Ssa,
+    deps: &DepList,
+) -> Result<(), AllocError>
+    requires near { MatchesNear table.now }
+    requires earlier { NameEarlierUnits ssa.now deps.now }
+    requires short { HaveShortPacks (map description_of descriptions.now) table.now ssa.now
+        deps.now }
+    requires board { IsBoard (map description_of descriptions.now) table.now ssa.now board.now }
+    requires kept { IsKept (map description_of descriptions.now) table.now ssa.now deps.now
+        board.now.packs.items kept.now }
+    requires parent { parent < length _level.now }
+    requires plan { plan_of kept.now ≡ get_or (plans_of _level.now) parent [] }
+    requires marks { MarksPlan ssa.now (plan_of kept.now) marks.now }
+    requires pack { pack < length board.now.packs.items }
+    requires tried { Has (pack_at board.now.packs.items pack) (tried (packing (map description_of
+        descriptions.now) table.now ssa.now deps.now) (plan_of kept.now)) }
+    requires met { IsMet (map description_of descriptions.now) table.now ssa.now deps.now
+        board.now.packs.items _level.now met.old }
+    ensures { OnOk result (Meets (map description_of descriptions.now) table.now ssa.now deps.now
+        board.now.packs.items _level.now (plan_of kept.now) (pack_at board.now.packs.items pack ∷
+        []) met.old met.new) }
+{
+    let last = board.pack(pack);
+    let packs = kept.running.packs();
+    let overlap = marks.overlaps(packs, last);
+    if overlap {
+        return Ok(());
+    }
+    let key = with_number(alloc, kept.key.as_slice(), pack)?;
+    let known = met.has(key.as_slice());
+    if known {
+        return Ok(());
+    }
+    let stays = marks.stays_plan(alloc, packs, last, table, ssa, deps)?;
+    if !stays {
+        return Ok(());
+    }
+    let longer = kept.running.with(alloc, last, descriptions, table, ssa)?;
+    let cost = longer.cost();
+    met.add(key, Candidate { parent, pack, cost })?;
+    Ok(())
+}
+
+/// Meets a plan of a level with each pack behind it that may follow it.
+fn meet_all(
+    alloc: Global,
+    board: &Board,
+    level: &[Kept],
+    parent: usize,
+    kept: &Kept,
+    met: &mut Met,
+    descriptions: &[Description],
+    table: &MatchTable,
+    ssa: &Ssa,
+    deps: &DepList,
+) -> Result<(), AllocError>
+    requires near { MatchesNear table.now }
+    requires earlier { NameEarlierUnits ssa.now deps.now }
+    requires short { HaveShortPacks (map description_of descriptions.now) table.now ssa.now
+        deps.now }
+    requires board { IsBoard (map description_of descriptions.now) table.now ssa.now board.now }
+    requires kept { IsKept (map description_of descriptions.now) table.now ssa.now deps.now
+        board.now.packs.items kept.now }
+    requires parent { parent < length level.now }
+    requires plan { plan_of kept.now ≡ get_or (plans_of level.now) parent [] }
+    requires met { IsMet (map description_of descriptions.now) table.now ssa.now deps.now
+        board.now.packs.items level.now met.old }
+    ensures { OnOk result (Meets (map description_of descriptions.now) table.now ssa.now deps.now
+        board.now.packs.items level.now (plan_of kept.now) (tried (packing (map description_of
+        descriptions.now) table.now ssa.now deps.now) (plan_of kept.now)) met.old met.new) }
+{
+    let packs = kept.running.packs();
+    let marks = PlanMarks::new(alloc, ssa, packs)?;
+    let numbers = kept.tried.as_slice();
+    'packs: for pack in numbers {
+        meet(
+            alloc,
+            board,
+            level,
+            parent,
+            kept,
+            &marks,
+            *pack,
+            met,
+            descriptions,
+            table,
+            ssa,
+            deps,
+        )?;
+    }
+    Ok(())
+}
+
+/// The plans of one pack more than those of a level, none of the same packs as an earlier one.
+pub(crate) fn candidates(
+    alloc: Global,
+    board: &Board,
+    level: &[Kept],
+    descriptions: &[Description],
+    table: &MatchTable,
+    ssa: &Ssa,
+    deps: &DepList,
+) -> Result<Vec<Candidate>, AllocError>
+    requires near { MatchesNear table.now }
+    requires earlier { NameEarlierUnits ssa.now deps.now }
+    requires short { HaveShortPacks (map description_of descriptions.now) table.now ssa.now
+        deps.now }
+    requires board { IsBoard (map description_of descriptions.now) table.now ssa.now board.now }
+    requires level { Every (IsKept (map description_of descriptions.now) table.now ssa.now
+        deps.now board.now.packs.items) level.now }
+    ensures candidates { IfOk result (λ met. Every (IsCandidate (map description_of
+        descriptions.now) table.now ssa.now deps.now board.now.packs.items level.now) met.items) }
+    ensures plans { IfOk result (λ met. grown_plans board.now.packs.items level.now met.items
+        ≡ candidates (follows (packing (map description_of descriptions.now) table.now ssa.now
+        deps.now)) (same_packs (packing (map description_of descriptions.now) table.now ssa.now
+        deps.now)) (plans_of level.now)) }
+{
+    let mut met = Met::new(alloc);
+    'plans: for parent in 0..level.len() {
+        let kept = kept_at(level, parent);
+        meet_all(
+            alloc,
+            board,
+            level,
+            parent,
+            kept,
+            &mut met,
+            descriptions,
+            table,
+            ssa,
+            deps,
+        )?;
+    }
+    Ok(met.candidates)
+}

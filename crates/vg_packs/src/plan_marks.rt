@@ -1,0 +1,70 @@
+//! Plans with marks of their units.
+
+ghost use Rattle.std.specs.Prelude.{◌≡◌, ℕ, [], IfOk};
+ghost use Rattle.std.specs.List.{list_any};
+ghost use Rattle.vg_packing.specs.Packing.{packing};
+ghost use Rattle.vg_plans.specs.World.{stays_plan};
+ghost use Rattle.vg_shapes.specs.Pack.{units_of};
+ghost use Rattle.vg_packs.specs.Marks.{AreMarks};
+ghost use Rattle.vg_packs.specs.PlanMarks.{MarksPlan};
+ghost use Rattle.vg_packs.specs.Walk.{IsFree, NameUnits, is_in_plan};
+ghost use Rattle.vg_shapes.specs.declared.ssa.Ssa.{Ssa as Numbered};
+
+use crate::marks::{clear_marks, mark_plan};
+use crate::walk::{end_of_units, overlaps, reaches_itself};
+use std::alloc::{AllocError, Global};
+use vg_shapes::{DepList, MatchTable, Pack, Ssa};
+
+/// Marks of the units of a plan, by which packs are tried behind it one after the other.
+#[derive(Drop)]
+pub struct PlanMarks {
+    marks: Vec<bool>,
+}
+
+impl PlanMarks {
+    /// The marks of a plan's units. Where a kernel has more than some 2^24 parameters or units there is
+    /// no memory.
+    pub fn new(alloc: Global, ssa: &Ssa, plan: &[Pack]) -> Result<PlanMarks, AllocError>
+        ensures { IfOk result (MarksPlan ssa.now plan.now) }
+    {
+        let end = end_of_units(ssa)?;
+        let mut marks = clear_marks(alloc, end)?;
+        mark_plan(marks.as_mut_slice(), plan);
+        Ok(PlanMarks { marks })
+    }
+
+    /// Whether some unit of a pack is one of the plan. Takes no memory.
+    pub fn overlaps(&self, plan: &[Pack], pack: &Pack) -> bool
+        requires marks { (ssa : Numbered) × MarksPlan ssa plan.now self.now }
+        ensures { result ≡ list_any (is_in_plan plan.now) (units_of pack.now) }
+    {
+        overlaps(self.marks.as_slice(), plan, pack)
+    }
+
+    /// Whether the plan, which has no cycle, stays one with a pack behind it: no unit of the pack is in
+    /// it, and no unit of the pack depends on another by way of units outside it. The dependences name
+    /// units alone.
+    pub fn stays_plan(
+        &self,
+        alloc: Global,
+        plan: &[Pack],
+        pack: &Pack,
+        table: &MatchTable,
+        ssa: &Ssa,
+        deps: &DepList,
+    ) -> Result<bool, AllocError>
+        requires names { NameUnits ssa.now deps.now }
+        requires free { IsFree table.now ssa.now deps.now plan.now }
+        requires marks { MarksPlan ssa.now plan.now self.now }
+        ensures { IfOk result (λ b. b ≡ stays_plan (packing [] table.now ssa.now deps.now) plan.now pack.now) }
+    {
+        let packed = self.marks.as_slice();
+        let overlap = overlaps(packed, plan, pack);
+        if overlap {
+            return Ok(false);
+        }
+        let end = packed.len();
+        let reached = reaches_itself(alloc, table, ssa, deps, plan, packed, pack, end)?;
+        Ok(!reached)
+    }
+}
