@@ -43,9 +43,10 @@ impl Desk {
         Ok(desk)
     }
 
-    pub fn run(&mut self, words: &[&str]) -> Result<Status, Fail> {
+    /// Runs on the words of a line.
+    pub fn run(&mut self, line: &str) -> Result<Status, Fail> {
         let mut all = Words::new(self.alloc);
-        for word in words {
+        for word in line.split_whitespace() {
             all.push(word.as_bytes())?;
         }
         Ok(vegen(
@@ -57,19 +58,37 @@ impl Desk {
         ))
     }
 
-    /// Runs, and asserts how it ended and what was written.
+    /// Runs on the words of a line, and asserts how it ended and what was written.
     pub fn expect(
         &mut self,
         rt: &impl Abort,
-        words: &[&str],
+        line: &str,
         status: Status,
         out: &[u8],
         err: &[u8],
     ) -> Result<(), Fail> {
-        let ended = self.run(words)?;
-        assert!(rt; ended == status);
-        assert!(rt; self.out.written() == out);
-        assert!(rt; self.err.written() == err);
+        let ended = self.run(line)?;
+        assert!(rt; ended == status, "{line}");
+        assert!(rt; self.out.written() == out, "{line}");
+        assert!(rt; self.err.written() == err, "{line}");
         Ok(())
+    }
+
+    /// Asserts how many files were read.
+    pub fn expect_reads(&self, rt: &impl Abort, reads: u64) {
+        assert!(rt; self.shelf.reads() == reads, "{reads} files");
+    }
+}
+
+/// The status that has this name.
+pub fn status_of(word: &str) -> Status {
+    match word {
+        "Usage" => Status::Usage,
+        "InputAbsent" => Status::InputAbsent,
+        "InstructionsRefused" => Status::InstructionsRefused,
+        "KernelRefused" => Status::KernelRefused,
+        "ProgramRefused" => Status::ProgramRefused,
+        "BindingsRefused" => Status::BindingsRefused,
+        _ => Status::Ok,
     }
 }

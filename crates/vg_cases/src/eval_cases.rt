@@ -1,7 +1,9 @@
 //! Worked cases of `eval`, and of what `run` makes of what `compile` writes.
 
-use crate::desk::Desk;
+use crate::desk::{Desk, status_of};
+use crate::memories::bytes_of;
 use std::alloc::Global;
+use std::process::Abort;
 use std::test::Fail;
 use vg_top::Status;
 
@@ -17,7 +19,8 @@ const LAP: &[u8] =
 
 const PUT: &[u8] = b"kernel put(d: ptr, k: i8) { store8(d + 0, k); }";
 
-/// The low byte of n + m or, where n is less than m, of their difference; and behind it m over 16, rounded down.
+/// The low byte of n + m or, where n is less than m, of their difference; and behind it m over
+/// 16, rounded down.
 const MIX: &[u8] = b"kernel mix(d: ptr, n: i16) {
   m = load16(d + 0);
   less = slt(n, m);
@@ -32,157 +35,174 @@ fn desk_with(alloc: Global, kernel: &[u8], memory: &[u8]) -> Result<Desk, Fail> 
     Ok(desk)
 }
 
-/// A kernel, a memory, bindings, and the memory that is left.
-type Left<'a> = (&'a [u8], &'a [u8], &'a [&'a str], &'a [u8]);
-
-const LEFT: [Left<'static>; 8] = [
-    // Both words overlap what they are copied from.
-    (
-        TWO,
-        &[1, 2, 3, 4, 5, 6, 7, 8, 9, 10, 11, 12],
-        &["p=4", "q=0"],
-        &[1, 2, 3, 4, 1, 2, 3, 4, 1, 2, 3, 4],
-    ),
-    // A load that nothing uses leaves the memory.
-    (DEAD, &[9, 8, 7, 6, 5], &["p=0"], &[9, 8, 7, 6, 5]),
-    // The second word begins in the first.
-    (LAP, &[0; 6], &["d=0"], &[1, 2, 5, 6, 7, 8]),
-    // 255 and -1 are one byte.
-    (PUT, &[3], &["d=0", "k=255"], &[255]),
-    (PUT, &[3], &["k=-1", "d=0"], &[255]),
-    // 10 - 3; 10 / 16.
-    (MIX, &[10, 0, 9, 9, 9], &["d=0", "n=3"], &[7, 0, 0, 0, 0]),
-    // -257 + 3 is 65282, with the low byte 2; -257 / 16 is -17.
-    (
-        MIX,
-        &[255, 254, 9, 9, 9],
-        &["d=0", "n=3"],
-        &[2, 239, 255, 255, 255],
-    ),
-    (b"kernel none() { }", b"", &[], b""),
-];
-
-/// The words of a command, and bindings behind them.
-fn words_of<'a>(
-    alloc: Global,
-    command: &[&'a str],
-    bindings: &[&'a str],
-) -> Result<Vec<&'a str>, Fail> {
-    let mut words = Vec::new(alloc);
-    for word in command {
-        words.push(*word)?;
+/// The kernel of this name.
+fn kernel_of(name: &str) -> &'static [u8] {
+    match name {
+        "two" => TWO,
+        "dead" => DEAD,
+        "far" => FAR,
+        "lap" => LAP,
+        "put" => PUT,
+        "mix" => MIX,
+        _ => b"kernel none() { }",
     }
-    for word in bindings {
-        words.push(*word)?;
-    }
-    Ok(words)
+}
+
+/// A kernel, bindings, a memory, and the memory that is left.
+#[derive(Drop)]
+struct Left<'a> {
+    kernel: &'static [u8],
+    bindings: &'a str,
+    memory: Vec<u8>,
+    left: Vec<u8>,
+}
+
+/// A row is the name of a kernel, bindings, an arrow, a memory, an arrow, and the memory that is
+/// left.
+fn left_of<'a>(alloc: Global, row: &'a str) -> Result<Left<'a>, Fail> {
+    let Some((words, memories)) = row.split_once(" => ") else {
+        return Err("an arrow is missing".into());
+    };
+    let Some((memory, left)) = memories.split_once(" => ") else {
+        return Err("a memory is missing".into());
+    };
+    let (name, bindings) = words.split_once(' ').unwrap_or((words, ""));
+    Ok(Left {
+        kernel: kernel_of(name),
+        bindings,
+        memory: bytes_of(alloc, memory)?,
+        left: bytes_of(alloc, left)?,
+    })
+}
+
+/// Both words of `two` overlap what they are copied from; a load that nothing uses leaves the
+/// memory; the second word of `lap` begins in the first; 255 and -1 are one byte. Of `mix`: 10 -
+/// 3 and 10 / 16, and, since -257 + 3 is 65282 with the low byte 2, that and -257 / 16, which is
+/// -17.
+const LEFT: &str = "\
+two p=4 q=0 => 1 2 3 4 5 6 7 8 9 10 11 12 => 1 2 3 4 1 2 3 4 1 2 3 4
+dead p=0 => 9 8 7 6 5 => 9 8 7 6 5
+lap d=0 => 6*0 => 1 2 5 6 7 8
+put d=0 k=255 => 3 => 255
+put k=-1 d=0 => 3 => 255
+mix d=0 n=3 => 10 0 9 9 9 => 7 0 0 0 0
+mix d=0 n=3 => 255 254 9 9 9 => 2 239 255 255 255
+none => 0*0 => 0*0";
+
+/// Asserts what `eval` leaves.
+fn expect_eval(rt: &impl Abort, alloc: Global, row: &str) -> Result<(), Fail> {
+    let case = left_of(alloc, row)?;
+    let line = format!(in alloc; "eval k m {}", case.bindings)?;
+    let mut desk = desk_with(alloc, case.kernel, case.memory.as_slice())?;
+    desk.expect(rt, line.as_str(), Status::Ok, case.left.as_slice(), b"")?;
+    desk.expect_reads(rt, 2);
+    Ok(())
 }
 
 #[test]
 fn kernels_and_the_memory_that_they_leave(rt: HostRuntime) -> Result<(), Fail> {
-    for (kernel, memory, bindings, left) in &LEFT {
-        let mut desk = desk_with(rt.alloc(), kernel, memory)?;
-        let words = words_of(rt.alloc(), &["eval", "k", "m"], bindings)?;
-        desk.expect(&rt, words.as_slice(), Status::Ok, left, b"")?;
-        assert_eq!(rt; desk.shelf.reads(), 2);
+    for row in LEFT.lines() {
+        expect_eval(&rt, rt.alloc(), row)?;
     }
     Ok(())
+}
+
+/// Asserts what `run` leaves of what `compile` makes.
+fn expect_run(rt: &impl Abort, alloc: Global, row: &str) -> Result<(), Fail> {
+    let case = left_of(alloc, row)?;
+    let line = format!(in alloc; "run i p m {}", case.bindings)?;
+    let mut desk = Desk::with_kernel(alloc, case.kernel)?;
+    assert!(rt; desk.run("compile i k")? == Status::Ok, "{row}");
+    let mut machine = desk_with(alloc, case.kernel, case.memory.as_slice())?;
+    machine.shelf.put("p", desk.out.written())?;
+    machine.expect(rt, line.as_str(), Status::Ok, case.left.as_slice(), b"")
 }
 
 #[test]
 fn a_compiled_kernel_leaves_what_the_kernel_leaves(rt: HostRuntime) -> Result<(), Fail> {
-    for (kernel, memory, bindings, left) in &LEFT {
-        let mut desk = Desk::with_kernel(rt.alloc(), kernel)?;
-        assert!(rt; desk.run(&["compile", "i", "k"])? == Status::Ok);
-        let mut machine = desk_with(rt.alloc(), kernel, memory)?;
-        machine.shelf.put("p", desk.out.written())?;
-        let words = words_of(rt.alloc(), &["run", "i", "p", "m"], bindings)?;
-        machine.expect(&rt, words.as_slice(), Status::Ok, left, b"")?;
+    for row in LEFT.lines() {
+        expect_run(&rt, rt.alloc(), row)?;
     }
     Ok(())
+}
+
+/// Asserts that a kernel traps on a memory.
+fn expect_trap(
+    rt: &impl Abort,
+    alloc: Global,
+    kernel: &[u8],
+    memory: &[u8],
+    line: &str,
+) -> Result<(), Fail> {
+    let mut desk = desk_with(alloc, kernel, memory)?;
+    desk.expect(rt, line, Status::Trap, b"", b"vegen: trap\n")
 }
 
 #[test]
 fn kernels_that_trap(rt: HostRuntime) -> Result<(), Fail> {
-    let cases: [(&[u8], &[u8], &[&str]); 4] = [
-        // A load that nothing uses still traps.
-        (DEAD, &[9, 8, 7, 6], &["eval", "k", "m", "p=0"]),
-        // A place past the memory, and a sum past 2^64 - 1.
-        (FAR, &[0; 20], &["eval", "k", "m", "p=12"]),
-        (FAR, &[0; 20], &["eval", "k", "m", "p=18446744073709551615"]),
-        // Only the second store is outside.
-        (LAP, &[0; 5], &["eval", "k", "m", "d=0"]),
-    ];
-    for (kernel, memory, words) in &cases {
-        let mut desk = desk_with(rt.alloc(), kernel, memory)?;
-        desk.expect(&rt, words, Status::Trap, b"", b"vegen: trap\n")?;
-    }
-    Ok(())
+    let alloc = rt.alloc();
+    // A load that nothing uses still traps.
+    expect_trap(&rt, alloc, DEAD, &[9, 8, 7, 6], "eval k m p=0")?;
+    // A place past the memory, and a sum past 2^64 - 1.
+    expect_trap(&rt, alloc, FAR, &[0; 20], "eval k m p=12")?;
+    expect_trap(&rt, alloc, FAR, &[0; 20], "eval k m p=18446744073709551615")?;
+    // Only the second store is outside.
+    expect_trap(&rt, alloc, LAP, &[0; 5], "eval k m d=0")
+}
+
+/// Asserts that the bindings of a line are refused.
+fn refuse_bindings(rt: &impl Abort, alloc: Global, kernel: &[u8], line: &str) -> Result<(), Fail> {
+    let mut desk = desk_with(alloc, kernel, &[0; 20])?;
+    desk.expect(rt, line, Status::BindingsRefused, b"", b"vegen: bindings\n")
 }
 
 #[test]
 fn bindings_that_are_refused(rt: HostRuntime) -> Result<(), Fail> {
-    let cases: [(&[u8], &[&str]); 6] = [
-        (PUT, &["eval", "k", "m", "d=0", "d=4"]),
-        (PUT, &["eval", "k", "m", "d=0"]),
-        (PUT, &["eval", "k", "m", "d=0", "k=256"]),
-        (PUT, &["eval", "k", "m", "d=0", "k=1", "z=1"]),
-        (PUT, &["eval", "k", "m", "d=0", "k=1", "put=1"]),
-        (FAR, &["eval", "k", "m", "p=18446744073709551616"]),
-    ];
-    for (kernel, words) in &cases {
-        let mut desk = desk_with(rt.alloc(), kernel, &[0; 20])?;
-        desk.expect(
-            &rt,
-            words,
-            Status::BindingsRefused,
-            b"",
-            b"vegen: bindings\n",
-        )?;
+    let lines = "
+        eval k m d=0 d=4
+        eval k m d=0
+        eval k m d=0 k=256
+        eval k m d=0 k=1 z=1
+        eval k m d=0 k=1 put=1
+    ";
+    for line in lines.trim().lines() {
+        refuse_bindings(&rt, rt.alloc(), PUT, line)?;
     }
+    refuse_bindings(&rt, rt.alloc(), FAR, "eval k m p=18446744073709551616")
+}
+
+/// A row is a line of words, an arrow, how it ends, how many files are read, and what is said.
+fn expect_reads(rt: &impl Abort, alloc: Global, row: &str) -> Result<(), Fail> {
+    let Some((line, wanted)) = row.trim().split_once(" => ") else {
+        return Err("an arrow is missing".into());
+    };
+    let Some((status, behind)) = wanted.split_once(' ') else {
+        return Err("a count is missing".into());
+    };
+    let Some((reads, said)) = behind.split_once(' ') else {
+        return Err("a line is missing".into());
+    };
+    let reads = reads.parse::<u64>()?;
+    let said = format!(in alloc; "vegen: {said}\n")?;
+    let mut desk = desk_with(alloc, PUT, b"123")?;
+    desk.expect(rt, line, status_of(status), b"", said.as_bytes())?;
+    desk.expect_reads(rt, reads);
     Ok(())
 }
 
 #[test]
 fn files_are_read_up_to_the_refused_one(rt: HostRuntime) -> Result<(), Fail> {
-    let cases: [(&[&str], Status, u64, &[u8]); 7] = [
-        (&["eval", "k"], Status::Usage, 0, b"vegen: usage\n"),
-        (&["eval", "k", "-m"], Status::Usage, 0, b"vegen: usage\n"),
-        (
-            &["eval", "k", "m", "d"],
-            Status::Usage,
-            0,
-            b"vegen: usage\n",
-        ),
-        (
-            &["eval", "x", "m"],
-            Status::InputAbsent,
-            1,
-            b"vegen: absent: x\n",
-        ),
-        (
-            &["eval", "m", "x"],
-            Status::KernelRefused,
-            1,
-            b"vegen: kernel: 2 Shape at 1:1\n",
-        ),
-        (
-            &["eval", "k", "x"],
-            Status::InputAbsent,
-            2,
-            b"vegen: absent: x\n",
-        ),
-        (
-            &["eval", "k", "m", "d=0"],
-            Status::BindingsRefused,
-            2,
-            b"vegen: bindings\n",
-        ),
-    ];
-    for (words, status, reads, said) in &cases {
-        let mut desk = desk_with(rt.alloc(), PUT, b"123")?;
-        desk.expect(&rt, words, *status, b"", said)?;
-        assert_eq!(rt; desk.shelf.reads(), *reads);
+    let rows = "
+        eval k => Usage 0 usage
+        eval k -m => Usage 0 usage
+        eval k m d => Usage 0 usage
+        eval x m => InputAbsent 1 absent: x
+        eval m x => KernelRefused 1 kernel: 2 Shape at 1:1
+        eval k x => InputAbsent 2 absent: x
+        eval k m d=0 => BindingsRefused 2 bindings
+    ";
+    for row in rows.trim().lines() {
+        expect_reads(&rt, rt.alloc(), row)?;
     }
     Ok(())
 }

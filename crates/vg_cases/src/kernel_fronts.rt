@@ -1,6 +1,6 @@
 //! Kernels of every form, the fronts of one, and where a text ends.
 
-use crate::kernel_texts::{HEAD, judge, refuse_at};
+use crate::kernel_texts::{HEAD, judge, judge_all, refuse_at};
 use std::alloc::Global;
 use std::process::Abort;
 use std::test::Fail;
@@ -22,94 +22,109 @@ const ALL_FORMS: &str = "kernel all(p: ptr, q: noalias ptr, k: i8, b: i16, c: i3
 
 #[test]
 fn texts_that_are_kernels(rt: HostRuntime) -> Result<(), Fail> {
-    for text in [
-        "kernel none(){}",
-        "// a comment\nkernel t ( t : i8 ) { }",
-        ALL_FORMS,
-    ] {
-        judge(&rt, rt.alloc(), &[(text, 1)], 0)?;
-    }
-    for body in [
-        "x = a; y = x; store8(p, y);}",
-        "x = (eq(a, a)); y = select((x), a, a);}",
-        "x = 255i8 + -128i8 + -0i8 + - 1i8 + 0000000000005i8;}",
-        "x = 18446744073709551615i64; y = -9223372036854775808i64;}",
-        "x=a-1i8;y=a- -1i8;z=a--1i8;}",
-        "store8(p + 2147483647, load8(p - 2147483648)); store8(p - 0, load8(p + 007));}",
-        "x = shl(a, 0) | lshr(a, 7) | ashr(a, 007);}",
-        "load7 = a; load = load7; store = load; i1 = store; i08 = i1; sext = i08; kernel_ = sext; _ = kernel_; t = _;}",
-        "a234567890123456789012345678901234567890123456789012345678901234 = a;}",
-        "\t\r\nx\n=\na\n;\n}\n// end",
-    ] {
-        judge(&rt, rt.alloc(), &[(HEAD, 1), (body, 1)], 0)?;
-    }
-    Ok(())
+    let alloc = rt.alloc();
+    judge(&rt, alloc, "", "kernel none(){}", 0)?;
+    judge(&rt, alloc, "", "// a comment\nkernel t ( t : i8 ) { }", 0)?;
+    judge(&rt, alloc, "", ALL_FORMS, 0)?;
+    judge(&rt, alloc, HEAD, "\t\r\nx\n=\na\n;\n}\n// end", 0)?;
+    judge_all(
+        &rt,
+        alloc,
+        HEAD,
+        0,
+        "
+        x = a; y = x; store8(p, y);}
+        x = (eq(a, a)); y = select((x), a, a);}
+        x = 255i8 + -128i8 + -0i8 + - 1i8 + 0000000000005i8;}
+        x = 18446744073709551615i64; y = -9223372036854775808i64;}
+        x=a-1i8;y=a- -1i8;z=a--1i8;}
+        store8(p + 2147483647, load8(p - 2147483648)); store8(p - 0, load8(p + 007));}
+        x = shl(a, 0) | lshr(a, 7) | ashr(a, 007);}
+        load7 = a; load = load7; store = load; i1 = store; i08 = i1; sext = i08; kernel_ = sext; \
+        _ = kernel_; t = _;}
+        a234567890123456789012345678901234567890123456789012345678901234 = a;}
+        ",
+    )
 }
 
-/// So many bytes from the end of the front of `text` that ends behind the first `piece`, the fault stands.
-fn refuse_front(
-    rt: &impl Abort,
-    alloc: Global,
-    text: &str,
-    (piece, number, back): (&str, u32, usize),
-) -> Result<(), Fail> {
-    let start = text.find(piece).ok_or(piece)?;
+/// A row is the number of a fault, a count, and a piece of `text`: the front of `text` that ends
+/// behind the first such piece is refused with this number, so many bytes from its end.
+fn refuse_front(rt: &impl Abort, alloc: Global, text: &str, row: &str) -> Result<(), Fail> {
+    let Some((number, behind)) = row.split_once(' ') else {
+        return Err("a number is missing".into());
+    };
+    let Some((back, piece)) = behind.split_once(' ') else {
+        return Err("a count is missing".into());
+    };
+    let Some(start) = text.find(piece) else {
+        return Err("a piece is missing".into());
+    };
     let end = start + piece.len();
+    let back = back.parse::<usize>()?;
     assert!(rt; end <= text.len() && back <= end && text.len() <= 1_000_000);
     let place = place_after(Place { line: 1, column: 1 }, &text.as_bytes()[..end - back]);
-    refuse_at(rt, alloc, &text.as_bytes()[..end], number, place, piece)
+    refuse_at(
+        rt,
+        alloc,
+        &text.as_bytes()[..end],
+        number.parse::<u32>()?,
+        place,
+        row,
+    )
 }
 
 #[test]
 fn fronts_of_a_kernel(rt: HostRuntime) -> Result<(), Fail> {
-    for row in [
-        ("kern", 2, 4),
-        ("kernel", 2, 0),
-        ("kernel al", 2, 0),
-        ("kernel all(", 2, 0),
-        ("(p", 2, 0),
-        ("p: pt", 2, 2),
-        ("p: ptr", 2, 0),
-        ("q: noali", 2, 5),
-        ("q: noalias", 2, 0),
-        ("noalias p", 2, 1),
-        ("k: i", 2, 1),
-        ("d: i6", 2, 2),
-        ("d: i64)", 2, 0),
-        ("// each", 2, 0),
-        ("  r1", 2, 0),
-        ("= (loa", 3, 3),
-        ("(load8", 2, 0),
-        ("load8(p +", 2, 0),
-        (" + k", 2, 0),
-        ("* -", 2, 0),
-        ("* -5", 2, 0),
-        ("* -5i", 2, 1),
-        ("* -5i8", 2, 0),
-        ("r2 = sh", 3, 2),
-        ("shl(b, 3", 2, 0),
-        ("slt(c, 1i3", 2, 2),
-        ("sext3", 3, 5),
-        ("sext32", 2, 0),
-        ("trunc32(d), r", 3, 1),
-        ("umin(r3, um", 3, 2),
-        ("  stor", 2, 0),
-        ("  store32", 2, 0),
-        ("store32(q, r5)", 2, 0),
-        ("load64(q));", 2, 0),
-    ] {
-        refuse_front(&rt, rt.alloc(), ALL_FORMS, row)?;
+    let rows = "
+        2 4 kern
+        2 0 kernel
+        2 0 kernel al
+        2 0 kernel all(
+        2 0 (p
+        2 2 p: pt
+        2 0 p: ptr
+        2 5 q: noali
+        2 0 q: noalias
+        2 1 noalias p
+        2 1 k: i
+        2 2 d: i6
+        2 0 d: i64)
+        2 0 // each
+        2 0   r1
+        3 3 = (loa
+        2 0 (load8
+        2 0 load8(p +
+        2 0  + k
+        2 0 * -
+        2 0 * -5
+        2 1 * -5i
+        2 0 * -5i8
+        3 2 r2 = sh
+        2 0 shl(b, 3
+        2 2 slt(c, 1i3
+        3 5 sext3
+        2 0 sext32
+        3 1 trunc32(d), r
+        3 2 umin(r3, um
+        2 0   stor
+        2 0   store32
+        2 0 store32(q, r5)
+        2 0 load64(q));
+    ";
+    for row in rows.trim().lines() {
+        refuse_front(&rt, rt.alloc(), ALL_FORMS, row.trim_start())?;
     }
-    for end in 0..ALL_FORMS.len() {
-        let front = &ALL_FORMS.as_bytes()[..end];
-        let Err(fault) = parse_kernel(rt.alloc(), front) else {
+    refuse_each_front(&rt, rt.alloc(), ALL_FORMS)
+}
+
+/// Asserts that no front of a kernel is one: a name that is cut is not known, and nothing else
+/// can be wrong.
+fn refuse_each_front(rt: &impl Abort, alloc: Global, text: &str) -> Result<(), Fail> {
+    for end in 0..text.len() {
+        let Err(fault) = parse_kernel(alloc, &text.as_bytes()[..end]) else {
             return Err("the front of a kernel is no kernel".into());
         };
-        // a name that is cut is not known, and nothing else can be wrong
-        assert!(rt;
-            fault.number() == Some(2) || fault.number() == Some(3),
-            "{end}"
-        );
+        assert!(rt; matches!(fault.number(), Some(2) | Some(3)), "{end}");
     }
     Ok(())
 }

@@ -1,4 +1,5 @@
-//! Texts of kernels made of pieces, and what becomes of them. An `@` marks the place of a fault, and is no part of the text.
+//! Texts of kernels, and what becomes of them. An `@` marks the place of a fault, and is no part of
+//! the text.
 
 use std::alloc::Global;
 use std::process::Abort;
@@ -6,21 +7,35 @@ use std::test::Fail;
 use vg_kernel::parse_kernel;
 use vg_text::place::{Place, place_after};
 
+/// What stands before the body of most kernels.
 pub const HEAD: &str = "kernel t(p: ptr, q: noalias ptr, a: i8, b: i16, c: i32, d: i64) { ";
 
-/// Pieces one behind the other, each so many times.
-fn joined(alloc: Global, pieces: &[(&str, usize)]) -> Result<Vec<u8>, Fail> {
-    let mut text = Vec::new(alloc);
-    for (piece, count) in pieces {
-        for _ in 0..*count {
+/// Writes the text that a row stands for. Between two backquotes a row has a count, a space, and
+/// what stands there so many times.
+fn spell_out(text: &mut Vec<u8>, row: &str) -> Result<(), Fail> {
+    for (index, piece) in row.split('`').enumerate() {
+        if index % 2 == 0 {
             text.extend_from_slice(piece.as_bytes())?;
+        } else {
+            repeat(text, piece)?;
         }
     }
-    Ok(text)
+    Ok(())
 }
 
-/// Asserts that the text without its `@` is refused with this number at the place of the `@`. `shown` tells the text.
-pub fn refuse_marked(
+fn repeat(text: &mut Vec<u8>, piece: &str) -> Result<(), Fail> {
+    let Some((count, piece)) = piece.split_once(' ') else {
+        return Err("a count is missing".into());
+    };
+    for _ in 0..count.parse::<u32>()? {
+        text.extend_from_slice(piece.as_bytes())?;
+    }
+    Ok(())
+}
+
+/// Asserts that the text without its `@` is refused with this number at the place of the `@`.
+/// `shown` tells the text.
+fn refuse_marked(
     rt: &impl Abort,
     alloc: Global,
     marked: &[u8],
@@ -28,10 +43,9 @@ pub fn refuse_marked(
     shown: &str,
 ) -> Result<(), Fail> {
     assert!(rt; marked.len() <= 1_000_000);
-    let at = marked
-        .iter()
-        .position(|byte| *byte == b'@')
-        .ok_or("a mark")?;
+    let Some(at) = marked.iter().position(|byte| *byte == b'@') else {
+        return Err("a mark is missing".into());
+    };
     assert!(rt; at < marked.len());
     let (front, behind) = marked.split_at(at);
     let mut text = Vec::from_slice(alloc, front)?;
@@ -52,34 +66,51 @@ pub fn refuse_at(
     let Err(fault) = parse_kernel(alloc, text) else {
         return Err("a text that is no kernel is read".into());
     };
-    let found = fault.place().ok_or("a place")?;
-    assert_eq!(rt; fault.number(), Some(number), "{shown}");
-    assert_eq!(rt;
-        (found.line, found.column),
-        (place.line, place.column),
-        "{shown}"
-    );
+    let is_right = fault.number() == Some(number) && fault.place() == Some(place);
+    assert!(rt; is_right, "{shown}");
     Ok(())
 }
 
-/// Asserts it of what stands between the braces of a kernel.
-pub fn refuse(rt: &impl Abort, alloc: Global, body: &str, number: u32) -> Result<(), Fail> {
-    let marked = joined(alloc, &[(HEAD, 1), (body, 1), ("}", 1)])?;
-    refuse_marked(rt, alloc, marked.as_slice(), number, body)
-}
-
-/// Pieces of a text, and the number of its first fault, or 0 where it is a kernel.
+/// Asserts of the texts that `head` and, behind it, a row stand for that their first fault
+/// has this number, or that they are a kernel, where the number is 0.
 pub fn judge(
     rt: &impl Abort,
     alloc: Global,
-    pieces: &[(&str, usize)],
+    head: &str,
+    row: &str,
     number: u32,
 ) -> Result<(), Fail> {
-    let shown = pieces.last().map_or("", |piece| piece.0);
-    let text = joined(alloc, pieces)?;
-    if number == 0 {
-        assert!(rt; parse_kernel(alloc, text.as_slice()).is_ok(), "{shown}");
-        return Ok(());
+    let mut text = Vec::new(alloc);
+    spell_out(&mut text, head)?;
+    spell_out(&mut text, row)?;
+    if number != 0 {
+        return refuse_marked(rt, alloc, text.as_slice(), number, row);
     }
-    refuse_marked(rt, alloc, text.as_slice(), number, shown)
+    assert!(rt; parse_kernel(alloc, text.as_slice()).is_ok(), "{row}");
+    Ok(())
+}
+
+/// Asserts the same of each line as a row.
+pub fn judge_all(
+    rt: &impl Abort,
+    alloc: Global,
+    head: &str,
+    number: u32,
+    rows: &str,
+) -> Result<(), Fail> {
+    for row in rows.trim().lines() {
+        judge(rt, alloc, head, row.trim_start(), number)?;
+    }
+    Ok(())
+}
+
+/// Each line is a row, an arrow and its number: asserts the same of each.
+pub fn judge_each(rt: &impl Abort, alloc: Global, head: &str, rows: &str) -> Result<(), Fail> {
+    for line in rows.trim().lines() {
+        let Some((row, number)) = line.trim_start().rsplit_once(" => ") else {
+            return Err("an arrow is missing".into());
+        };
+        judge(rt, alloc, head, row, number.parse::<u32>()?)?;
+    }
+    Ok(())
 }

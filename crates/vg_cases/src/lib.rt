@@ -26,6 +26,10 @@ mod kernel_texts;
 #[cfg(test)]
 mod machine_cases;
 #[cfg(test)]
+mod memories;
+#[cfg(test)]
+mod option_cases;
+#[cfg(test)]
 mod outside_cases;
 #[cfg(test)]
 mod program_cases;

@@ -1,8 +1,10 @@
 //! Program texts: those that are read and printed again, and those that are refused.
 
 use std::alloc::{AllocError, Global};
+use std::process::Abort;
 use std::test::Fail;
 use vg_program::{cost, parse_program, print_program};
+use vg_pseudo::Header;
 use vg_text::Place;
 
 const LINES: &[u8] = b"program all(d: ptr, k: i8, s: ptr)
@@ -33,22 +35,40 @@ store d+7 18446744073709551615i64
 end cost 24 scalar 16384
 ";
 
-#[test]
-fn each_line_is_read_and_printed_again(rt: HostRuntime) -> Result<(), Fail> {
-    let program = parse_program(rt.alloc(), LINES, &[])
-        .ok()
-        .ok_or("the program is valid")?;
-    assert_eq!(rt; cost(&program), 24);
-    let text = print_program(rt.alloc(), &program)
-        .ok()
-        .ok_or("there is memory")?;
-    assert_eq!(rt; text.as_slice(), LINES);
+/// Asserts that a text is a program of this cost, which is printed as that text.
+pub fn expect_again(
+    rt: &impl Abort,
+    alloc: Global,
+    headers: &[Header],
+    text: &[u8],
+    wanted: u64,
+) -> Result<(), Fail> {
+    let Ok(program) = parse_program(alloc, text, headers) else {
+        return Err("the program is refused".into());
+    };
+    assert!(rt; cost(&program) == wanted);
+    let Ok(printed) = print_program(alloc, &program) else {
+        return Err("there is no memory".into());
+    };
+    assert!(rt; printed.as_slice() == text);
     Ok(())
 }
 
+#[test]
+fn each_line_is_read_and_printed_again(rt: HostRuntime) -> Result<(), Fail> {
+    expect_again(&rt, rt.alloc(), &[], LINES, 24)
+}
+
 /// Whether a text is refused with this number at this place.
-fn is_refused(rt: &HostRuntime, text: &[u8], number: u32, line: u32, column: u32) -> bool {
-    match parse_program(rt.alloc(), text, &[]) {
+pub fn is_refused(
+    alloc: Global,
+    headers: &[Header],
+    text: &[u8],
+    number: u32,
+    line: u32,
+    column: u32,
+) -> bool {
+    match parse_program(alloc, text, headers) {
         Ok(_) => false,
         Err(fault) => {
             fault.number() == Some(number) && fault.place() == Some(Place { line, column })
@@ -56,209 +76,249 @@ fn is_refused(rt: &HostRuntime, text: &[u8], number: u32, line: u32, column: u32
     }
 }
 
-#[test]
-fn refusals_of_the_first_line(rt: HostRuntime) {
-    for (text, number, column) in [
-        (b"".as_slice(), 2, 1),
-        (b"\n".as_slice(), 2, 1),
-        (b"program".as_slice(), 2, 8),
-        (b"program none()".as_slice(), 2, 15),
-        (b"program none()\n".as_slice(), 2, 16),
-        (b"program  none()\n".as_slice(), 2, 9),
-        (b"program n\x80()\n".as_slice(), 1, 10),
-        (b"program n(\t)\n".as_slice(), 1, 11),
-        (
-            b"program a23456789012345678901234567890123456789012345678901234567890abcd()".as_slice(),
-            2,
-            75,
-        ),
-        (
-            b"program a23456789012345678901234567890123456789012345678901234567890abcde()".as_slice(),
-            1,
-            9,
-        ),
-        (b"program p(k: i7)\n".as_slice(), 2, 14),
-        (b"program p(k: i8, k: ptr)\n".as_slice(), 2, 18),
-        (
-            b"program p(a: i8, b: i8, c: i8, d: i8, e: i8, f: i8, g: i8, h: i8, i: i8, j: i8, k: i8, l: i8, m: i8, n: i8, o: i8, p: i8, q: i8)\n".as_slice(),
-            2,
-            123,
-        ),
-    ] {
-        assert!(rt; is_refused(&rt, text, number, 1, column), "column {column}");
-    }
-}
-
-/// The first of these lines that, behind this front, is not refused with its number at its column.
-fn first_other<'a>(
-    rt: &HostRuntime,
-    front: &[u8],
+/// A row is a line of a program, an arrow, and the number and the column of its fault: asserts
+/// that behind `front`, as the line `at`, it is refused with them.
+fn refuse_line(
+    rt: &impl Abort,
+    alloc: Global,
+    headers: &[Header],
+    front: &str,
     at: u32,
-    lines: &[(&'a [u8], u32, u32)],
-) -> Result<Option<&'a [u8]>, AllocError> {
-    for (line, number, column) in lines {
-        let mut text = Vec::from_slice(rt.alloc(), front)?;
-        text.extend_from_slice(line)?;
-        text.push(b'\n')?;
-        if !is_refused(rt, &text, *number, at, *column) {
-            return Ok(Some(*line));
-        }
-    }
-    Ok(None)
+    row: &str,
+) -> Result<(), Fail> {
+    let Some((line, fault)) = row.trim_start().rsplit_once(" => ") else {
+        return Err("an arrow is missing".into());
+    };
+    let Some((number, column)) = fault.split_once(' ') else {
+        return Err("a column is missing".into());
+    };
+    let (number, column) = (number.parse::<u32>()?, column.parse::<u32>()?);
+    let text = format!(in alloc; "{front}{line}\n")?;
+    assert!(rt;
+        is_refused(alloc, headers, text.as_bytes(), number, at, column),
+        "{row}"
+    );
+    Ok(())
 }
 
-#[test]
-fn refusals_of_a_line(rt: HostRuntime) -> Result<(), Fail> {
-    let other = first_other(
-        &rt,
-        b"program p(d: ptr, k: i8)\n",
-        2,
-        &[
-            (b"%s0:i32 = load e+0".as_slice(), 4, 16),
-            (b"%s0:i32 = load k+0".as_slice(), 5, 16),
-            (b"%s0:i32 = load k 0".as_slice(), 5, 16),
-            (b"%s0:i32 = load d-0".as_slice(), 8, 18),
-            (b"%s0:i32 = load d-00".as_slice(), 2, 18),
-            (b"%s0:i32 = load d+2147483648".as_slice(), 8, 18),
-            (b"%s0:i32 = load d-2147483649".as_slice(), 8, 18),
-            (
-                b"%s0:i32 = load d+99999999999999999999999".as_slice(),
-                8,
-                18,
-            ),
-            (b"%s0:i32 = load d*0".as_slice(), 2, 17),
-            (b"%s1:i32 = load d+0".as_slice(), 2, 1),
-            (b"%s00:i32 = load d+0".as_slice(), 2, 1),
-            (b"%v1 = vload 16 d+0".as_slice(), 2, 1),
-            (b"%s0:i2 = load d+0".as_slice(), 2, 5),
-            (b"%s0:i32 = add k 1i32".as_slice(), 5, 15),
-            (b"%s0:i8 = add k d".as_slice(), 5, 16),
-            (b"%s0:i8 = add k %s0".as_slice(), 4, 16),
-            (b"%s0:i32 = add 300i8 1i32".as_slice(), 5, 15),
-            (b"%s0:i32 = add 1i32 4294967296i32".as_slice(), 8, 20),
-            (b"store d+0 %s0".as_slice(), 4, 11),
-            (b"store d+0 %s00".as_slice(), 2, 11),
-            (b"store d+0 %v0".as_slice(), 2, 11),
-            (b"store d+0 d".as_slice(), 5, 11),
-            (b"store d+0 x".as_slice(), 4, 11),
-            (b"store d+0 256i8".as_slice(), 8, 11),
-            (b"store d+0 007i8".as_slice(), 2, 11),
-            (b"store d+0 999i7".as_slice(), 2, 14),
-            (b"store d+0 7 i8".as_slice(), 2, 12),
-            (b"store d+0  k".as_slice(), 2, 11),
-            (b"store d+0 k ".as_slice(), 2, 12),
-            (b"vstore 16 d+0 %v0".as_slice(), 4, 15),
-            (b"end cost 00 scalar 0".as_slice(), 2, 10),
-            (b"end cost 1 scalar 0".as_slice(), 6, 10),
-            (b"end cost 4294967295 scalar 0".as_slice(), 6, 10),
-            (b"end cost 4294967296 scalar 0".as_slice(), 8, 10),
-            (b"end cost 0 scalar 16385".as_slice(), 8, 19),
-            (b"end cost 0 scalar 0 ".as_slice(), 2, 20),
-        ],
-    )?;
-    assert_eq!(rt; other, None);
+/// Asserts the same of each line as a row.
+pub fn refuse_lines(
+    rt: &impl Abort,
+    alloc: Global,
+    headers: &[Header],
+    front: &str,
+    at: u32,
+    rows: &str,
+) -> Result<(), Fail> {
+    for row in rows.trim().lines() {
+        refuse_line(rt, alloc, headers, front, at, row)?;
+    }
     Ok(())
 }
 
 #[test]
-fn refusals_of_words_and_types(rt: HostRuntime) -> Result<(), Fail> {
-    let other = first_other(
+fn refusals_of_the_first_line(rt: HostRuntime) -> Result<(), Fail> {
+    assert!(rt; is_refused(rt.alloc(), &[], b"", 2, 1, 1));
+    assert!(rt; is_refused(rt.alloc(), &[], b"\n", 2, 1, 1));
+    assert!(rt; is_refused(rt.alloc(), &[], b"program", 2, 1, 8));
+    assert!(rt; is_refused(rt.alloc(), &[], b"program none()", 2, 1, 15));
+    assert!(rt; is_refused(rt.alloc(), &[], b"program n\x80()\n", 1, 1, 10));
+    assert!(rt; is_refused(rt.alloc(), &[], NAME_OF_64, 2, 1, 75));
+    assert!(rt; is_refused(rt.alloc(), &[], NAME_OF_65, 1, 1, 9));
+    refuse_lines(
         &rt,
-        b"program p(d: ptr, k: i8)\n",
+        rt.alloc(),
+        &[],
+        "",
+        1,
+        "
+        program none() => 2 16
+        program  none() => 2 9
+        program n(\t) => 1 11
+        program p(k: i7) => 2 14
+        program p(k: i8, k: ptr) => 2 18
+        program p(a: i8, b: i8, c: i8, d: i8, e: i8, f: i8, g: i8, h: i8, i: i8, j: i8, k: i8, l: i8, \
+        m: i8, n: i8, o: i8, p: i8, q: i8) => 2 123
+        ",
+    )
+}
+
+/// The longest name.
+const NAME_OF_64: &[u8] =
+    b"program a23456789012345678901234567890123456789012345678901234567890abcd()";
+
+/// A name of one byte more.
+const NAME_OF_65: &[u8] =
+    b"program a23456789012345678901234567890123456789012345678901234567890abcde()";
+
+#[test]
+fn refusals_of_a_line(rt: HostRuntime) -> Result<(), Fail> {
+    refuse_lines(
+        &rt,
+        rt.alloc(),
+        &[],
+        "program p(d: ptr, k: i8)\n",
         2,
-        &[
-            (b"%s0:i1 = load d+0".as_slice(), 2, 10),
-            (b"%s0:i1 = add k k".as_slice(), 2, 10),
-            (b"%s0:i8 = eq k k".as_slice(), 2, 10),
-            (b"%s0:i8 = store d+0 k".as_slice(), 2, 10),
-            (b"add k k".as_slice(), 2, 1),
-            (b"%s0:i8 = ad k k".as_slice(), 2, 10),
-            (b"%s0:i8 = adds k k".as_slice(), 2, 10),
-            (b"%s0:i8 = sex k".as_slice(), 2, 10),
-            (b"%s0:i1 = sltu k k".as_slice(), 2, 10),
-            (b"%s0:i1 = slt  k k".as_slice(), 2, 14),
-            (b"%s0:i1x = eq k k".as_slice(), 2, 5),
-            (b"%s0:i1= eq k k".as_slice(), 2, 7),
-            (b"%s0:i8 = \x80".as_slice(), 1, 10),
-        ],
+        "
+        %s0:i32 = load e+0 => 4 16
+        %s0:i32 = load k+0 => 5 16
+        %s0:i32 = load k 0 => 5 16
+        %s0:i32 = load d-0 => 8 18
+        %s0:i32 = load d-00 => 2 18
+        %s0:i32 = load d+2147483648 => 8 18
+        %s0:i32 = load d-2147483649 => 8 18
+        %s0:i32 = load d+99999999999999999999999 => 8 18
+        %s0:i32 = load d*0 => 2 17
+        %s1:i32 = load d+0 => 2 1
+        %s00:i32 = load d+0 => 2 1
+        %v1 = vload 16 d+0 => 2 1
+        %s0:i2 = load d+0 => 2 5
+        %s0:i32 = add k 1i32 => 5 15
+        %s0:i8 = add k d => 5 16
+        %s0:i8 = add k %s0 => 4 16
+        %s0:i32 = add 300i8 1i32 => 5 15
+        %s0:i32 = add 1i32 4294967296i32 => 8 20
+        store d+0 %s0 => 4 11
+        store d+0 %s00 => 2 11
+        store d+0 %v0 => 2 11
+        store d+0 d => 5 11
+        store d+0 x => 4 11
+        store d+0 256i8 => 8 11
+        store d+0 007i8 => 2 11
+        store d+0 999i7 => 2 14
+        store d+0 7 i8 => 2 12
+        store d+0  k => 2 11
+        store d+0 k  => 2 12
+        vstore 16 d+0 %v0 => 4 15
+        end cost 00 scalar 0 => 2 10
+        end cost 1 scalar 0 => 6 10
+        end cost 4294967295 scalar 0 => 6 10
+        end cost 4294967296 scalar 0 => 8 10
+        end cost 0 scalar 16385 => 8 19
+        end cost 0 scalar 0  => 2 20
+        ",
+    )
+}
+
+#[test]
+fn refusals_of_words_and_types(rt: HostRuntime) -> Result<(), Fail> {
+    refuse_lines(
+        &rt,
+        rt.alloc(),
+        &[],
+        "program p(d: ptr, k: i8)\n",
+        2,
+        "
+        %s0:i1 = load d+0 => 2 10
+        %s0:i1 = add k k => 2 10
+        %s0:i8 = eq k k => 2 10
+        %s0:i8 = store d+0 k => 2 10
+        add k k => 2 1
+        %s0:i8 = ad k k => 2 10
+        %s0:i8 = adds k k => 2 10
+        %s0:i8 = sex k => 2 10
+        %s0:i1 = sltu k k => 2 10
+        %s0:i1 = slt  k k => 2 14
+        %s0:i1x = eq k k => 2 5
+        %s0:i1= eq k k => 2 7
+        ",
     )?;
-    assert_eq!(rt; other, None);
+    assert!(rt;
+        is_refused(
+            rt.alloc(),
+            &[],
+            b"program p(d: ptr, k: i8)\n%s0:i8 = \x80\n",
+            1,
+            2,
+            10
+        )
+    );
     Ok(())
 }
 
 #[test]
 fn refusals_of_operands(rt: HostRuntime) -> Result<(), Fail> {
-    let other = first_other(
+    refuse_lines(
         &rt,
-        b"program p(d: ptr, k: i8)\n",
+        rt.alloc(),
+        &[],
+        "program p(d: ptr, k: i8)\n",
         2,
-        &[
-            (b"%s0:i8 = shl k 8".as_slice(), 8, 16),
-            (b"%s0:i8 = lshr k 8".as_slice(), 8, 17),
-            (b"%s0:i64 = ashr 1i64 64".as_slice(), 8, 21),
-            (b"%s0:i8 = shl k 07".as_slice(), 2, 16),
-            (b"%s0:i8 = shl k 99999999999999999999999".as_slice(), 8, 16),
-            (b"%s0:i8 = shl k 7i8".as_slice(), 2, 17),
-            (b"%s0:i8 = shl k 9i8".as_slice(), 8, 16),
-            (b"%s0:i8 = shl k k".as_slice(), 2, 16),
-            (b"%s0:i16 = ashr k 9".as_slice(), 5, 16),
-            (b"%s0:i8 = sext k".as_slice(), 5, 15),
-            (b"%s0:i8 = zext 5i16".as_slice(), 5, 15),
-            (b"%s0:i16 = sext 300i16".as_slice(), 5, 16),
-            (b"%s0:i16 = sext 300i8".as_slice(), 8, 16),
-            (b"%s0:i8 = trunc k".as_slice(), 5, 16),
-            (b"%s0:i16 = trunc k".as_slice(), 5, 17),
-            (b"%s0:i64 = zext d".as_slice(), 5, 16),
-            (b"%s0:i64 = zext e".as_slice(), 4, 16),
-            (b"%s0:i1 = eq k 1i16".as_slice(), 5, 15),
-            (b"%s0:i1 = eq 5i7 k".as_slice(), 2, 14),
-            (b"%s0:i1 = ult 1i1 1i1".as_slice(), 2, 15),
-            (b"%s0:i1 = eq d k".as_slice(), 5, 13),
-            (b"%s0:i1 = eq k %s0".as_slice(), 4, 15),
-            (b"%s0:i8 = select k k k".as_slice(), 5, 17),
-            (b"%s0:i8 = select 5i7 k k".as_slice(), 2, 18),
-            (b"%s0:i8 = select 300i8 k k".as_slice(), 5, 17),
-            (b"%s0:i8 = select d k k".as_slice(), 5, 17),
-            (b"%s0:i8 = select e k k".as_slice(), 4, 17),
-        ],
-    )?;
-    assert_eq!(rt; other, None);
-    Ok(())
+        "
+        %s0:i8 = shl k 8 => 8 16
+        %s0:i8 = lshr k 8 => 8 17
+        %s0:i64 = ashr 1i64 64 => 8 21
+        %s0:i8 = shl k 07 => 2 16
+        %s0:i8 = shl k 99999999999999999999999 => 8 16
+        %s0:i8 = shl k 7i8 => 2 17
+        %s0:i8 = shl k 9i8 => 8 16
+        %s0:i8 = shl k k => 2 16
+        %s0:i16 = ashr k 9 => 5 16
+        %s0:i8 = sext k => 5 15
+        %s0:i8 = zext 5i16 => 5 15
+        %s0:i16 = sext 300i16 => 5 16
+        %s0:i16 = sext 300i8 => 8 16
+        %s0:i8 = trunc k => 5 16
+        %s0:i16 = trunc k => 5 17
+        %s0:i64 = zext d => 5 16
+        %s0:i64 = zext e => 4 16
+        %s0:i1 = eq k 1i16 => 5 15
+        %s0:i1 = eq 5i7 k => 2 14
+        %s0:i1 = ult 1i1 1i1 => 2 15
+        %s0:i1 = eq d k => 5 13
+        %s0:i1 = eq k %s0 => 4 15
+        %s0:i8 = select k k k => 5 17
+        %s0:i8 = select 5i7 k k => 2 18
+        %s0:i8 = select 300i8 k k => 5 17
+        %s0:i8 = select d k k => 5 17
+        %s0:i8 = select e k k => 4 17
+        ",
+    )
 }
 
 #[test]
 fn one_bit_stands_as_a_condition_alone(rt: HostRuntime) -> Result<(), Fail> {
-    let other = first_other(
+    refuse_lines(
         &rt,
-        b"program p(d: ptr, k: i8)\n%s0:i1 = eq k k\n",
+        rt.alloc(),
+        &[],
+        "program p(d: ptr, k: i8)\n%s0:i1 = eq k k\n",
         3,
-        &[
-            (b"%s0:i8 = add k k".as_slice(), 2, 1),
-            (b"%s1:i8 = add %s0 k".as_slice(), 5, 14),
-            (b"%s1:i8 = add k %s0".as_slice(), 5, 16),
-            (b"%s1:i8 = shl %s0 0".as_slice(), 5, 14),
-            (b"%s1:i8 = zext %s0".as_slice(), 5, 15),
-            (b"%s1:i8 = trunc %s0".as_slice(), 5, 16),
-            (b"%s1:i1 = eq %s0 k".as_slice(), 5, 13),
-            (b"%s1:i1 = eq k %s0".as_slice(), 5, 15),
-            (b"%s1:i1 = ult %s0 %s0".as_slice(), 5, 14),
-            (b"store d+0 %s0".as_slice(), 5, 11),
-            (b"%s1:i8 = select %s0 %s0 k".as_slice(), 5, 21),
-            (b"%s1:i8 = select %s0 k %s0".as_slice(), 5, 23),
-            (b"%s1:i8 = select %s0 k 1i16".as_slice(), 5, 23),
-            (b"%s1:i8 = select %s0 k".as_slice(), 2, 22),
-            (b"%s1:i1 = select %s0 k k".as_slice(), 2, 10),
-        ],
-    )?;
-    assert_eq!(rt; other, None);
-    Ok(())
+        "
+        %s0:i8 = add k k => 2 1
+        %s1:i8 = add %s0 k => 5 14
+        %s1:i8 = add k %s0 => 5 16
+        %s1:i8 = shl %s0 0 => 5 14
+        %s1:i8 = zext %s0 => 5 15
+        %s1:i8 = trunc %s0 => 5 16
+        %s1:i1 = eq %s0 k => 5 13
+        %s1:i1 = eq k %s0 => 5 15
+        %s1:i1 = ult %s0 %s0 => 5 14
+        store d+0 %s0 => 5 11
+        %s1:i8 = select %s0 %s0 k => 5 21
+        %s1:i8 = select %s0 k %s0 => 5 23
+        %s1:i8 = select %s0 k 1i16 => 5 23
+        %s1:i8 = select %s0 k => 2 22
+        %s1:i1 = select %s0 k k => 2 10
+        ",
+    )
 }
 
 #[test]
 fn refusals_at_the_end(rt: HostRuntime) {
-    assert!(rt; is_refused(&rt, b"program n()\nend cost 0 scalar 0", 2, 2, 20));
-    assert!(rt; is_refused(&rt, b"program n()\nend cost 0 scalar 0\nx", 2, 3, 1));
-    assert!(rt; is_refused(&rt, b"program n()\nend cost 0 scalar 0\n\x7f", 1, 3, 1));
+    let alloc = rt.alloc();
+    assert!(rt; is_refused(alloc, &[], b"program n()\nend cost 0 scalar 0", 2, 2, 20));
+    assert!(rt; is_refused(alloc, &[], b"program n()\nend cost 0 scalar 0\nx", 2, 3, 1));
+    assert!(rt;
+        is_refused(
+            alloc,
+            &[],
+            b"program n()\nend cost 0 scalar 0\n\x7f",
+            1,
+            3,
+            1
+        )
+    );
 }
 
 #[test]
@@ -267,7 +327,7 @@ fn a_wrong_cost_is_printed_with_both_costs(rt: HostRuntime) -> Result<(), Fail> 
         Ok(_) => Err("the cost is wrong".into()),
         Err(fault) => {
             let text = format!(in rt.alloc(); "{fault}")?;
-            assert_eq!(rt; text.as_str(), "6 CostWrong 3 0 at 2:10");
+            assert!(rt; text.as_str() == "6 CostWrong 3 0 at 2:10");
             Ok(())
         }
     }
@@ -298,30 +358,29 @@ pub fn largest_program(alloc: Global) -> Result<Vec<u8>, AllocError> {
 #[test]
 fn the_largest_text_is_read_and_printed_again(rt: HostRuntime) -> Result<(), Fail> {
     let largest = largest_program(rt.alloc())?;
-    assert_eq!(rt; largest.len(), 4_194_304);
-    let program = parse_program(rt.alloc(), largest.as_slice(), &[])
-        .ok()
-        .ok_or("the program is valid")?;
-    assert_eq!(rt; cost(&program), 349_521);
-    let text = print_program(rt.alloc(), &program)
-        .ok()
-        .ok_or("there is memory")?;
-    assert!(rt; text == largest);
+    assert!(rt; largest.len() == 4_194_304);
+    expect_again(&rt, rt.alloc(), &[], largest.as_slice(), 349_521)
+}
+
+/// Asserts the number of the refusal at the first byte of such a text.
+fn refuse_size(
+    rt: &impl Abort,
+    alloc: Global,
+    front: &[u8],
+    fill: u8,
+    size: usize,
+    number: u32,
+) -> Result<(), Fail> {
+    let text = text_of_size(alloc, front, fill, size)?;
+    assert!(rt; is_refused(alloc, &[], text.as_slice(), number, 1, 1));
     Ok(())
 }
 
 #[test]
 fn texts_at_the_limit_and_over_it(rt: HostRuntime) -> Result<(), Fail> {
-    let cases: [(&[u8], u8, usize, u32); 5] = [
-        (b"", 0x80, 4_194_304, 1),
-        (NONE, b'\n', 4_194_305, 7),
-        (NONE, b' ', 4_194_305, 7),
-        (b"", 0x80, 4_194_305, 7),
-        (b"", b'a', 4_194_305, 7),
-    ];
-    for (front, fill, size, number) in &cases {
-        let text = text_of_size(rt.alloc(), front, *fill, *size)?;
-        assert!(rt; is_refused(&rt, text.as_slice(), *number, 1, 1));
-    }
-    Ok(())
+    refuse_size(&rt, rt.alloc(), b"", 0x80, 4_194_304, 1)?;
+    refuse_size(&rt, rt.alloc(), NONE, b'\n', 4_194_305, 7)?;
+    refuse_size(&rt, rt.alloc(), NONE, b' ', 4_194_305, 7)?;
+    refuse_size(&rt, rt.alloc(), b"", 0x80, 4_194_305, 7)?;
+    refuse_size(&rt, rt.alloc(), b"", b'a', 4_194_305, 7)
 }

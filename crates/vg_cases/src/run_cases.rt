@@ -1,6 +1,7 @@
 //! Worked cases of `run`.
 
-use crate::desk::Desk;
+use crate::desk::{Desk, status_of};
+use crate::memories::{bytes_of, lines_of};
 use crate::program_cases::largest_program;
 use std::alloc::{AllocError, Global};
 use std::process::Abort;
@@ -33,52 +34,39 @@ fn desk_of_room(alloc: Global, room: usize, program: &[u8], memory: &[u8]) -> Re
     Ok(desk)
 }
 
+/// A row is bindings, an arrow, a memory, an arrow, and what the program leaves of it.
+fn expect_left(rt: &impl Abort, alloc: Global, program: &[u8], row: &str) -> Result<(), Fail> {
+    let Some((bindings, memories)) = row.split_once(" => ") else {
+        return Err("an arrow is missing".into());
+    };
+    let Some((memory, left)) = memories.split_once(" => ") else {
+        return Err("a memory is missing".into());
+    };
+    let memory = bytes_of(alloc, memory)?;
+    let left = bytes_of(alloc, left)?;
+    let line = format!(in alloc; "run i p m {bindings}")?;
+    let mut desk = desk_with(alloc, program, memory.as_slice())?;
+    desk.expect(rt, line.as_str(), Status::Ok, left.as_slice(), b"")?;
+    desk.expect_reads(rt, 3);
+    Ok(())
+}
+
 #[test]
 fn programs_and_the_memory_that_they_leave(rt: HostRuntime) -> Result<(), Fail> {
-    let cases: [(&[u8], &[u8], &[&str], &[u8]); 7] = [
-        // Both words overlap what they are copied from.
-        (
-            TWO,
-            &[1, 2, 3, 4, 5, 6, 7, 8, 9, 10, 11, 12],
-            &["run", "i", "p", "m", "p=4", "q=0"],
-            &[1, 2, 3, 4, 1, 2, 3, 4, 1, 2, 3, 4],
-        ),
-        // A load that nothing uses leaves the memory.
-        (
-            DEAD,
-            &[9, 8, 7, 6, 5],
-            &["run", "i", "p", "m", "p=0"],
-            &[9, 8, 7, 6, 5],
-        ),
-        // 255 and -1 are one byte.
-        (PUT, &[3], &["run", "i", "p", "m", "d=0", "k=255"], &[255]),
-        (PUT, &[3], &["run", "i", "p", "m", "k=-1", "d=0"], &[255]),
-        (
-            PUT,
-            &[3, 4],
-            &["run", "i", "p", "m", "k=-128", "d=1"],
-            &[3, 128],
-        ),
-        // 0x0201 + 0xff00 - 1 is 0x0100 modulo 2^16.
-        (
-            SUM,
-            &[7, 7, 1, 2],
-            &["run", "i", "p", "m", "d=1", "k=65280"],
-            &[0, 1, 1, 2],
-        ),
-        (
-            b"program none()\nend cost 0 scalar 0\n",
-            b"",
-            &["run", "i", "p", "m"],
-            b"",
-        ),
-    ];
-    for (program, memory, words, left) in &cases {
-        let mut desk = desk_with(rt.alloc(), program, memory)?;
-        desk.expect(&rt, words, Status::Ok, left, b"")?;
-        assert_eq!(rt; desk.shelf.reads(), 3);
-    }
-    Ok(())
+    let alloc = rt.alloc();
+    // Both words overlap what they are copied from.
+    let twelve = "p=4 q=0 => 1 2 3 4 5 6 7 8 9 10 11 12 => 1 2 3 4 1 2 3 4 1 2 3 4";
+    expect_left(&rt, alloc, TWO, twelve)?;
+    // A load that nothing uses leaves the memory.
+    expect_left(&rt, alloc, DEAD, "p=0 => 9 8 7 6 5 => 9 8 7 6 5")?;
+    // 255 and -1 are one byte.
+    expect_left(&rt, alloc, PUT, "d=0 k=255 => 3 => 255")?;
+    expect_left(&rt, alloc, PUT, "k=-1 d=0 => 3 => 255")?;
+    expect_left(&rt, alloc, PUT, "k=-128 d=1 => 3 4 => 3 128")?;
+    // 0x0201 + 0xff00 - 1 is 0x0100 modulo 2^16.
+    expect_left(&rt, alloc, SUM, "d=1 k=65280 => 7 7 1 2 => 0 1 1 2")?;
+    let none = b"program none()\nend cost 0 scalar 0\n";
+    expect_left(&rt, alloc, none, " => 0*0 => 0*0")
 }
 
 /// A memory of 16 MiB with this last byte.
@@ -88,16 +76,27 @@ fn largest_memory(alloc: Global, last: u8) -> Result<Vec<u8>, AllocError> {
     Ok(memory)
 }
 
+/// Asserts that a memory of 16 MiB is run on.
+fn expect_largest(rt: &impl Abort, alloc: Global, line: &str) -> Result<(), Fail> {
+    let memory = largest_memory(alloc, 3)?;
+    let left = largest_memory(alloc, 7)?;
+    let mut desk = desk_of_room(alloc, 1 << 24, PUT, memory.as_slice())?;
+    desk.expect(rt, line, Status::Ok, left.as_slice(), b"")
+}
+
+/// Asserts that one of a byte more is not.
+fn expect_too_large(rt: &impl Abort, alloc: Global, line: &str) -> Result<(), Fail> {
+    let mut memory = largest_memory(alloc, 3)?;
+    memory.push(3)?;
+    let mut desk = desk_with(alloc, PUT, memory.as_slice())?;
+    desk.expect(rt, line, Status::TooLarge, b"", b"vegen: too large: m\n")
+}
+
 #[test]
 fn a_memory_of_16_mib_is_the_largest(rt: HostRuntime) -> Result<(), Fail> {
-    let words: [&str; 6] = ["run", "i", "p", "m", "d=16777215", "k=7"];
-    let mut memory = largest_memory(rt.alloc(), 3)?;
-    let mut desk = desk_of_room(rt.alloc(), 1 << 24, PUT, memory.as_slice())?;
-    let left = largest_memory(rt.alloc(), 7)?;
-    desk.expect(&rt, &words, Status::Ok, left.as_slice(), b"")?;
-    memory.push(3)?;
-    let mut desk = desk_with(rt.alloc(), PUT, memory.as_slice())?;
-    desk.expect(&rt, &words, Status::TooLarge, b"", b"vegen: too large: m\n")
+    let line = "run i p m d=16777215 k=7";
+    expect_largest(&rt, rt.alloc(), line)?;
+    expect_too_large(&rt, rt.alloc(), line)
 }
 
 #[test]
@@ -107,253 +106,233 @@ fn a_program_of_one_byte_over_4_mib_is_too_large(rt: HostRuntime) -> Result<(), 
     let mut desk = desk_with(rt.alloc(), text.as_slice(), b"1")?;
     desk.expect(
         &rt,
-        &["run", "i", "p", "m", "d=0", "k=7"],
+        "run i p m d=0 k=7",
         Status::TooLarge,
         b"",
         b"vegen: too large: p\n",
     )
 }
 
+/// Asserts that a program traps on a memory.
+fn expect_trap(
+    rt: &impl Abort,
+    alloc: Global,
+    program: &[u8],
+    memory: &[u8],
+    line: &str,
+) -> Result<(), Fail> {
+    let mut desk = desk_with(alloc, program, memory)?;
+    desk.expect(rt, line, Status::Trap, b"", b"vegen: trap\n")
+}
+
 #[test]
 fn accesses_outside_the_memory_trap(rt: HostRuntime) -> Result<(), Fail> {
-    let cases: [(&[u8], &[u8], &[&str]); 4] = [
-        // A load that nothing uses still traps.
-        (DEAD, &[9, 8, 7, 6], &["run", "i", "p", "m", "p=0"]),
-        // A place past the memory, and a sum past 2^64 - 1.
-        (FAR, &[0; 20], &["run", "i", "p", "m", "p=12"]),
-        (
-            FAR,
-            &[0; 20],
-            &["run", "i", "p", "m", "p=18446744073709551615"],
-        ),
-        // An address below 0.
-        (SUM, &[0; 20], &["run", "i", "p", "m", "d=0", "k=0"]),
-    ];
-    for (program, memory, words) in &cases {
-        let mut desk = desk_with(rt.alloc(), program, memory)?;
-        desk.expect(&rt, words, Status::Trap, b"", b"vegen: trap\n")?;
-    }
+    let alloc = rt.alloc();
+    // A load that nothing uses still traps.
+    expect_trap(&rt, alloc, DEAD, &[9, 8, 7, 6], "run i p m p=0")?;
+    // A place past the memory, and a sum past 2^64 - 1.
+    expect_trap(&rt, alloc, FAR, &[0; 20], "run i p m p=12")?;
+    expect_trap(
+        &rt,
+        alloc,
+        FAR,
+        &[0; 20],
+        "run i p m p=18446744073709551615",
+    )?;
+    // An address below 0.
+    expect_trap(&rt, alloc, SUM, &[0; 20], "run i p m d=0 k=0")
+}
+
+/// Asserts that bindings are refused, behind all three files.
+fn refuse_bindings(rt: &impl Abort, alloc: Global, program: &[u8], line: &str) -> Result<(), Fail> {
+    let mut desk = desk_with(alloc, program, &[0; 20])?;
+    desk.expect(rt, line, Status::BindingsRefused, b"", b"vegen: bindings\n")?;
+    desk.expect_reads(rt, 3);
     Ok(())
 }
 
 #[test]
 fn bindings_that_are_refused(rt: HostRuntime) -> Result<(), Fail> {
-    let cases: [(&[u8], &[&str]); 8] = [
-        (PUT, &["run", "i", "p", "m", "d=0", "d=4"]),
-        (PUT, &["run", "i", "p", "m", "d=0", "d=0", "k=1"]),
-        (PUT, &["run", "i", "p", "m", "d=0"]),
-        (PUT, &["run", "i", "p", "m", "d=0", "k=256"]),
-        (PUT, &["run", "i", "p", "m", "d=0", "k=-129"]),
-        (PUT, &["run", "i", "p", "m", "d=-1", "k=1"]),
-        (PUT, &["run", "i", "p", "m", "d=0", "k=1", "z=1"]),
-        (FAR, &["run", "i", "p", "m", "p=18446744073709551616"]),
-    ];
-    for (program, words) in &cases {
-        let mut desk = desk_with(rt.alloc(), program, &[0; 20])?;
-        desk.expect(
-            &rt,
-            words,
-            Status::BindingsRefused,
-            b"",
-            b"vegen: bindings\n",
-        )?;
-        assert_eq!(rt; desk.shelf.reads(), 3);
+    let lines = "
+        run i p m d=0 d=4
+        run i p m d=0 d=0 k=1
+        run i p m d=0
+        run i p m d=0 k=256
+        run i p m d=0 k=-129
+        run i p m d=-1 k=1
+        run i p m d=0 k=1 z=1
+    ";
+    for line in lines.trim().lines() {
+        refuse_bindings(&rt, rt.alloc(), PUT, line)?;
     }
+    refuse_bindings(&rt, rt.alloc(), FAR, "run i p m p=18446744073709551616")
+}
+
+/// Asserts that words are no request, and that nothing is read.
+fn expect_usage(rt: &impl Abort, alloc: Global, line: &str) -> Result<(), Fail> {
+    let mut desk = desk_with(alloc, PUT, b"1")?;
+    desk.expect(rt, line, Status::Usage, b"", b"vegen: usage\n")?;
+    desk.expect_reads(rt, 0);
     Ok(())
 }
 
 #[test]
 fn words_that_are_no_request_to_run(rt: HostRuntime) -> Result<(), Fail> {
-    let cases: [&[&str]; 8] = [
-        &["run", "i", "p"],
-        &["run", "i", "p", "-m"],
-        &["run", "i", "p", "m", "d"],
-        &["run", "i", "p", "m", "d=", "k=1"],
-        &["run", "i", "p", "m", "=1"],
-        &["run", "i", "p", "m", "d=+1"],
-        &["run", "i", "p", "m", "d=000000000000000000001"],
-        &["run", "i", "p", "m", "1d=1"],
-    ];
-    for words in &cases {
-        let mut desk = desk_with(rt.alloc(), PUT, b"1")?;
-        desk.expect(&rt, words, Status::Usage, b"", b"vegen: usage\n")?;
-        assert_eq!(rt; desk.shelf.reads(), 0);
+    let lines = "
+        run i p
+        run i p -m
+        run i p m d
+        run i p m d= k=1
+        run i p m =1
+        run i p m d=+1
+        run i p m d=000000000000000000001
+        run i p m 1d=1
+    ";
+    for line in lines.trim().lines() {
+        expect_usage(&rt, rt.alloc(), line)?;
     }
     Ok(())
 }
 
-/// Runs a program that is refused, and asserts what the line says of it.
-fn refused<R: AllocGlobal + Abort>(rt: &R, program: &[u8], said: &[u8]) -> Result<(), Fail> {
-    let mut desk = desk_with(rt.alloc(), program, b"")?;
-    assert!(rt; desk.run(&["run", "i", "p", "m"])? == Status::ProgramRefused);
-    let mut line = Vec::from_slice(rt.alloc(), b"vegen: program: ")?;
-    line.extend_from_slice(said)?;
-    line.push(b'\n')?;
-    assert!(rt; desk.err.written() == line.as_slice());
-    assert!(rt; desk.out.written().is_empty());
-    assert_eq!(rt; desk.shelf.reads(), 2);
+/// Asserts what is said of a program that is refused, behind which nothing is read.
+fn refused(rt: &impl Abort, alloc: Global, program: &[u8], said: &str) -> Result<(), Fail> {
+    let line = format!(in alloc; "vegen: program: {said}\n")?;
+    let mut desk = desk_with(alloc, program, b"")?;
+    desk.expect(
+        rt,
+        "run i p m",
+        Status::ProgramRefused,
+        b"",
+        line.as_bytes(),
+    )?;
+    desk.expect_reads(rt, 2);
+    Ok(())
+}
+
+/// Each line is a program, in which each `;` ends a line, an arrow, and what is said of it.
+fn refuse_rows(rt: &impl Abort, alloc: Global, rows: &str) -> Result<(), Fail> {
+    for row in rows.trim().lines() {
+        let Some((program, said)) = row.trim().split_once(" => ") else {
+            return Err("an arrow is missing".into());
+        };
+        let text = lines_of(alloc, program, b';')?;
+        refused(rt, alloc, text.as_slice(), said)?;
+    }
     Ok(())
 }
 
 #[test]
 fn programs_with_tokens_and_shapes_that_are_refused(rt: HostRuntime) -> Result<(), Fail> {
-    let cases: [(&[u8], &[u8]); 13] = [
-        (b"program p(d: ptr)\n\x80", b"1 Token at 2:1"),
-        (b"\tprogram p()\nend cost 0 scalar 0\n", b"1 Token at 1:1"),
-        (b"program p()\nend cost 0 scalar 0\r\n", b"1 Token at 2:20"),
-        (
-            b"program aaaaaaaaaaaaaaaaaaaaaaaaaaaaaaaaaaaaaaaaaaaaaaaaaaaaaaaaaaaaaaaaa()\nend cost 0 scalar 0\n",
-            b"1 Token at 1:9",
-        ),
-        (b"", b"2 Shape at 1:1"),
-        (b"program p()\n", b"2 Shape at 1:13"),
-        (b"program p()\nend cost 00 scalar 0\n", b"2 Shape at 2:10"),
-        (
-            b"program p(d: ptr)\n%s1:i8 = load d+0\nend cost 1 scalar 1\n",
-            b"2 Shape at 2:1",
-        ),
-        (b"program p(d: ptr)\n%s0:i7 = load d+0\n", b"2 Shape at 2:5"),
-        (
-            b"program p(d: ptr, d: ptr)\nend cost 0 scalar 0\n",
-            b"2 Shape at 1:19",
-        ),
-        (b"program p()\nend cost 0 scalar 0\nx", b"2 Shape at 3:1"),
-        (b"program p(d: ptr)\nvstores 4 d+0 %v0\n", b"2 Shape at 2:1"),
-        // The type of a literal is judged before its number.
-        (
-            b"program p(k: i8)\n%s0:i8 = add 999i7 k\n",
-            b"2 Shape at 2:17",
-        ),
-    ];
-    for (program, said) in &cases {
-        refused(&rt, program, said)?;
-    }
-    Ok(())
+    let alloc = rt.alloc();
+    refused(&rt, alloc, b"program p(d: ptr)\n\x80", "1 Token at 2:1")?;
+    refused(
+        &rt,
+        alloc,
+        b"\tprogram p()\nend cost 0 scalar 0\n",
+        "1 Token at 1:1",
+    )?;
+    refused(
+        &rt,
+        alloc,
+        b"program p()\nend cost 0 scalar 0\r\n",
+        "1 Token at 2:20",
+    )?;
+    refused(&rt, alloc, b"", "2 Shape at 1:1")?;
+    // The type of a literal is judged before its number.
+    refuse_rows(
+        &rt,
+        alloc,
+        "
+        program aaaaaaaaaaaaaaaaaaaaaaaaaaaaaaaaaaaaaaaaaaaaaaaaaaaaaaaaaaaaaaaaa();end cost 0 scalar 0; => 1 Token at 1:9
+        program p(); => 2 Shape at 1:13
+        program p();end cost 00 scalar 0; => 2 Shape at 2:10
+        program p(d: ptr);%s1:i8 = load d+0;end cost 1 scalar 1; => 2 Shape at 2:1
+        program p(d: ptr);%s0:i7 = load d+0; => 2 Shape at 2:5
+        program p(d: ptr, d: ptr);end cost 0 scalar 0; => 2 Shape at 1:19
+        program p();end cost 0 scalar 0;x => 2 Shape at 3:1
+        program p(d: ptr);vstores 4 d+0 %v0; => 2 Shape at 2:1
+        program p(k: i8);%s0:i8 = add 999i7 k; => 2 Shape at 2:17
+        ",
+    )
 }
 
 #[test]
 fn programs_with_operands_that_are_refused(rt: HostRuntime) -> Result<(), Fail> {
-    let cases: [(&[u8], &[u8]); 9] = [
-        (
-            b"program p(d: ptr)\nstore d+0 %s0\n",
-            b"4 UnknownRegister at 2:11",
-        ),
-        (
-            b"program p(d: ptr)\nstore e+0 1i8\n",
-            b"4 UnknownRegister at 2:7",
-        ),
-        (
-            b"program p(d: ptr)\nstore d+0 k\n",
-            b"4 UnknownRegister at 2:11",
-        ),
-        (
-            b"program p()\n%s0:i8 = load d+0\n",
-            b"4 UnknownRegister at 2:15",
-        ),
-        (
-            b"program p(k: i8)\n%s0:i16 = add k k\n",
-            b"5 WidthMismatch at 2:15",
-        ),
-        (
-            b"program p(k: i8)\nstore k+0 1i8\n",
-            b"5 WidthMismatch at 2:7",
-        ),
-        (
-            b"program p(d: ptr)\nstore d+0 d\n",
-            b"5 WidthMismatch at 2:11",
-        ),
-        (
-            b"program p(k: i8)\n%s0:i8 = add k 1i16\n",
-            b"5 WidthMismatch at 2:16",
-        ),
-        // Of two faults at one literal the lesser number is told.
-        (
-            b"program p(k: i16)\n%s0:i16 = add 256i8 k\n",
-            b"5 WidthMismatch at 2:15",
-        ),
-    ];
-    for (program, said) in &cases {
-        refused(&rt, program, said)?;
-    }
-    Ok(())
+    let alloc = rt.alloc();
+    // Of two faults at one literal the lesser number is told.
+    refuse_rows(
+        &rt,
+        alloc,
+        "
+        program p(d: ptr);store d+0 %s0; => 4 UnknownRegister at 2:11
+        program p(d: ptr);store e+0 1i8; => 4 UnknownRegister at 2:7
+        program p(d: ptr);store d+0 k; => 4 UnknownRegister at 2:11
+        program p();%s0:i8 = load d+0; => 4 UnknownRegister at 2:15
+        program p(k: i8);%s0:i16 = add k k; => 5 WidthMismatch at 2:15
+        program p(k: i8);store k+0 1i8; => 5 WidthMismatch at 2:7
+        program p(d: ptr);store d+0 d; => 5 WidthMismatch at 2:11
+        program p(k: i8);%s0:i8 = add k 1i16; => 5 WidthMismatch at 2:16
+        program p(k: i16);%s0:i16 = add 256i8 k; => 5 WidthMismatch at 2:15
+        ",
+    )
 }
 
 #[test]
 fn programs_with_numbers_that_are_refused(rt: HostRuntime) -> Result<(), Fail> {
-    let cases: [(&[u8], &[u8]); 10] = [
-        (
-            b"program p()\nend cost 1 scalar 0\n",
-            b"6 CostWrong 1 0 at 2:10",
-        ),
-        (
-            b"program p(d: ptr)\nstore d+0 1i8\nend cost 0 scalar 1\n",
-            b"6 CostWrong 0 1 at 3:10",
-        ),
-        (
-            b"program p(d: ptr)\nstore d+0 1i8\nend cost 4294967295 scalar 1\n",
-            b"6 CostWrong 4294967295 1 at 3:10",
-        ),
-        (
-            b"program two(p: ptr, q: ptr)\n%s0:i32 = load q+0\nstore p+0 %s0\n%s1:i32 = load q+4\nstore p+4 %s1\nend cost 3 scalar 4\n",
-            b"6 CostWrong 3 4 at 6:10",
-        ),
-        (
-            b"program p()\nend cost 4294967296 scalar 0\n",
-            b"8 Range at 2:10",
-        ),
-        (
-            b"program p()\nend cost 0 scalar 16385\n",
-            b"8 Range at 2:19",
-        ),
-        (
-            b"program p(d: ptr)\nstore d+2147483648 1i8\n",
-            b"8 Range at 2:9",
-        ),
-        (
-            b"program p(d: ptr)\nstore d-2147483649 1i8\n",
-            b"8 Range at 2:9",
-        ),
-        (b"program p(d: ptr)\nstore d-0 1i8\n", b"8 Range at 2:9"),
-        (b"program p(d: ptr)\nstore d+0 256i8\n", b"8 Range at 2:11"),
-    ];
-    for (program, said) in &cases {
-        refused(&rt, program, said)?;
-    }
+    let alloc = rt.alloc();
+    refuse_rows(
+        &rt,
+        alloc,
+        "
+        program p();end cost 1 scalar 0; => 6 CostWrong 1 0 at 2:10
+        program p(d: ptr);store d+0 1i8;end cost 0 scalar 1; => 6 CostWrong 0 1 at 3:10
+        program p(d: ptr);store d+0 1i8;end cost 4294967295 scalar 1; => 6 CostWrong 4294967295 1 at 3:10
+        program two(p: ptr, q: ptr);%s0:i32 = load q+0;store p+0 %s0;%s1:i32 = load q+4;store p+4 %s1;end cost 3 scalar 4; => 6 CostWrong 3 4 at 6:10
+        program p();end cost 4294967296 scalar 0; => 8 Range at 2:10
+        program p();end cost 0 scalar 16385; => 8 Range at 2:19
+        program p(d: ptr);store d+2147483648 1i8; => 8 Range at 2:9
+        program p(d: ptr);store d-2147483649 1i8; => 8 Range at 2:9
+        program p(d: ptr);store d-0 1i8; => 8 Range at 2:9
+        program p(d: ptr);store d+0 256i8; => 8 Range at 2:11
+        ",
+    )
+}
+
+fn refuse_front(rt: &impl Abort, alloc: Global, front: &[u8]) -> Result<(), Fail> {
+    let mut desk = desk_with(alloc, front, b"")?;
+    assert!(rt; desk.run("run i p m d=0 k=0")? == Status::ProgramRefused);
     Ok(())
 }
 
 #[test]
 fn every_strict_prefix_of_a_program_is_refused(rt: HostRuntime) -> Result<(), Fail> {
     for len in 0..SUM.len() {
-        let mut desk = desk_with(rt.alloc(), &SUM[..len], b"")?;
-        assert!(rt; desk.run(&["run", "i", "p", "m", "d=0", "k=0"])? == Status::ProgramRefused);
+        refuse_front(&rt, rt.alloc(), &SUM[..len])?;
     }
     Ok(())
 }
 
-#[test]
-fn faults_of_the_outside_while_running(rt: HostRuntime) -> Result<(), Fail> {
-    let words: [&str; 6] = ["run", "i", "p", "m", "d=0", "k=7"];
-    let mut desk = desk_with(rt.alloc(), PUT, &[0; 20])?;
+/// What `run` is asked in the cases of faults.
+const RUN: &str = "run i p m d=0 k=7";
+
+fn expect_read_fault(rt: &impl Abort, alloc: Global) -> Result<(), Fail> {
+    let mut desk = desk_with(alloc, PUT, &[0; 20])?;
     desk.shelf.fail_read(2)?;
-    desk.expect(
-        &rt,
-        &words,
-        Status::ReadFault,
-        b"",
-        b"vegen: read fault: m\n",
-    )?;
-    let mut desk = Desk::new(rt.alloc(), 2)?;
+    desk.expect(rt, RUN, Status::ReadFault, b"", b"vegen: read fault: m\n")
+}
+
+fn expect_absent(rt: &impl Abort, alloc: Global) -> Result<(), Fail> {
+    let mut desk = Desk::new(alloc, 2)?;
     desk.shelf.put("i", b"")?;
     desk.shelf.put("p", PUT)?;
-    desk.expect(&rt, &words, Status::InputAbsent, b"", b"vegen: absent: m\n")?;
-    let mut desk = Desk::new(rt.alloc(), 2)?;
-    desk.shelf.put("i", b"")?;
-    desk.shelf.put("p", PUT)?;
-    desk.shelf.put("m", b"123")?;
+    desk.expect(rt, RUN, Status::InputAbsent, b"", b"vegen: absent: m\n")
+}
+
+fn expect_write_fault(rt: &impl Abort, alloc: Global) -> Result<(), Fail> {
+    let mut desk = desk_of_room(alloc, 2, PUT, b"123")?;
     desk.expect(
-        &rt,
-        &words,
+        rt,
+        RUN,
         Status::WriteFault,
         &[7, b'2'],
         b"vegen: write fault\n",
@@ -361,22 +340,42 @@ fn faults_of_the_outside_while_running(rt: HostRuntime) -> Result<(), Fail> {
 }
 
 #[test]
+fn faults_of_the_outside_while_running(rt: HostRuntime) -> Result<(), Fail> {
+    expect_read_fault(&rt, rt.alloc())?;
+    expect_absent(&rt, rt.alloc())?;
+    expect_write_fault(&rt, rt.alloc())
+}
+
+/// A row is a line of words, an arrow, how it ends, and how many files are read.
+fn expect_reads(rt: &impl Abort, alloc: Global, row: &str) -> Result<(), Fail> {
+    let Some((line, wanted)) = row.trim().split_once(" => ") else {
+        return Err("an arrow is missing".into());
+    };
+    let Some((status, reads)) = wanted.split_once(' ') else {
+        return Err("a count is missing".into());
+    };
+    let reads = reads.parse::<u64>()?;
+    let mut desk = desk_with(alloc, PUT, &[0; 20])?;
+    assert!(rt; desk.run(line)? == status_of(status), "{row}");
+    desk.expect_reads(rt, reads);
+    Ok(())
+}
+
+#[test]
 fn files_are_read_up_to_the_refused_one(rt: HostRuntime) -> Result<(), Fail> {
-    let cases: [(&[&str], Status, u64); 9] = [
-        (&["run", "-i", "p", "m"], Status::Usage, 0),
-        (&["run", "x", "p", "m"], Status::InputAbsent, 1),
-        (&["run", "m", "p", "m"], Status::InstructionsRefused, 1),
-        (&["run", "i", "x", "m"], Status::InputAbsent, 2),
-        (&["run", "i", "m", "x"], Status::ProgramRefused, 2),
-        (&["run", "i", "p", "x", "d=0"], Status::InputAbsent, 3),
-        (&["run", "i", "p", "m", "d=0"], Status::BindingsRefused, 3),
-        (&["compile", "i", "x"], Status::InputAbsent, 2),
-        (&["compile", "i", "p"], Status::KernelRefused, 2),
-    ];
-    for (words, status, reads) in &cases {
-        let mut desk = desk_with(rt.alloc(), PUT, &[0; 20])?;
-        assert!(rt; desk.run(words)? == *status);
-        assert_eq!(rt; desk.shelf.reads(), *reads);
+    let rows = "
+        run -i p m => Usage 0
+        run x p m => InputAbsent 1
+        run m p m => InstructionsRefused 1
+        run i x m => InputAbsent 2
+        run i m x => ProgramRefused 2
+        run i p x d=0 => InputAbsent 3
+        run i p m d=0 => BindingsRefused 3
+        compile i x => InputAbsent 2
+        compile i p => KernelRefused 2
+    ";
+    for row in rows.trim().lines() {
+        expect_reads(&rt, rt.alloc(), row)?;
     }
     Ok(())
 }

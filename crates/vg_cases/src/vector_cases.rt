@@ -1,13 +1,12 @@
 //! Program texts with registers and calls: those that are read and printed again, those that are
 //! refused, and what those without calls do.
 
+use crate::machine_cases::{expect_left, expect_trap};
+use crate::program_cases::{expect_again, is_refused, refuse_lines};
 use std::alloc::{AllocError, Global};
 use std::test::Fail;
 use vg_base::{Items, Name};
-use vg_machine::{Machine, Outcome};
-use vg_program::{cost, parse_program, print_program};
 use vg_pseudo::{Header, ImmRange, Param};
-use vg_text::Place;
 
 fn param(alloc: Global, register: u32) -> Result<Param, AllocError> {
     Ok(Param {
@@ -79,45 +78,10 @@ end cost 25 scalar 0
 #[test]
 fn each_line_on_registers_is_read_and_printed_again(rt: HostRuntime) -> Result<(), Fail> {
     let headers = headers_of(rt.alloc())?;
-    let program = parse_program(rt.alloc(), LINES, headers.as_slice())
-        .ok()
-        .ok_or("the program is valid")?;
-    assert_eq!(rt; cost(&program), 25);
-    let text = print_program(rt.alloc(), &program)
-        .ok()
-        .ok_or("there is memory")?;
-    assert_eq!(rt; text.as_slice(), LINES);
-    Ok(())
+    expect_again(&rt, rt.alloc(), headers.as_slice(), LINES, 25)
 }
 
-/// The first of these lines that, behind this front, is not refused with its number at its column.
-fn first_other<'a>(
-    rt: &HostRuntime,
-    front: &[u8],
-    at: u32,
-    lines: &[(&'a [u8], u32, u32)],
-) -> Result<Option<&'a [u8]>, AllocError> {
-    let headers = headers_of(rt.alloc())?;
-    for (line, number, column) in lines {
-        let mut text = Vec::from_slice(rt.alloc(), front)?;
-        text.extend_from_slice(line)?;
-        text.push(b'\n')?;
-        let place = Place {
-            line: at,
-            column: *column,
-        };
-        let refused = match parse_program(rt.alloc(), &text, headers.as_slice()) {
-            Ok(_) => false,
-            Err(fault) => fault.number() == Some(*number) && fault.place() == Some(place),
-        };
-        if !refused {
-            return Ok(Some(*line));
-        }
-    }
-    Ok(None)
-}
-
-const FRONT: &[u8] = b"program p(d: ptr, k: i8)
+const FRONT: &str = "program p(d: ptr, k: i8)
 %v0 = vload 16 d+0
 %v1 = vload 32 d+0
 %s0:i1 = eq k k
@@ -125,122 +89,103 @@ const FRONT: &[u8] = b"program p(d: ptr, k: i8)
 
 #[test]
 fn refusals_of_registers(rt: HostRuntime) -> Result<(), Fail> {
-    let other = first_other(
+    let headers = headers_of(rt.alloc())?;
+    refuse_lines(
         &rt,
+        rt.alloc(),
+        headers.as_slice(),
         FRONT,
         5,
-        &[
-            (b"%v3 = vload 16 d+0".as_slice(), 2, 1),
-            (b"%v02 = vload 16 d+0".as_slice(), 2, 1),
-            (b"%w2 = vload 16 d+0".as_slice(), 2, 1),
-            (b"%v2:i8 = vload 16 d+0".as_slice(), 2, 4),
-            (b"%v2 = load d+0".as_slice(), 2, 7),
-            (b"%s1:i8 = vload 16 d+0".as_slice(), 2, 10),
-            (b"vload 16 d+0".as_slice(), 2, 1),
-            (b"%v2 = vload 12 d+0".as_slice(), 8, 13),
-            (b"%v2 = vload 016 d+0".as_slice(), 2, 13),
-            (b"%v2 = vload 99999999999999999999 d+0".as_slice(), 8, 13),
-            (b"%v2 = vload 16 k+0".as_slice(), 5, 16),
-            (b"%v2 = vload 16 e+0".as_slice(), 4, 16),
-            (b"vstore 16 d+0 %v2".as_slice(), 4, 15),
-            (b"vstore 16 d+0 %s0".as_slice(), 2, 15),
-            (b"vstore 16 d+0 %v1".as_slice(), 5, 15),
-            (b"vstore 32 d+0 %v0".as_slice(), 5, 15),
-            (b"vstore 64 d+0 %v1".as_slice(), 5, 15),
-            (b"vstore 2 d+0 %v1".as_slice(), 8, 8),
-            (b"%v2 = const 00".as_slice(), 2, 13),
-            (
-                b"%v2 = const 000102030405060708090a0b0c0d0e0F".as_slice(),
-                2,
-                13,
-            ),
-            (
-                b"%v2 = const 000102030405060708090a0b0c0d0e0".as_slice(),
-                2,
-                13,
-            ),
-            (
-                b"%v2 = const 000102030405060708090a0b0c0d0e0f_".as_slice(),
-                2,
-                45,
-            ),
-            (b"%v2 = const ".as_slice(), 2, 13),
-            (b"%v2 = const \x80".as_slice(), 1, 13),
-        ],
+        "
+        %v3 = vload 16 d+0 => 2 1
+        %v02 = vload 16 d+0 => 2 1
+        %w2 = vload 16 d+0 => 2 1
+        %v2:i8 = vload 16 d+0 => 2 4
+        %v2 = load d+0 => 2 7
+        %s1:i8 = vload 16 d+0 => 2 10
+        vload 16 d+0 => 2 1
+        %v2 = vload 12 d+0 => 8 13
+        %v2 = vload 016 d+0 => 2 13
+        %v2 = vload 99999999999999999999 d+0 => 8 13
+        %v2 = vload 16 k+0 => 5 16
+        %v2 = vload 16 e+0 => 4 16
+        vstore 16 d+0 %v2 => 4 15
+        vstore 16 d+0 %s0 => 2 15
+        vstore 16 d+0 %v1 => 5 15
+        vstore 32 d+0 %v0 => 5 15
+        vstore 64 d+0 %v1 => 5 15
+        vstore 2 d+0 %v1 => 8 8
+        %v2 = const 00 => 2 13
+        %v2 = const 000102030405060708090a0b0c0d0e0F => 2 13
+        %v2 = const 000102030405060708090a0b0c0d0e0 => 2 13
+        %v2 = const 000102030405060708090a0b0c0d0e0f_ => 2 45
+        %v2 = const  => 2 13
+        ",
     )?;
-    assert_eq!(rt; other, None);
+    let mut text = Vec::from_slice(rt.alloc(), FRONT.as_bytes())?;
+    text.extend_from_slice(b"%v2 = const \x80\n")?;
+    assert!(rt; is_refused(rt.alloc(), headers.as_slice(), text.as_slice(), 1, 5, 13));
     Ok(())
 }
 
 #[test]
 fn refusals_of_lanes(rt: HostRuntime) -> Result<(), Fail> {
-    let other = first_other(
+    let headers = headers_of(rt.alloc())?;
+    refuse_lines(
         &rt,
+        rt.alloc(),
+        headers.as_slice(),
         FRONT,
         5,
-        &[
-            (b"%v2 = insert %v0 16 k".as_slice(), 8, 18),
-            (b"%v2 = insert %v1 32 k".as_slice(), 8, 18),
-            (b"%v2 = insert %v0 8 1i16".as_slice(), 8, 18),
-            (b"%v2 = insert %v0 16 k x".as_slice(), 8, 18),
-            (b"%v2 = insert %v0 16 e".as_slice(), 4, 21),
-            (b"%v2 = insert %v0 0 %s0".as_slice(), 5, 20),
-            (b"%v2 = insert %v0 0 d".as_slice(), 5, 20),
-            (b"%v2 = insert %v0 0 %v0".as_slice(), 2, 20),
-            (b"%v2 = insert %v2 0 k".as_slice(), 4, 14),
-            (b"%v2 = insert %s0 0 k".as_slice(), 2, 14),
-            (b"%v2 = insert k 0 k".as_slice(), 2, 14),
-            (b"%s1:i8 = extract %v0 16".as_slice(), 8, 22),
-            (b"%s1:i64 = extract %v0 2".as_slice(), 8, 23),
-            (b"%s1:i64 = extract %v2 0".as_slice(), 4, 19),
-            (b"%s1:i1 = extract %v0 0".as_slice(), 2, 10),
-        ],
-    )?;
-    assert_eq!(rt; other, None);
-    Ok(())
+        "
+        %v2 = insert %v0 16 k => 8 18
+        %v2 = insert %v1 32 k => 8 18
+        %v2 = insert %v0 8 1i16 => 8 18
+        %v2 = insert %v0 16 k x => 8 18
+        %v2 = insert %v0 16 e => 4 21
+        %v2 = insert %v0 0 %s0 => 5 20
+        %v2 = insert %v0 0 d => 5 20
+        %v2 = insert %v0 0 %v0 => 2 20
+        %v2 = insert %v2 0 k => 4 14
+        %v2 = insert %s0 0 k => 2 14
+        %v2 = insert k 0 k => 2 14
+        %s1:i8 = extract %v0 16 => 8 22
+        %s1:i64 = extract %v0 2 => 8 23
+        %s1:i64 = extract %v2 0 => 4 19
+        %s1:i1 = extract %v0 0 => 2 10
+        ",
+    )
 }
 
 #[test]
 fn refusals_of_calls(rt: HostRuntime) -> Result<(), Fail> {
-    let other = first_other(
+    let headers = headers_of(rt.alloc())?;
+    refuse_lines(
         &rt,
+        rt.alloc(),
+        headers.as_slice(),
         FRONT,
         5,
-        &[
-            (b"%v2 = call sub %v0 %v0".as_slice(), 3, 12),
-            (b"%v2 = call ad".as_slice(), 3, 12),
-            (b"%v2 = call %v0".as_slice(), 2, 12),
-            (b"%v2 = call add %v0".as_slice(), 2, 19),
-            (b"%v2 = call add %v0 %v0 %v0".as_slice(), 2, 23),
-            (b"%v2 = call add %v0 %v0 imm 2".as_slice(), 2, 23),
-            (b"%v2 = call add %v0 %v1".as_slice(), 5, 20),
-            (b"%v2 = call add %v0 %v2".as_slice(), 4, 20),
-            (b"%v2 = call add %v0 k".as_slice(), 2, 20),
-            (b"%v2 = call mix %v0 %v1".as_slice(), 2, 23),
-            (b"%v2 = call mix %v0 imm 2".as_slice(), 2, 20),
-            (b"%v2 = call mix %v0 %v1 imm 1".as_slice(), 8, 28),
-            (b"%v2 = call mix %v0 %v1 imm 6".as_slice(), 8, 28),
-            (b"%v2 = call mix %v0 %v1 imm 02".as_slice(), 2, 28),
-            (b"%v2 = call mix %v0 %v1 imm 2 ".as_slice(), 2, 29),
-            (b"call add %v0 %v0".as_slice(), 2, 1),
-            (b"end cost 4 scalar 0".as_slice(), 6, 10),
-        ],
-    )?;
-    assert_eq!(rt; other, None);
-    Ok(())
-}
-
-/// What a program without calls leaves of this memory, or None where it traps.
-fn left_by(rt: &HostRuntime, text: &[u8], memory: &[u8]) -> Result<Option<Vec<u8>>, Fail> {
-    let program = parse_program(rt.alloc(), text, &[])
-        .ok()
-        .ok_or("the program is valid")?;
-    let mut machine = Machine::new(rt.alloc(), &[], &program)?;
-    let mut after = Vec::from_slice(rt.alloc(), memory)?;
-    match machine.run(after.as_mut_slice(), &[0], &[]) {
-        Outcome::Done => Ok(Some(after)),
-        Outcome::Trap => Ok(None),
-    }
+        "
+        %v2 = call sub %v0 %v0 => 3 12
+        %v2 = call ad => 3 12
+        %v2 = call %v0 => 2 12
+        %v2 = call add %v0 => 2 19
+        %v2 = call add %v0 %v0 %v0 => 2 23
+        %v2 = call add %v0 %v0 imm 2 => 2 23
+        %v2 = call add %v0 %v1 => 5 20
+        %v2 = call add %v0 %v2 => 4 20
+        %v2 = call add %v0 k => 2 20
+        %v2 = call mix %v0 %v1 => 2 23
+        %v2 = call mix %v0 imm 2 => 2 20
+        %v2 = call mix %v0 %v1 imm 1 => 8 28
+        %v2 = call mix %v0 %v1 imm 6 => 8 28
+        %v2 = call mix %v0 %v1 imm 02 => 2 28
+        %v2 = call mix %v0 %v1 imm 2  => 2 29
+        call add %v0 %v0 => 2 1
+        end cost 4 scalar 0 => 6 10
+        ",
+    )
 }
 
 const MOVES: &[u8] = b"program p(d: ptr)
@@ -256,12 +201,14 @@ end cost 7 scalar 0
 
 #[test]
 fn lanes_are_written_and_read(rt: HostRuntime) -> Result<(), Fail> {
-    let memory = [1, 2, 3, 4, 9, 9, 9, 9, 9, 9, 9, 9, 9, 9, 9, 9, 9];
-    let after = left_by(&rt, MOVES, &memory)?.ok_or("all lies inside")?;
-    assert_eq!(rt;
-        after.as_slice(),
-        [1, 2, 3, 4, 1, 2, 3, 4, 2, 1, 0, 2, 15, 14, 13, 12, 9].as_slice()
-    );
-    assert!(rt; left_by(&rt, MOVES, &memory[..15])?.is_none());
-    Ok(())
+    expect_left(
+        &rt,
+        rt.alloc(),
+        MOVES,
+        "0",
+        "",
+        "1 2 3 4 13*9",
+        "1 2 3 4 1 2 3 4 2 1 0 2 15 14 13 12 9",
+    )?;
+    expect_trap(&rt, rt.alloc(), MOVES, "0", "", "1 2 3 4 11*9")
 }

@@ -30,7 +30,7 @@ fn accept_count(rt: &impl Abort, alloc: Global, text: &[u8], count: usize) -> Re
     let Ok(catalog) = parse_file(alloc, text) else {
         return Err("a file is refused".into());
     };
-    assert_eq!(rt; catalog.entries().len(), count);
+    assert!(rt; catalog.entries().len() == count);
     Ok(())
 }
 
@@ -64,6 +64,6 @@ fn files_that_end_too_early(rt: HostRuntime) -> Result<(), Fail> {
             assert!(rt; whole || length + 1 == text.len());
         }
     }
-    assert_eq!(rt; accepted, 4);
+    assert!(rt; accepted == 4);
     Ok(())
 }

@@ -27,11 +27,11 @@ fn repeated(alloc: Global, byte: u8, count: usize) -> Result<Vec<u8>, Fail> {
 
 #[test]
 fn files_without_entries(rt: HostRuntime) -> Result<(), Fail> {
-    let texts: &[&str] = &["", "\n", " \t\r\n", "// INSTRUCTION", "// a\n  // b\n"];
-    for text in texts {
-        blank(&rt, rt.alloc(), text.as_bytes())?;
-    }
-    Ok(())
+    blank(&rt, rt.alloc(), b"")?;
+    blank(&rt, rt.alloc(), b"\n")?;
+    blank(&rt, rt.alloc(), b" \t\r\n")?;
+    blank(&rt, rt.alloc(), b"// INSTRUCTION")?;
+    blank(&rt, rt.alloc(), b"// a\n  // b\n")
 }
 
 #[test]

@@ -9,18 +9,12 @@ fn one_step_too_many(rt: HostRuntime) -> Result<(), Fail> {
         &rt,
         rt.alloc(),
         9,
-        &[
-            "FOR j := 0 to 2047 dst[0] := 1 ENDFOR @dst[0] := 1",
-            "FOR j := 0 to 1364 dst[0] := 1 dst[MAX:0] := 1 ENDFOR dst[0] := 1 @dst[0] := 1",
-            concat!(
-                "FOR j := 0 to 1364 IF a[0] dst[0] := 1 ELSE dst[0] := 2 FI ENDFOR",
-                " dst[0] := 1 @dst[0] := 1",
-            ),
-            concat!(
-                "DEFINE f(p) { RETURN 1 } FOR j := 0 to 1364 dst[0] := f(1) ENDFOR",
-                " dst[0] := @f(1)",
-            ),
-        ],
+        "
+        FOR j := 0 to 2047 dst[0] := 1 ENDFOR @dst[0] := 1
+        FOR j := 0 to 1364 dst[0] := 1 dst[MAX:0] := 1 ENDFOR dst[0] := 1 @dst[0] := 1
+        FOR j := 0 to 1364 IF a[0] dst[0] := 1 ELSE dst[0] := 2 FI ENDFOR dst[0] := 1 @dst[0] := 1
+        DEFINE f(p) { RETURN 1 } FOR j := 0 to 1364 dst[0] := f(1) ENDFOR dst[0] := @f(1)
+        ",
     )
 }
 
@@ -29,14 +23,14 @@ fn all_steps(rt: HostRuntime) -> Result<(), Fail> {
     accept_operations(
         &rt,
         rt.alloc(),
-        &[
-            "FOR j := 0 to 2047 dst[0] := 1 ENDFOR",
-            "FOR j := 1 to 4096 ENDFOR",
-            "FOR j := 0 to 1364 dst[0] := 1 dst[MAX:0] := 1 ENDFOR dst[0] := 1",
-            "FOR j := 0 to 1364 IF a[0] dst[0] := 1 ELSE dst[0] := 2 FI ENDFOR dst[0] := 1",
-            "FOR j := 0 to 1364 IF 1 dst[0] := 1 ELSE dst[0] := 2 FI ENDFOR dst[0] := 1",
-            "DEFINE f(p) { RETURN 1 } FOR j := 0 to 1364 dst[0] := f(1) ENDFOR dst[0] := 1",
-            "FOR j := 0 to 62 FOR i := 0 to 31 dst[0] := 1 ENDFOR ENDFOR dst[0] := 1",
-        ],
+        "
+        FOR j := 0 to 2047 dst[0] := 1 ENDFOR
+        FOR j := 1 to 4096 ENDFOR
+        FOR j := 0 to 1364 dst[0] := 1 dst[MAX:0] := 1 ENDFOR dst[0] := 1
+        FOR j := 0 to 1364 IF a[0] dst[0] := 1 ELSE dst[0] := 2 FI ENDFOR dst[0] := 1
+        FOR j := 0 to 1364 IF 1 dst[0] := 1 ELSE dst[0] := 2 FI ENDFOR dst[0] := 1
+        DEFINE f(p) { RETURN 1 } FOR j := 0 to 1364 dst[0] := f(1) ENDFOR dst[0] := 1
+        FOR j := 0 to 62 FOR i := 0 to 31 dst[0] := 1 ENDFOR ENDFOR dst[0] := 1
+        ",
     )
 }

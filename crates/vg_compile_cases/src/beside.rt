@@ -11,7 +11,7 @@ use std::alloc::Global;
 use std::process::Abort;
 use std::test::Fail;
 use vg_catalog::{Catalog, Extensions, parse_file};
-use vg_compile::compile;
+use vg_compile::{compile, explain};
 use vg_instances::files_are_proper;
 use vg_kernel::{Kernel, parse_kernel};
 use vg_keval::{KState, run_kernel};
@@ -19,29 +19,24 @@ use vg_listing::files_have_lanes;
 use vg_machine::{Machine, Outcome};
 use vg_program::{Program, print_program};
 
-/// All ten extensions.
-const ALL: u16 = 1023;
+/// How many plans of each size the search keeps.
+const WIDTH: u32 = 32;
 
-/// A kernel, entries, and the program that was made of the kernel with them.
+/// All ten extensions.
+pub const ALL: u16 = 1023;
+
+/// A kernel, entries, the program that was made of the kernel with them, and the lines on its plan.
 #[derive(Drop)]
-pub struct Beside {
+struct Beside {
     catalog: Catalog,
     kernel: Kernel,
     program: Program,
+    plan: Vec<u8>,
 }
 
 impl Beside {
-    /// Compiles a kernel's text with the entries of a file's text, of all extensions.
-    pub fn new(alloc: Global, instructions: &[u8], kernel: &[u8]) -> Result<Beside, Fail>
-        ensures written { IfOk result (λ b. AllWritten (entries_in b.catalog)) }
-        ensures rules { IfOk result (λ b.
-            KeepsRules (headers_of (entries_in b.catalog)) b.program) }
-    {
-        Beside::within(alloc, instructions, ALL, kernel)
-    }
-
-    /// The same with the entries of some extensions alone.
-    pub fn within(
+    /// Compiles a kernel's text with the entries of a file's text, of some extensions alone.
+    fn within(
         alloc: Global,
         instructions: &[u8],
         allowed: u16,
@@ -56,25 +51,14 @@ impl Beside {
         let catalog = parse_file(alloc, instructions)?;
         let kernel = parse_kernel(alloc, kernel)?;
         let set = Extensions::from_bits_retain(allowed);
-        let program = compile(alloc, &catalog, set, &kernel)?;
+        let program = compile(alloc, &catalog, set, &kernel, WIDTH)?;
+        let plan = explain(alloc, &catalog, set, &kernel, WIDTH)?;
         Ok(Beside {
             catalog,
             kernel,
             program,
+            plan,
         })
-    }
-
-    /// Asserts what the program's text is.
-    pub fn expect_text(&self, rt: &impl Abort, alloc: Global, text: &[u8]) -> Result<(), Fail> {
-        let printed = print_program(alloc, &self.program)?;
-        assert!(rt; printed.as_slice() == text);
-        Ok(())
-    }
-
-    /// Asserts what the program and the kernel cost.
-    pub fn expect_costs(&self, rt: &impl Abort, cost: u32, scalar: u32) {
-        assert_eq!(rt; self.program.cost, cost);
-        assert_eq!(rt; self.program.scalar, scalar);
     }
 
     /// What the program leaves of a memory. None where it traps.
@@ -118,38 +102,163 @@ impl Beside {
         }
     }
 
-    /// Asserts what the program and the kernel leave of a memory, with pointers at these places.
-    pub fn expect_left(
+    /// Whether the program and the kernel leave `left` of a memory, with pointers at these places.
+    fn leaves(
         &self,
-        rt: &impl Abort,
         alloc: Global,
-        memory: &[u8],
         places: &[u64],
+        memory: &[u8],
         left: &[u8],
-    ) -> Result<(), Fail>
+    ) -> Result<bool, Fail>
         requires written { AllWritten (entries_in self.now.catalog) }
         requires rules { KeepsRules (headers_of (entries_in self.now.catalog)) self.now.program }
     {
         let by_kernel = self.left_by_kernel(alloc, memory, places, &[])?;
-        assert!(rt; by_kernel.ok_or("the kernel traps")?.as_slice() == left);
         let by_program = self.left_by_program(alloc, memory, places, &[])?;
-        assert!(rt; by_program.ok_or("the program traps")?.as_slice() == left);
-        Ok(())
+        Ok(is_left(&by_kernel, left) && is_left(&by_program, left))
     }
 
-    /// Asserts that both trap.
-    pub fn expect_trap(
-        &self,
-        rt: &impl Abort,
-        alloc: Global,
-        memory: &[u8],
-        places: &[u64],
-    ) -> Result<(), Fail>
+    /// Whether both trap.
+    fn traps(&self, alloc: Global, places: &[u64], memory: &[u8]) -> Result<bool, Fail>
         requires written { AllWritten (entries_in self.now.catalog) }
         requires rules { KeepsRules (headers_of (entries_in self.now.catalog)) self.now.program }
     {
-        assert!(rt; self.left_by_kernel(alloc, memory, places, &[])?.is_none());
-        assert!(rt; self.left_by_program(alloc, memory, places, &[])?.is_none());
-        Ok(())
+        let by_kernel = self.left_by_kernel(alloc, memory, places, &[])?;
+        let by_program = self.left_by_program(alloc, memory, places, &[])?;
+        Ok(by_kernel.is_none() && by_program.is_none())
     }
+}
+
+/// Whether a run left this.
+fn is_left(found: &Option<Vec<u8>>, left: &[u8]) -> bool {
+    match found {
+        Some(memory) => memory.as_slice() == left,
+        None => false,
+    }
+}
+
+/// A kernel, a file of entries of which those of some extensions are allowed, and what the
+/// program that is made of them costs, and the kernel; and what the numbers of its memories are.
+#[derive(Clone, Copy)]
+pub struct Case<'a> {
+    pub instructions: &'a [u8],
+    pub allowed: u16,
+    pub kernel: &'a [u8],
+    pub cost: u32,
+    pub scalar: u32,
+    pub unit: Unit,
+}
+
+/// What each number of a memory's text stands for.
+#[derive(Clone, Copy)]
+pub enum Unit {
+    Byte,
+    DoubleWord,
+}
+
+/// Asserts what a program and its kernel cost.
+pub fn expect_costs(rt: &impl Abort, alloc: Global, case: &Case) -> Result<(), Fail> {
+    let made = Beside::within(alloc, case.instructions, case.allowed, case.kernel)?;
+    assert!(rt; made.program.cost == case.cost && made.program.scalar == case.scalar);
+    Ok(())
+}
+
+/// Asserts what a program and its kernel cost, and what they leave of a memory, with pointers at
+/// these places.
+pub fn expect_left(
+    rt: &impl Abort,
+    alloc: Global,
+    case: &Case,
+    places: &str,
+    memory: &str,
+    left: &str,
+) -> Result<(), Fail> {
+    let places = places_of(alloc, places)?;
+    let memory = memory_of(alloc, case.unit, memory)?;
+    let left = memory_of(alloc, case.unit, left)?;
+    let made = Beside::within(alloc, case.instructions, case.allowed, case.kernel)?;
+    assert!(rt; made.program.cost == case.cost && made.program.scalar == case.scalar);
+    let leaves = made.leaves(alloc, places.as_slice(), memory.as_slice(), left.as_slice())?;
+    assert!(rt; leaves);
+    Ok(())
+}
+
+/// Asserts that a program and its kernel trap.
+pub fn expect_trap(
+    rt: &impl Abort,
+    alloc: Global,
+    case: &Case,
+    places: &str,
+    memory: &str,
+) -> Result<(), Fail> {
+    let places = places_of(alloc, places)?;
+    let memory = memory_of(alloc, case.unit, memory)?;
+    let made = Beside::within(alloc, case.instructions, case.allowed, case.kernel)?;
+    assert!(rt; made.traps(alloc, places.as_slice(), memory.as_slice())?);
+    Ok(())
+}
+
+/// Asserts what the text of the program is that is made of a kernel with no entries.
+pub fn expect_text(rt: &impl Abort, alloc: Global, kernel: &[u8], text: &[u8]) -> Result<(), Fail> {
+    let made = Beside::within(alloc, b"", ALL, kernel)?;
+    let printed = print_program(alloc, &made.program)?;
+    assert!(rt; printed.as_slice() == text);
+    Ok(())
+}
+
+/// Asserts what is told of the plan of a kernel, with the entries of a file.
+pub fn expect_plan(
+    rt: &impl Abort,
+    alloc: Global,
+    instructions: &[u8],
+    kernel: &[u8],
+    lines: &[u8],
+) -> Result<(), Fail> {
+    let made = Beside::within(alloc, instructions, ALL, kernel)?;
+    assert!(rt; made.plan.as_slice() == lines);
+    Ok(())
+}
+
+/// Asserts what a program and its kernel cost, and what the last line on its plan is.
+pub fn expect_told_cost(
+    rt: &impl Abort,
+    alloc: Global,
+    case: &Case,
+    line: &[u8],
+) -> Result<(), Fail> {
+    let made = Beside::within(alloc, case.instructions, case.allowed, case.kernel)?;
+    assert!(rt; made.program.cost == case.cost && made.program.scalar == case.scalar);
+    assert!(rt; made.plan.as_slice().ends_with(line));
+    Ok(())
+}
+
+/// The places of pointers, decimal words.
+fn places_of(alloc: Global, text: &str) -> Result<Vec<u64>, Fail> {
+    let mut places = Vec::new(alloc);
+    for word in text.split_whitespace() {
+        places.push(word.parse::<u64>()?)?;
+    }
+    Ok(places)
+}
+
+/// The memory of a text of numbers in hexadecimal digits; `8*7f` is eight numbers 7f.
+fn memory_of(alloc: Global, unit: Unit, text: &str) -> Result<Vec<u8>, Fail> {
+    let mut memory = Vec::new(alloc);
+    for word in text.split_whitespace() {
+        let (count, digits) = word.split_once('*').unwrap_or(("1", word));
+        let count = count.parse::<u32>()?;
+        let bytes = u32::from_str_radix(digits, 16)?.to_le_bytes();
+        match unit {
+            Unit::Byte => append(&mut memory, count, &bytes[..1])?,
+            Unit::DoubleWord => append(&mut memory, count, &bytes)?,
+        }
+    }
+    Ok(memory)
+}
+
+fn append(memory: &mut Vec<u8>, count: u32, bytes: &[u8]) -> Result<(), Fail> {
+    for _ in 0..count {
+        memory.extend_from_slice(bytes)?;
+    }
+    Ok(())
 }

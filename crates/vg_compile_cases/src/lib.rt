@@ -12,3 +12,5 @@ mod entries;
 mod kernels;
 #[cfg(test)]
 mod moves;
+#[cfg(test)]
+mod plans;

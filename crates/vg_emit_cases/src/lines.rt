@@ -19,7 +19,7 @@ fn two_words_are_copied_by_two_lines(rt: HostRuntime) -> Result<(), Fail> {
 vstore 8 p+0 %v0
 end cost 2 scalar 4
 ";
-    assert_eq!(rt; text.as_slice(), expected.as_slice());
+    assert!(rt; text.as_slice() == expected.as_slice());
     Ok(())
 }
 
@@ -35,7 +35,7 @@ store p+0 %s0
 store p+4 %s1
 end cost 4 scalar 4
 ";
-    assert_eq!(rt; text.as_slice(), expected.as_slice());
+    assert!(rt; text.as_slice() == expected.as_slice());
     Ok(())
 }
 
@@ -51,7 +51,7 @@ fn arguments_are_put_beside_constants(rt: HostRuntime) -> Result<(), Fail> {
 vstore 8 p+0 %v1
 end cost 3 scalar 2
 ";
-    assert_eq!(rt; text.as_slice(), expected.as_slice());
+    assert!(rt; text.as_slice() == expected.as_slice());
     Ok(())
 }
 
@@ -72,7 +72,7 @@ fn a_shuffle_turns_what_was_loaded(rt: HostRuntime) -> Result<(), Fail> {
 vstore 8 p+0 %v1
 end cost 3 scalar 4
 ";
-    assert_eq!(rt; text.as_slice(), expected.as_slice());
+    assert!(rt; text.as_slice() == expected.as_slice());
     Ok(())
 }
 
@@ -102,6 +102,6 @@ store p+8 %s0
 vstore 8 p+0 %v2
 end cost 6 scalar 9
 ";
-    assert_eq!(rt; text.as_slice(), expected.as_slice());
+    assert!(rt; text.as_slice() == expected.as_slice());
     Ok(())
 }

@@ -68,7 +68,7 @@ fn products_of_double_words(rt: HostRuntime) -> Result<(), Fail> {
 lane 0 (mul64 (sext64 a.0:32) (sext64 b.0:32))
 lane 1 (mul64 (sext64 a.64:32) (sext64 b.64:32))
 ";
-    assert_eq!(rt; text.as_slice(), expected.as_bytes());
+    assert!(rt; text.as_slice() == expected.as_bytes());
     Ok(())
 }
 
@@ -83,7 +83,7 @@ lane 0 (zext64 a.0:16)
 lane 1 (zext64 a.0:8)
 not packable MixedInput
 ";
-    assert_eq!(rt; text.as_slice(), expected.as_bytes());
+    assert!(rt; text.as_slice() == expected.as_bytes());
     Ok(())
 }
 
@@ -98,7 +98,7 @@ lane 0 (zext64 a.8:16)
 lane 1 (zext64 a.0:16)
 not packable OddLeaf
 ";
-    assert_eq!(rt; text.as_slice(), expected.as_bytes());
+    assert!(rt; text.as_slice() == expected.as_bytes());
     Ok(())
 }
 
@@ -113,7 +113,7 @@ lane 0 too large
 lane 1 (zext64 a.64:7)
 not packable TooLarge
 ";
-    assert_eq!(rt; text.as_slice(), expected.as_bytes());
+    assert!(rt; text.as_slice() == expected.as_bytes());
     Ok(())
 }
 
@@ -133,7 +133,7 @@ lane 0 dynamic
 lane 1 dynamic
 not packable Dynamic
 ";
-    assert_eq!(rt; text.as_slice(), expected.as_bytes());
+    assert!(rt; text.as_slice() == expected.as_bytes());
     Ok(())
 }
 
@@ -178,6 +178,6 @@ fn averages_of_bytes_are_packable(rt: HostRuntime) -> Result<(), Fail> {
     let mut text = Vec::new(alloc);
     vg_terms::print_term(alloc, term, &names, &mut text)?;
     let expected = "(trunc8 (lshr9 (add9 (add9 (zext9 a.120:8) (zext9 b.120:8)) 1:9) 1))";
-    assert_eq!(rt; text.as_slice(), expected.as_bytes());
+    assert!(rt; text.as_slice() == expected.as_bytes());
     Ok(())
 }

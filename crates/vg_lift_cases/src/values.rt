@@ -102,7 +102,7 @@ fn compare_lane(
     if width == 0 || width > 128 || first > 256 - width {
         return Err("a lane is outside of its register".into());
     }
-    assert_eq!(rt; term.value(environment), answer.get(first, width));
+    assert!(rt; term.value(environment) == answer.get(first, width));
     Ok(())
 }
 
@@ -179,7 +179,7 @@ fn compare_file(rt: &impl Abort, alloc: Global, file: &str) -> Result<(), Fail> 
     let Ok(catalog) = parse_file(alloc, file.as_bytes()) else {
         return Err("a file is refused".into());
     };
-    assert_eq!(rt; catalog.entries().len(), 21);
+    assert!(rt; catalog.entries().len() == 21);
     compare_entries(rt, alloc, catalog.entries())
 }
 

@@ -1,5 +1,5 @@
-//! Operations of an entry with the parameters `a`, of unsigned lanes, and `b`, of signed ones, and the
-//! immediate `imm8`. An `@` marks the place of a fault, and is no part of the text.
+//! Operations of an entry with the parameters `a`, of unsigned lanes, and `b`, of signed ones,
+//! and the immediate `imm8`. An `@` marks the place of a fault, and is no part of the text.
 
 use std::alloc::Global;
 use std::process::Abort;
@@ -72,13 +72,12 @@ fn told(fault: NameFault) -> Option<(u32, Place)> {
 }
 
 /// Asserts that the text without its `@` is refused with this number at the place of the `@`.
-fn refuse(rt: &impl Abort, alloc: Global, number: u32, marked: &str) -> Result<(), Fail> {
+pub fn refuse(rt: &impl Abort, alloc: Global, number: u32, marked: &str) -> Result<(), Fail> {
     let marked_bytes = marked.as_bytes();
     assert!(rt; marked_bytes.len() <= 1_000_000);
-    let at = marked_bytes
-        .iter()
-        .position(|byte| *byte == b'@')
-        .ok_or("a mark")?;
+    let Some(at) = marked_bytes.iter().position(|byte| *byte == b'@') else {
+        return Err("a mark is missing".into());
+    };
     assert!(rt; at < marked_bytes.len());
     let (front, behind) = marked_bytes.split_at(at);
     let mut text = Vec::from_slice(alloc, front)?;
@@ -87,20 +86,14 @@ fn refuse(rt: &impl Abort, alloc: Global, number: u32, marked: &str) -> Result<(
     let Err(fault) = names_of(rt, alloc, text.as_slice())? else {
         return Err("names that are not known are found".into());
     };
-    let (found, at) = told(fault).ok_or("a fault of the text")?;
-    assert_eq!(rt; found, number, "{marked}");
-    assert_eq!(rt;
-        (at.line, at.column),
-        (place.line, place.column),
-        "{marked}"
-    );
+    assert!(rt; told(fault) == Some((number, place)), "{marked}");
     Ok(())
 }
 
-/// Asserts that these texts, of which each has an `@`, are refused with this number.
-pub fn refuse_all(rt: &impl Abort, alloc: Global, number: u32, texts: &[&str]) -> Result<(), Fail> {
-    for text in texts {
-        refuse(rt, alloc, number, text)?;
+/// Asserts that each line, which has an `@`, is refused with this number.
+pub fn refuse_all(rt: &impl Abort, alloc: Global, number: u32, texts: &str) -> Result<(), Fail> {
+    for text in texts.trim().lines() {
+        refuse(rt, alloc, number, text.trim())?;
     }
     Ok(())
 }

@@ -6,8 +6,8 @@ use std::process::Abort;
 use std::test::Fail;
 use vg_names::{Code, Resolved, ResolvedExpr};
 
-/// The sign, the register and the size of the right side of an assignment, where it is a bare name or
-/// `name.elem`.
+/// The sign, the register and the size of the right side of an assignment, where it is a bare
+/// name or `name.elem`.
 fn front_of(code: &Code) -> Option<(bool, usize, u128)> {
     match code {
         Code::Assign { value, .. } => match &**value {
@@ -38,55 +38,73 @@ fn check(
     size: u128,
 ) -> Result<(), Fail> {
     let operation = resolved(rt, alloc, text)?;
-    let found = first_front(&operation).ok_or("a bare name")?;
-    assert_eq!(rt; found, (is_signed, register, size), "{text}");
+    assert!(rt;
+        first_front(&operation) == Some((is_signed, register, size)),
+        "{text}"
+    );
+    Ok(())
+}
+
+/// A row is the text of an operation, an arrow, and the sign of the right side of its first
+/// assignment, its register and its size.
+fn check_row(rt: &impl Abort, alloc: Global, row: &str) -> Result<(), Fail> {
+    let Some((text, wanted)) = row.trim().split_once(" => ") else {
+        return Err("an arrow is missing".into());
+    };
+    let Some((sign, place)) = wanted.split_once(' ') else {
+        return Err("a register is missing".into());
+    };
+    let Some((register, size)) = place.split_once(' ') else {
+        return Err("a size is missing".into());
+    };
+    let (register, size) = (register.parse::<usize>()?, size.parse::<u128>()?);
+    check(rt, alloc, text, sign == "signed", register, size)
+}
+
+fn check_rows(rt: &impl Abort, alloc: Global, rows: &str) -> Result<(), Fail> {
+    for row in rows.trim().lines() {
+        check_row(rt, alloc, row)?;
+    }
     Ok(())
 }
 
 #[test]
 fn signs_and_sizes_of_bare_names(rt: HostRuntime) -> Result<(), Fail> {
-    for (text, is_signed, register, size) in [
-        ("dst := a END", false, 0, 128),
-        ("dst := b END", true, 1, 128),
-        ("dst[7:0] := imm8 END", false, 2, 8),
-        ("dst := dst END", false, 3, 128),
-        ("dst[7:0] := b.byte END", true, 1, 8),
-        ("dst := x x.dword := a[31:0] END", false, 4, 32),
-        ("dst := x x.dword := b[31:0] END", true, 4, 32),
-        ("dst := x x.dword := b[31] END", false, 4, 32),
-        ("dst := x x.dword := Signed(a[31:0]) END", true, 4, 32),
-        ("dst := x x.dword := NOT b[31:0] END", true, 4, 32),
-        ("dst := x x.dword := a[31:0] + b[31:0] END", true, 4, 32),
-        ("dst := x x.dword := a[31:0] < b[31:0] END", false, 4, 32),
-        ("dst := x x.dword := a[0] ? b[31:0] : 1 END", true, 4, 32),
-    ] {
-        check(&rt, rt.alloc(), text, is_signed, register, size)?;
-    }
-    Ok(())
+    check_rows(
+        &rt,
+        rt.alloc(),
+        "
+        dst := a END => unsigned 0 128
+        dst := b END => signed 1 128
+        dst[7:0] := imm8 END => unsigned 2 8
+        dst := dst END => unsigned 3 128
+        dst[7:0] := b.byte END => signed 1 8
+        dst := x x.dword := a[31:0] END => unsigned 4 32
+        dst := x x.dword := b[31:0] END => signed 4 32
+        dst := x x.dword := b[31] END => unsigned 4 32
+        dst := x x.dword := Signed(a[31:0]) END => signed 4 32
+        dst := x x.dword := NOT b[31:0] END => signed 4 32
+        dst := x x.dword := a[31:0] + b[31:0] END => signed 4 32
+        dst := x x.dword := a[31:0] < b[31:0] END => unsigned 4 32
+        dst := x x.dword := a[0] ? b[31:0] : 1 END => signed 4 32
+        ",
+    )
 }
 
 #[test]
 fn signs_go_along_locals_in_any_order(rt: HostRuntime) -> Result<(), Fail> {
-    for (text, is_signed) in [
-        (
-            "dst := x x.dword := y y.dword := z z.dword := b[31:0] END",
-            true,
-        ),
-        (
-            "dst := x x.dword := y z.dword := b[31:0] y.dword := z END",
-            true,
-        ),
-        ("dst := x x.dword := t t := n n := b[31:0] END", true),
-        ("dst := x x.dword := y y.dword := x END", false),
-        (
-            "dst := x x.dword := y y.dword := x y.dword := b[31:0] END",
-            true,
-        ),
-        ("dst := x FOR b := 0 to 1 x.dword := b ENDFOR END", false),
-    ] {
-        check(&rt, rt.alloc(), text, is_signed, 4, 32)?;
-    }
-    Ok(())
+    check_rows(
+        &rt,
+        rt.alloc(),
+        "
+        dst := x x.dword := y y.dword := z z.dword := b[31:0] END => signed 4 32
+        dst := x x.dword := y z.dword := b[31:0] y.dword := z END => signed 4 32
+        dst := x x.dword := t t := n n := b[31:0] END => signed 4 32
+        dst := x x.dword := y y.dword := x END => unsigned 4 32
+        dst := x x.dword := y y.dword := x y.dword := b[31:0] END => signed 4 32
+        dst := x FOR b := 0 to 1 x.dword := b ENDFOR END => unsigned 4 32
+        ",
+    )
 }
 
 #[test]
@@ -97,10 +115,10 @@ fn registers_and_variables_are_counted(rt: HostRuntime) -> Result<(), Fail> {
         "DEFINE f(x[31:0], y) { z[7:0] := 1 t := 2 RETURN x + t } n := 1 r[0] := n m := f(n, r[7:0]) dst := m END",
     )?;
     assert!(rt; operation.body.widths.as_slice() == [128, 128, 8, 128, 512].as_slice());
-    assert_eq!(rt; (operation.body.parameters, operation.result), (3, 3));
-    assert_eq!(rt; operation.body.numbers, 2);
+    assert!(rt; (operation.body.parameters, operation.result) == (3, 3));
+    assert!(rt; operation.body.numbers == 2);
     let function = operation.functions.as_slice().first().ok_or("a DEFINE")?;
     assert!(rt; function.body.widths.as_slice() == [32, 512, 512].as_slice());
-    assert_eq!(rt; (function.body.parameters, function.body.numbers), (2, 1));
+    assert!(rt; (function.body.parameters, function.body.numbers) == (2, 1));
     Ok(())
 }

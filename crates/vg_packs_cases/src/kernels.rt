@@ -73,7 +73,7 @@ fn store_groups_stand_by_size_and_first_unit(rt: HostRuntime) -> Result<(), Fail
         let ssa = numbered(alloc, case.kernel)?;
         let groups = store_groups(alloc, &ssa)?;
         let text = shown(alloc, groups.as_slice())?;
-        assert_eq!(rt; text.as_str(), case.groups, "{}", case.kernel);
+        assert!(rt; text.as_str() == case.groups, "{}", case.kernel);
     }
     Ok(())
 }

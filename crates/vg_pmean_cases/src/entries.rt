@@ -84,11 +84,11 @@ fn an_entry_answers_for_each_immediate(rt: HostRuntime) -> Result<(), Fail> {
         (9, 0x1234_0b00),
     ] {
         let found = prepared.apply(params.as_slice(), imm);
-        assert_eq!(rt; found.get(0, 128), left);
+        assert!(rt; found.get(0, 128) == left);
         let Some(found) = answer_once(rt.alloc(), &entry, params.as_slice(), imm)? else {
             return Err("an immediate has no instance".into());
         };
-        assert_eq!(rt; found.get(0, 128), left);
+        assert!(rt; found.get(0, 128) == left);
     }
     assert!(rt; answer_once(rt.alloc(), &entry, params.as_slice(), 2)?.is_none());
     assert!(rt; answer_once(rt.alloc(), &entry, params.as_slice(), 10)?.is_none());

@@ -1,5 +1,5 @@
-//! What scripts leave in dst. Registers 0 and 1 are parameters, of 128 bits; register 2 is dst, of 128
-//! bits; register 3 has 256.
+//! What scripts leave in dst. Registers 0 and 1 are parameters, of 128 bits; register 2 is dst,
+//! of 128 bits; register 3 has 256.
 
 ghost use Rattle.std.specs.Prelude.{◌≡◌, ◌+◌, ◌<◌, ◌≤◌, ◌∷◌, [], IfOk};
 ghost use Rattle.vg_script.specs.Formed.{ScriptFormed};
@@ -49,7 +49,7 @@ fn answer(rt: &impl Abort, mut entry: Prepared, x: u128, y: u128) -> Result<u128
     let once = entry.apply(params.as_slice(), 0);
     let twice = entry.apply(params.as_slice(), 0);
     assert!(rt; once.bytes.as_slice() == twice.bytes.as_slice());
-    assert_eq!(rt; once.get(128, 128), 0);
+    assert!(rt; once.get(128, 128) == 0);
     Ok(once.get(0, 128))
 }
 
@@ -110,7 +110,7 @@ fn products_wrap_around_and_are_signed(rt: HostRuntime) -> Result<(), Fail> {
     let script = product(rt.alloc())?;
     let entry = prepared(rt.alloc(), None, script)?;
     let found = answer(&rt, entry, 0xffff_fffe, 0x0001_0003)?;
-    assert_eq!(rt; found, 0xffff_fffa_0000_0000);
+    assert!(rt; found == 0xffff_fffa_0000_0000);
     Ok(())
 }
 
@@ -122,8 +122,8 @@ fn registers_of_64_bytes_and_an_immediate(rt: HostRuntime) -> Result<(), Fail> {
     param.put(0, 128, 0xffff);
     let params = [param, param];
     let found = entry.apply(params.as_slice(), 7);
-    assert_eq!(rt; found.get(0, 128), 0x1_0000_0000);
-    assert_eq!(rt; found.get(384, 128), 0);
+    assert!(rt; found.get(0, 128) == 0x1_0000_0000);
+    assert!(rt; found.get(384, 128) == 0);
     Ok(())
 }
 
@@ -133,7 +133,7 @@ fn one_arm_is_taken_or_none(rt: HostRuntime) -> Result<(), Fail> {
         let script = choice(rt.alloc())?;
         let entry = prepared(rt.alloc(), None, script)?;
         let found = answer(&rt, entry, selector, 0)?;
-        assert_eq!(rt; found, left);
+        assert!(rt; found == left);
     }
     Ok(())
 }

@@ -8,15 +8,27 @@ use vg_pseudo::{Operation, parse_operation};
 use vg_text::Lexer;
 use vg_text::place::{Place, place_after};
 
-/// Pieces one behind the other, each so many times.
-fn joined(alloc: Global, pieces: &[(&str, usize)]) -> Result<Vec<u8>, Fail> {
-    let mut text = Vec::new(alloc);
-    for (piece, count) in pieces {
-        for _ in 0..*count {
+/// Writes the text that a row stands for. Between two backquotes a row has a count, a space, and
+/// what stands there so many times.
+fn spell_out(text: &mut Vec<u8>, row: &str) -> Result<(), Fail> {
+    for (index, piece) in row.split('`').enumerate() {
+        if index % 2 == 0 {
             text.extend_from_slice(piece.as_bytes())?;
+        } else {
+            repeat(text, piece)?;
         }
     }
-    Ok(text)
+    Ok(())
+}
+
+fn repeat(text: &mut Vec<u8>, piece: &str) -> Result<(), Fail> {
+    let Some((count, piece)) = piece.split_once(' ') else {
+        return Err("a count is missing".into());
+    };
+    for _ in 0..count.parse::<u32>()? {
+        text.extend_from_slice(piece.as_bytes())?;
+    }
+    Ok(())
 }
 
 /// The operation of a text, behind which nothing may stand.
@@ -48,13 +60,8 @@ pub fn refuse_at(
     let Err(fault) = parse_operation(alloc, &mut lexer) else {
         return Err("a text that is no operation is read".into());
     };
-    let found = fault.place().ok_or("a place")?;
-    assert_eq!(rt; fault.number(), Some(number), "{shown}");
-    assert_eq!(rt;
-        (found.line, found.column),
-        (place.line, place.column),
-        "{shown}"
-    );
+    let is_right = fault.number() == Some(number) && fault.place() == Some(place);
+    assert!(rt; is_right, "{shown}");
     if let Ok(first) = lexer.next() {
         assert!(rt; first.start == 0, "{shown}");
     }
@@ -63,7 +70,7 @@ pub fn refuse_at(
 
 /// Asserts that the text without its `@` is refused with this number at the place of the `@`.
 /// `shown` tells the text.
-pub fn refuse_marked(
+fn refuse_marked(
     rt: &impl Abort,
     alloc: Global,
     marked: &[u8],
@@ -71,10 +78,9 @@ pub fn refuse_marked(
     shown: &str,
 ) -> Result<(), Fail> {
     assert!(rt; marked.len() <= 1_000_000);
-    let at = marked
-        .iter()
-        .position(|byte| *byte == b'@')
-        .ok_or("a mark")?;
+    let Some(at) = marked.iter().position(|byte| *byte == b'@') else {
+        return Err("a mark is missing".into());
+    };
     assert!(rt; at < marked.len());
     let (front, behind) = marked.split_at(at);
     let mut text = Vec::from_slice(alloc, front)?;
@@ -83,28 +89,33 @@ pub fn refuse_marked(
     refuse_at(rt, alloc, text.as_slice(), number, place, shown)
 }
 
-/// Asserts that these texts, of which each has an `@`, are refused with this number.
-pub fn refuse_all(rt: &impl Abort, alloc: Global, number: u32, texts: &[&str]) -> Result<(), Fail> {
-    for text in texts {
-        refuse_marked(rt, alloc, text.as_bytes(), number, text)?;
+/// Asserts of the text that a row stands for that its first fault has this number, or that it is an
+/// operation, where the number is 0.
+fn judge(rt: &impl Abort, alloc: Global, row: &str, number: u32) -> Result<(), Fail> {
+    let mut text = Vec::new(alloc);
+    spell_out(&mut text, row)?;
+    if number != 0 {
+        return refuse_marked(rt, alloc, text.as_slice(), number, row);
+    }
+    let _operation = read(rt, alloc, text.as_slice())?;
+    Ok(())
+}
+
+/// Asserts the same of each line as a row.
+pub fn judge_all(rt: &impl Abort, alloc: Global, number: u32, rows: &str) -> Result<(), Fail> {
+    for row in rows.trim().lines() {
+        judge(rt, alloc, row.trim_start(), number)?;
     }
     Ok(())
 }
 
-/// Pieces of a text, and the number of its first fault, or 0 where it is an operation.
-pub fn judge(
-    rt: &impl Abort,
-    alloc: Global,
-    pieces: &[(&str, usize)],
-    number: u32,
-) -> Result<(), Fail> {
-    let Some((shown, _)) = pieces.last() else {
-        return Err("a text has pieces".into());
-    };
-    let text = joined(alloc, pieces)?;
-    if number == 0 {
-        let _operation = read(rt, alloc, text.as_slice())?;
-        return Ok(());
+/// Each line is a row, an arrow and its number: asserts the same of each.
+pub fn judge_each(rt: &impl Abort, alloc: Global, rows: &str) -> Result<(), Fail> {
+    for line in rows.trim().lines() {
+        let Some((row, number)) = line.trim_start().rsplit_once(" => ") else {
+            return Err("an arrow is missing".into());
+        };
+        judge(rt, alloc, row, number.parse::<u32>()?)?;
     }
-    refuse_marked(rt, alloc, text.as_slice(), number, shown)
+    Ok(())
 }

@@ -31,17 +31,17 @@ pub fn spell(to: &mut String, expression: &Expr) -> Result<(), Fail> {
             ..
         } => {
             spell_name(to, name)?;
-            write!(to, "[")?;
+            to.push('[')?;
             spell(to, high)?;
-            write!(to, ":")?;
+            to.push(':')?;
             spell(to, low)?;
-            write!(to, "]")?;
+            to.push(']')?;
         }
         Expr::Bit { name, index, .. } => {
             spell_name(to, name)?;
-            write!(to, "[")?;
+            to.push('[')?;
             spell(to, index)?;
-            write!(to, "]")?;
+            to.push(']')?;
         }
         Expr::Element {
             name,
@@ -52,12 +52,12 @@ pub fn spell(to: &mut String, expression: &Expr) -> Result<(), Fail> {
             spell_name(to, name)?;
             write!(to, ".{size:?}[")?;
             spell(to, index)?;
-            write!(to, "]")?;
+            to.push(']')?;
         }
         Expr::Unary { op, operand, .. } => {
             write!(to, "({op:?} ")?;
             spell(to, operand)?;
-            write!(to, ")")?;
+            to.push(')')?;
         }
         Expr::Binary {
             op,
@@ -67,9 +67,9 @@ pub fn spell(to: &mut String, expression: &Expr) -> Result<(), Fail> {
         } => {
             write!(to, "({op:?} ")?;
             spell(to, left)?;
-            write!(to, " ")?;
+            to.push(' ')?;
             spell(to, right)?;
-            write!(to, ")")?;
+            to.push(')')?;
         }
         Expr::Choice {
             condition,
@@ -77,13 +77,13 @@ pub fn spell(to: &mut String, expression: &Expr) -> Result<(), Fail> {
             second,
             ..
         } => {
-            write!(to, "(")?;
+            to.push('(')?;
             spell(to, condition)?;
-            write!(to, " ? ")?;
+            to.push_str(" ? ")?;
             spell(to, first)?;
-            write!(to, " : ")?;
+            to.push_str(" : ")?;
             spell(to, second)?;
-            write!(to, ")")?;
+            to.push(')')?;
         }
         Expr::Call {
             name,
@@ -91,9 +91,9 @@ pub fn spell(to: &mut String, expression: &Expr) -> Result<(), Fail> {
             ..
         } => {
             spell_name(to, name)?;
-            write!(to, "(")?;
+            to.push('(')?;
             spell_arguments(to, arguments)?;
-            write!(to, ")")?;
+            to.push(')')?;
         }
     }
     Ok(())
@@ -106,7 +106,7 @@ fn spell_arguments(to: &mut String, arguments: &Arguments) -> Result<(), Fail> {
         Arguments::End => Ok(()),
         Arguments::More { argument, rest } => {
             spell(to, argument)?;
-            write!(to, ",")?;
+            to.push(',')?;
             spell_arguments(to, rest)
         }
     }
@@ -115,9 +115,9 @@ fn spell_arguments(to: &mut String, arguments: &Arguments) -> Result<(), Fail> {
 /// Writes `first := second; `.
 fn spell_assignment(to: &mut String, first: &Expr, second: &Expr) -> Result<(), Fail> {
     spell(to, first)?;
-    write!(to, " := ")?;
+    to.push_str(" := ")?;
     spell(to, second)?;
-    write!(to, "; ")?;
+    to.push_str("; ")?;
     Ok(())
 }
 
@@ -141,9 +141,9 @@ pub fn spell_statements(to: &mut String, statements: &Stmt) -> Result<(), Fail> 
             rest,
             ..
         } => {
-            write!(to, "above ")?;
+            to.push_str("above ")?;
             spell_name(to, name)?;
-            write!(to, " ")?;
+            to.push(' ')?;
             spell_assignment(to, low, value)?;
             spell_statements(to, rest)
         }
@@ -155,21 +155,21 @@ pub fn spell_statements(to: &mut String, statements: &Stmt) -> Result<(), Fail> 
             rest,
             ..
         } => {
-            write!(to, "for ")?;
+            to.push_str("for ")?;
             spell_name(to, variable)?;
-            write!(to, " ")?;
+            to.push(' ')?;
             spell(to, first)?;
-            write!(to, " ")?;
+            to.push(' ')?;
             spell(to, last)?;
-            write!(to, "{{ ")?;
+            to.push_str("{ ")?;
             spell_statements(to, body)?;
-            write!(to, "}} ")?;
+            to.push_str("} ")?;
             spell_statements(to, rest)
         }
         Stmt::If { ways, rest } => {
-            write!(to, "{{ ")?;
+            to.push_str("{ ")?;
             spell_statements(to, ways)?;
-            write!(to, "}} ")?;
+            to.push_str("} ")?;
             spell_statements(to, rest)
         }
         Stmt::Way {
@@ -177,17 +177,17 @@ pub fn spell_statements(to: &mut String, statements: &Stmt) -> Result<(), Fail> 
             body,
             ways,
         } => {
-            write!(to, "if ")?;
+            to.push_str("if ")?;
             spell(to, condition)?;
-            write!(to, "{{ ")?;
+            to.push_str("{ ")?;
             spell_statements(to, body)?;
-            write!(to, "}} ")?;
+            to.push_str("} ")?;
             spell_statements(to, ways)
         }
         Stmt::Else { body } => {
-            write!(to, "{{ ")?;
+            to.push_str("{ ")?;
             spell_statements(to, body)?;
-            write!(to, "}} ")?;
+            to.push_str("} ")?;
             Ok(())
         }
         Stmt::Case {
@@ -195,17 +195,17 @@ pub fn spell_statements(to: &mut String, statements: &Stmt) -> Result<(), Fail> 
             arms,
             rest,
         } => {
-            write!(to, "case ")?;
+            to.push_str("case ")?;
             spell(to, selector)?;
-            write!(to, "{{ ")?;
+            to.push_str("{ ")?;
             spell_statements(to, arms)?;
-            write!(to, "}} ")?;
+            to.push_str("} ")?;
             spell_statements(to, rest)
         }
         Stmt::Arm { number, body, arms } => {
             write!(to, "{number}{{ ")?;
             spell_statements(to, body)?;
-            write!(to, "}} ")?;
+            to.push_str("} ")?;
             spell_statements(to, arms)
         }
     }

@@ -69,7 +69,7 @@ fn written(alloc: Global, large: &Large) -> Result<String, Fail> {
 fn check(rt: &impl Abort, alloc: Global, large: &Large) -> Result<(), Fail> {
     let text = written(alloc, large)?;
     let ssa = numbered(alloc, text.as_bytes())?;
-    assert_eq!(rt; ssa.units.as_slice().len(), large.units, "{}", large.head);
+    assert!(rt; ssa.units.as_slice().len() == large.units, "{}", large.head);
     Ok(())
 }
 

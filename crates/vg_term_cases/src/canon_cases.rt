@@ -11,43 +11,25 @@ fn canonical_forms(rt: HostRuntime) -> Result<(), Fail> {
     assert_canonical(
         &rt,
         rt.alloc(),
-        &[
-            ("(add8 1:8 (add8 a.0:8 255:8))", "a.0:8"),
-            (
-                "(sel8 (slt8 a.0:8 b.0:8) a.0:8 b.0:8)",
-                "(smin8 a.0:8 b.0:8)",
-            ),
-            (
-                "(trunc32 (mul128 (sext128 a.0:16) (sext128 b.0:16)))",
-                "(mul32 (sext32 a.0:16) (sext32 b.0:16))",
-            ),
-            (
-                "(trunc64 (mul128 (sext128 a.0:32) (sext128 b.0:32)))",
-                "(mul64 (sext64 a.0:32) (sext64 b.0:32))",
-            ),
-            (
-                "(trunc8 (ashr128 (add128 (add128 (zext128 a.0:8) (zext128 b.0:8)) 1:128) 1))",
-                "(trunc8 (lshr9 (add9 (add9 (zext9 a.0:8) (zext9 b.0:8)) 1:9) 1))",
-            ),
-            (
-                "(trunc16 (smin128 (smax128 (sext128 a.0:32) 340282366920938463463374607431768178688:128) 32767:128))",
-                "(trunc16 (smin32 (smax32 a.0:32 4294934528:32) 32767:32))",
-            ),
-            ("(add8 (add8 a.0:8 255:8) 1:8)", "a.0:8"),
-            ("(trunc4 (trunc8 a.0:16))", "(trunc4 a.0:16)"),
-            ("a.0:8", "a.0:8"),
-            ("7:8", "7:8"),
-            ("(zext64 (zext32 (zext16 a.0:8)))", "(zext64 a.0:8)"),
-            ("(xor8 (xor8 a.0:8 b.0:8) (xor8 b.0:8 a.0:8))", "0:8"),
-            (
-                "(sel8 (xor1 1:1 (xor1 c.0:1 1:1)) a.0:8 b.0:8)",
-                "(sel8 c.0:1 a.0:8 b.0:8)",
-            ),
-            ("(lshr16 (cat16 a.0:8 b.0:8) 8)", "(zext16 a.0:8)"),
-            ("(trunc8 (lshr16 (cat16 a.0:8 b.0:8) 8))", "a.0:8"),
-            ("(trunc8 (cat16 a.0:8 b.0:8))", "b.0:8"),
-            ("(eq8 3:8 (and8 a.0:8 255:8))", "(eq8 a.0:8 3:8)"),
-        ],
+        "
+        (add8 1:8 (add8 a.0:8 255:8)) => a.0:8
+        (sel8 (slt8 a.0:8 b.0:8) a.0:8 b.0:8) => (smin8 a.0:8 b.0:8)
+        (trunc32 (mul128 (sext128 a.0:16) (sext128 b.0:16))) => (mul32 (sext32 a.0:16) (sext32 b.0:16))
+        (trunc64 (mul128 (sext128 a.0:32) (sext128 b.0:32))) => (mul64 (sext64 a.0:32) (sext64 b.0:32))
+        (trunc8 (ashr128 (add128 (add128 (zext128 a.0:8) (zext128 b.0:8)) 1:128) 1)) => (trunc8 (lshr9 (add9 (add9 (zext9 a.0:8) (zext9 b.0:8)) 1:9) 1))
+        (trunc16 (smin128 (smax128 (sext128 a.0:32) 340282366920938463463374607431768178688:128) 32767:128)) => (trunc16 (smin32 (smax32 a.0:32 4294934528:32) 32767:32))
+        (add8 (add8 a.0:8 255:8) 1:8) => a.0:8
+        (trunc4 (trunc8 a.0:16)) => (trunc4 a.0:16)
+        a.0:8 => a.0:8
+        7:8 => 7:8
+        (zext64 (zext32 (zext16 a.0:8))) => (zext64 a.0:8)
+        (xor8 (xor8 a.0:8 b.0:8) (xor8 b.0:8 a.0:8)) => 0:8
+        (sel8 (xor1 1:1 (xor1 c.0:1 1:1)) a.0:8 b.0:8) => (sel8 c.0:1 a.0:8 b.0:8)
+        (lshr16 (cat16 a.0:8 b.0:8) 8) => (zext16 a.0:8)
+        (trunc8 (lshr16 (cat16 a.0:8 b.0:8) 8)) => a.0:8
+        (trunc8 (cat16 a.0:8 b.0:8)) => b.0:8
+        (eq8 3:8 (and8 a.0:8 255:8)) => (eq8 a.0:8 3:8)
+        ",
     )
 }
 

@@ -5,7 +5,7 @@ ghost use Rattle.vg_terms.specs.Term.{width_of};
 ghost use Rattle.vg_pool.specs.Pool.{tree_at};
 
 use crate::reader::read;
-use crate::tables::spell;
+use crate::tables::{columns, spell};
 use std::alloc::{AllocError, Global};
 use std::process::Abort;
 use std::test::Fail;
@@ -13,22 +13,23 @@ use vg_canon::{canon, canon_node, canon_root_node};
 use vg_pool::Pool;
 use vg_terms::{LeafKey, OneOp, TwoOp, make_leaf, make_two};
 
-// Each row is a term and its canonical form, which are given one node by `canon_node`.
+// Each line is a term, an arrow and its canonical form, which are given one node by `canon_node`.
 fn assert_canonical_nodes(
     rt: &impl Abort,
     alloc: Global,
     pool: &mut Pool,
-    rows: &[(&str, &str)],
+    rows: &str,
 ) -> Result<(), Fail> {
-    for (text, want) in rows {
+    for row in rows.trim().lines() {
+        let (text, want) = columns(row)?;
         let t = read(alloc, text)?;
-        assert!(rt; t.is_well_formed(), "{text}");
+        assert!(rt; t.is_well_formed(), "{row}");
         let node = pool.intern(&t)?;
         let form = canon_node(pool, alloc, node)?;
-        assert_eq!(rt; canon_node(pool, alloc, form)?, form, "{text}");
+        assert!(rt; canon_node(pool, alloc, form)? == form, "{row}");
         let term = pool.tree_of(alloc, form)?;
-        assert_eq!(rt; spell(alloc, &term)?.as_slice(), want.as_bytes(), "{text}");
-        assert!(rt; canon(alloc, t)?.is_same(&term), "{text}");
+        assert!(rt; spell(alloc, &term)?.as_slice() == want.as_bytes(), "{row}");
+        assert!(rt; canon(alloc, t)?.is_same(&term), "{row}");
     }
     Ok(())
 }
@@ -41,25 +42,16 @@ fn nodes_of_canonical_forms(rt: HostRuntime) -> Result<(), Fail> {
         &rt,
         alloc,
         &mut pool,
-        &[
-            ("(add8 1:8 (add8 a.0:8 255:8))", "a.0:8"),
-            (
-                "(sel8 (slt8 a.0:8 b.0:8) a.0:8 b.0:8)",
-                "(smin8 a.0:8 b.0:8)",
-            ),
-            (
-                "(trunc32 (mul128 (sext128 a.0:16) (sext128 b.0:16)))",
-                "(mul32 (sext32 a.0:16) (sext32 b.0:16))",
-            ),
-            (
-                "(add8 c.0:8 (add8 b.0:8 a.0:8))",
-                "(add8 (add8 a.0:8 b.0:8) c.0:8)",
-            ),
-            ("(xor8 (xor8 a.0:8 b.0:8) (xor8 b.0:8 a.0:8))", "0:8"),
-            ("(trunc8 (lshr16 (cat16 a.0:8 b.0:8) 8))", "a.0:8"),
-            ("a.0:8", "a.0:8"),
-            ("7:8", "7:8"),
-        ],
+        "
+        (add8 1:8 (add8 a.0:8 255:8)) => a.0:8
+        (sel8 (slt8 a.0:8 b.0:8) a.0:8 b.0:8) => (smin8 a.0:8 b.0:8)
+        (trunc32 (mul128 (sext128 a.0:16) (sext128 b.0:16))) => (mul32 (sext32 a.0:16) (sext32 b.0:16))
+        (add8 c.0:8 (add8 b.0:8 a.0:8)) => (add8 (add8 a.0:8 b.0:8) c.0:8)
+        (xor8 (xor8 a.0:8 b.0:8) (xor8 b.0:8 a.0:8)) => 0:8
+        (trunc8 (lshr16 (cat16 a.0:8 b.0:8) 8)) => a.0:8
+        a.0:8 => a.0:8
+        7:8 => 7:8
+        ",
     )
 }
 

@@ -12,14 +12,10 @@ use std::test::Fail;
 use vg_pool::{Pool, pool_is_shared};
 use vg_terms::{LeafKey, OneOp, TwoOp, make_leaf};
 
-// Each row is a term. Interned twice it has one number; its node has its size and gives it back.
-fn assert_shared(
-    rt: &impl Abort,
-    alloc: Global,
-    pool: &mut Pool,
-    rows: &[&str],
-) -> Result<(), Fail> {
-    for text in rows {
+// Each line is a term. Interned twice it has one number; its node has its size and gives it back.
+fn assert_shared(rt: &impl Abort, alloc: Global, pool: &mut Pool, rows: &str) -> Result<(), Fail> {
+    for row in rows.trim().lines() {
+        let text = row.trim();
         let t = read(alloc, text)?;
         assert!(rt; t.is_well_formed(), "{text}");
         let node = pool.intern(&t)?;
@@ -39,22 +35,22 @@ fn a_term_interned_twice_has_one_number(rt: HostRuntime) -> Result<(), Fail> {
         &rt,
         alloc,
         &mut pool,
-        &[
-            "a.0:8",
-            "a.8:8",
-            "7:8",
-            "7:16",
-            "(zext16 a.0:8)",
-            "(sext16 a.0:8)",
-            "(lshr8 a.0:8 1)",
-            "(lshr8 a.0:8 2)",
-            "(add8 a.0:8 a.8:8)",
-            "(add8 a.8:8 a.0:8)",
-            "(mul8 a.0:8 a.8:8)",
-            "(sel8 b.0:1 a.0:8 a.8:8)",
-            "(sel8 b.0:1 a.8:8 a.0:8)",
-            "(add8 (add8 a.0:8 a.8:8) (add8 a.0:8 a.8:8))",
-        ],
+        "
+        a.0:8
+        a.8:8
+        7:8
+        7:16
+        (zext16 a.0:8)
+        (sext16 a.0:8)
+        (lshr8 a.0:8 1)
+        (lshr8 a.0:8 2)
+        (add8 a.0:8 a.8:8)
+        (add8 a.8:8 a.0:8)
+        (mul8 a.0:8 a.8:8)
+        (sel8 b.0:1 a.0:8 a.8:8)
+        (sel8 b.0:1 a.8:8 a.0:8)
+        (add8 (add8 a.0:8 a.8:8) (add8 a.0:8 a.8:8))
+        ",
     )?;
     pool_is_shared(&pool);
     Ok(())

@@ -46,107 +46,134 @@ pub fn assert_settles(rt: &impl Abort, alloc: Global, t: &Term) -> Result<Term, 
     Ok(once)
 }
 
-/// Each row is a term, and what the first row that applies makes of it; empty where none does. Each term
-/// has a canonical form too, and its text again.
+/// The two columns of a row, which an arrow stands between.
+pub fn columns(row: &str) -> Result<(&str, &str), Fail> {
+    match row.trim().split_once(" => ") {
+        Some(columns) => Ok(columns),
+        None => Err("a row has no arrow".into()),
+    }
+}
+
+/// Each line is a term, an arrow, and what the first rule that applies makes of the term; `none`
+/// where none does. Each term has a canonical form too, and its text again.
 pub fn assert_steps<R: Rule>(
     rt: &impl Abort,
     alloc: Global,
     rule: &R,
-    rows: &[(&str, &str)],
+    rows: &str,
 ) -> Result<(), Fail> {
-    for (text, want) in rows {
-        let t = read(alloc, text)?;
-        assert!(rt; t.is_well_formed(), "{text}");
-        assert_eq!(rt; spell(alloc, &t)?.as_slice(), text.as_bytes());
-        assert_settles(rt, alloc, &t)?;
-        let made = if rule.applies(&t) {
-            spell(alloc, &rule.apply(alloc, t)?)?
-        } else {
-            Vec::new(alloc)
-        };
-        assert_eq!(rt; made.as_slice(), want.as_bytes(), "{text}");
+    for row in rows.trim().lines() {
+        assert_step(rt, alloc, rule, row)?;
     }
     Ok(())
 }
 
-/// Each row is a term and its canonical form.
-pub fn assert_canonical(rt: &impl Abort, alloc: Global, rows: &[(&str, &str)]) -> Result<(), Fail> {
-    for (text, want) in rows {
+fn assert_step<R: Rule>(rt: &impl Abort, alloc: Global, rule: &R, row: &str) -> Result<(), Fail> {
+    let (text, want) = columns(row)?;
+    let t = read(alloc, text)?;
+    assert!(rt; t.is_well_formed(), "{row}");
+    assert!(rt; spell(alloc, &t)?.as_slice() == text.as_bytes(), "{row}");
+    assert_settles(rt, alloc, &t)?;
+    if rule.applies(&t) {
+        let made = spell(alloc, &rule.apply(alloc, t)?)?;
+        assert!(rt; made.as_slice() == want.as_bytes(), "{row}");
+    } else {
+        assert!(rt; want == "none", "{row}");
+    }
+    Ok(())
+}
+
+/// Each line is a term, an arrow and its canonical form.
+pub fn assert_canonical(rt: &impl Abort, alloc: Global, rows: &str) -> Result<(), Fail> {
+    for row in rows.trim().lines() {
+        let (text, want) = columns(row)?;
         let t = read(alloc, text)?;
-        assert!(rt; t.is_well_formed(), "{text}");
+        assert!(rt; t.is_well_formed(), "{row}");
         let form = assert_settles(rt, alloc, &t)?;
-        assert_eq!(rt; spell(alloc, &form)?.as_slice(), want.as_bytes(), "{text}");
+        assert!(rt; spell(alloc, &form)?.as_slice() == want.as_bytes(), "{row}");
     }
     Ok(())
 }
 
-/// Each row is the text of a term.
-pub fn assert_texts(rt: &impl Abort, alloc: Global, rows: &[&str]) -> Result<(), Fail> {
-    for text in rows {
+/// Each line is the text of a term.
+pub fn assert_texts(rt: &impl Abort, alloc: Global, rows: &str) -> Result<(), Fail> {
+    for row in rows.trim().lines() {
+        let text = row.trim();
         let t = read(alloc, text)?;
         assert!(rt; t.is_well_formed(), "{text}");
         let again = t.copy(alloc)?;
-        assert_eq!(rt; spell(alloc, &again)?.as_slice(), text.as_bytes());
+        assert!(rt;
+            spell(alloc, &again)?.as_slice() == text.as_bytes(),
+            "{text}"
+        );
     }
     Ok(())
 }
 
-/// Each row is a term and its value in the environment.
-pub fn assert_values(
-    rt: &impl Abort,
-    alloc: Global,
-    env: &Env,
-    rows: &[(&str, u128)],
-) -> Result<(), Fail> {
-    for (text, value) in rows {
+/// Each line is a term, an arrow and its value in the environment.
+pub fn assert_values(rt: &impl Abort, alloc: Global, env: &Env, rows: &str) -> Result<(), Fail> {
+    for row in rows.trim().lines() {
+        let (text, value) = columns(row)?;
         let t = read(alloc, text)?;
-        assert!(rt; t.is_well_formed(), "{text}");
-        assert_eq!(rt; t.value(env), *value, "{text}");
+        assert!(rt; t.is_well_formed(), "{row}");
+        assert!(rt; t.value(env) == value.parse::<u128>()?, "{row}");
     }
     Ok(())
 }
 
-/// Each row is a term and the bits that its number needs, read unsigned and signed.
-pub fn assert_known(rt: &impl Abort, alloc: Global, rows: &[(&str, u32, u32)]) -> Result<(), Fail> {
-    for (text, unsigned, signed) in rows {
+/// The two numbers behind a row's arrow.
+fn numbers(words: &str) -> Result<(u64, u64), Fail> {
+    match words.split_once(' ') {
+        Some((first, second)) => Ok((first.parse::<u64>()?, second.parse::<u64>()?)),
+        None => Err("a number is missing".into()),
+    }
+}
+
+/// Each line is a term, an arrow, and the bits that its number needs, read unsigned and signed.
+pub fn assert_known(rt: &impl Abort, alloc: Global, rows: &str) -> Result<(), Fail> {
+    for row in rows.trim().lines() {
+        let (text, want) = columns(row)?;
+        let (unsigned, signed) = numbers(want)?;
         let t = read(alloc, text)?;
-        assert!(rt; t.is_well_formed(), "{text}");
-        assert_eq!(rt; t.known(), (*unsigned, *signed), "{text}");
+        assert!(rt; t.is_well_formed(), "{row}");
+        let known = t.known();
+        assert!(rt;
+            u64::from(known.0) == unsigned && u64::from(known.1) == signed,
+            "{row}"
+        );
     }
     Ok(())
 }
 
-/// Each row is a term, its weight, and how many of its subterms can be put in order.
-pub fn assert_measures(
-    rt: &impl Abort,
-    alloc: Global,
-    rows: &[(&str, u64, u64)],
-) -> Result<(), Fail> {
-    for (text, weight, disorder) in rows {
+/// Each line is a term, an arrow, its weight, and how many of its subterms can be put in order.
+pub fn assert_measures(rt: &impl Abort, alloc: Global, rows: &str) -> Result<(), Fail> {
+    for row in rows.trim().lines() {
+        let (text, want) = columns(row)?;
+        let (weight, disorder) = numbers(want)?;
         let t = read(alloc, text)?;
-        assert_eq!(rt; t.weight(), *weight, "{text}");
-        assert_eq!(rt; t.disorder(), *disorder, "{text}");
+        assert!(rt; t.weight() == weight && t.disorder() == disorder, "{row}");
     }
     Ok(())
 }
 
-/// Each row is a term, and one that is after it.
-pub fn assert_rising(rt: &impl Abort, alloc: Global, rows: &[(&str, &str)]) -> Result<(), Fail> {
-    for (text, next) in rows {
+/// Each line is a term, an arrow, and a term that is after it.
+pub fn assert_rising(rt: &impl Abort, alloc: Global, rows: &str) -> Result<(), Fail> {
+    for row in rows.trim().lines() {
+        let (text, next) = columns(row)?;
         let lesser = read(alloc, text)?;
         let greater = read(alloc, next)?;
-        assert_eq!(rt; lesser.key_cmp(&greater), Ordering::Less, "{text}");
-        assert_eq!(rt; greater.key_cmp(&lesser), Ordering::Greater, "{text}");
-        assert_eq!(rt; lesser.key_cmp(&lesser), Ordering::Equal, "{text}");
+        assert!(rt; lesser.key_cmp(&greater) == Ordering::Less, "{row}");
+        assert!(rt; greater.key_cmp(&lesser) == Ordering::Greater, "{row}");
+        assert!(rt; lesser.key_cmp(&lesser) == Ordering::Equal, "{row}");
     }
     Ok(())
 }
 
-/// Each row is a term that breaks the rules of widths.
-pub fn assert_ill_formed(rt: &impl Abort, alloc: Global, rows: &[&str]) -> Result<(), Fail> {
-    for text in rows {
-        let t = read(alloc, text)?;
-        assert!(rt; !t.is_well_formed(), "{text}");
+/// Each line is a term that breaks the rules of widths.
+pub fn assert_ill_formed(rt: &impl Abort, alloc: Global, rows: &str) -> Result<(), Fail> {
+    for row in rows.trim().lines() {
+        let t = read(alloc, row.trim())?;
+        assert!(rt; !t.is_well_formed(), "{row}");
     }
     Ok(())
 }
