@@ -1,4 +1,4 @@
-//! Memories and numbers written as words, and texts of several lines in one row.
+//! Memories written as words, and texts of several lines in one row.
 
 use std::alloc::Global;
 use std::test::Fail;
@@ -20,15 +20,6 @@ fn fill(bytes: &mut Vec<u8>, count: u32, byte: u8) -> Result<(), Fail> {
         bytes.push(byte)?;
     }
     Ok(())
-}
-
-/// The numbers that decimal words name.
-pub fn numbers_of(alloc: Global, text: &str) -> Result<Vec<u64>, Fail> {
-    let mut numbers = Vec::new(alloc);
-    for word in text.split_whitespace() {
-        numbers.push(word.parse::<u64>()?)?;
-    }
-    Ok(numbers)
 }
 
 /// The text in which each `mark` of a row ends a line.

@@ -2,7 +2,6 @@
 
 use crate::desk::{Desk, status_of};
 use crate::memories::{bytes_of, lines_of};
-use crate::program_cases::largest_program;
 use std::alloc::{AllocError, Global};
 use std::process::Abort;
 use std::test::Fail;
@@ -97,6 +96,18 @@ fn a_memory_of_16_mib_is_the_largest(rt: HostRuntime) -> Result<(), Fail> {
     let line = "run i p m d=16777215 k=7";
     expect_largest(&rt, rt.alloc(), line)?;
     expect_too_large(&rt, rt.alloc(), line)
+}
+
+/// A program of 349,521 lines, whose text has 4,194,304 bytes: 27 and 25 of the first line and the
+/// last, and 12 of each other.
+fn largest_program(alloc: Global) -> Result<Vec<u8>, AllocError> {
+    let mut text = Vec::with_capacity(alloc, 4_194_304)?;
+    text.extend_from_slice(b"program big(d: ptr, k: i8)\n")?;
+    for _ in 0..349_521 {
+        text.extend_from_slice(b"store d+0 k\n")?;
+    }
+    text.extend_from_slice(b"end cost 349521 scalar 0\n")?;
+    Ok(text)
 }
 
 #[test]

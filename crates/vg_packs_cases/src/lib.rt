@@ -1,6 +1,9 @@
-//! Cases of packs: the store groups of kernels, the packs that produce operands, and plain plans.
+//! Cases of dependences and packs: which units depend on which, the store groups of kernels, the packs
+//! that produce operands, and plain plans.
 #![tactic(auto)]
 
+#[cfg(test)]
+mod dependences;
 #[cfg(test)]
 mod kernels;
 #[cfg(test)]

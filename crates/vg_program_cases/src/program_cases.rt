@@ -345,7 +345,7 @@ const NONE: &[u8] = b"program none()\nend cost 0 scalar 0\n";
 
 /// A program of 349,521 lines, whose text has 4,194,304 bytes: 27 and 25 of the first line and the
 /// last, and 12 of each other.
-pub fn largest_program(alloc: Global) -> Result<Vec<u8>, AllocError> {
+fn largest_program(alloc: Global) -> Result<Vec<u8>, AllocError> {
     let mut text = Vec::with_capacity(alloc, 4_194_304)?;
     text.extend_from_slice(b"program big(d: ptr, k: i8)\n")?;
     for _ in 0..349_521 {

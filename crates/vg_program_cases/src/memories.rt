@@ -1,0 +1,32 @@
+//! Memories and numbers written as words.
+
+use std::alloc::Global;
+use std::test::Fail;
+
+/// The bytes that decimal words name; `20*7` is twenty bytes 7.
+pub fn bytes_of(alloc: Global, text: &str) -> Result<Vec<u8>, Fail> {
+    let mut bytes = Vec::new(alloc);
+    for word in text.split_whitespace() {
+        match word.split_once('*') {
+            Some((count, byte)) => fill(&mut bytes, count.parse::<u32>()?, byte.parse::<u8>()?)?,
+            None => bytes.push(word.parse::<u8>()?)?,
+        }
+    }
+    Ok(bytes)
+}
+
+fn fill(bytes: &mut Vec<u8>, count: u32, byte: u8) -> Result<(), Fail> {
+    for _ in 0..count {
+        bytes.push(byte)?;
+    }
+    Ok(())
+}
+
+/// The numbers that decimal words name.
+pub fn numbers_of(alloc: Global, text: &str) -> Result<Vec<u64>, Fail> {
+    let mut numbers = Vec::new(alloc);
+    for word in text.split_whitespace() {
+        numbers.push(word.parse::<u64>()?)?;
+    }
+    Ok(numbers)
+}
