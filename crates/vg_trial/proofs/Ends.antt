@@ -23,27 +23,27 @@ pub joined : {X : Type 0} (P : X → Type 0) (xs ys : List X) → AllByRecursion
 joined P [] ys a b = b
 joined P (x ∷ xs) ys a b = (a.0, joined P xs ys a.1 b)
 
-pub parted : {X : Type 0} (P : X → Type 0) (xs ys : List X) → AllByRecursion P (xs ++ ys) → AllByRecursion P xs × AllByRecursion P ys
+parted : {X : Type 0} (P : X → Type 0) (xs ys : List X) → AllByRecursion P (xs ++ ys) → AllByRecursion P xs × AllByRecursion P ys
 parted P [] ys h = (tt, h)
 parted P (x ∷ xs) ys h = let rest = parted P xs ys h.1 in ((h.0, rest.0), rest.1)
 
 -- ---- one step behind another
 
-ends_then : {A B : Type 0} (P : A → Type 0) (o : Option A) (f : A → Option B) → IsSomeAnd o P → ((x : A) → P x → IsSome (f x)) → IsSome (o >>= f)
-ends_then P None f h next = absurd h
-ends_then P (Some x) f h next = next x h
-
 keeps_then : {A B : Type 0} (P : A → Type 0) (Q : B → Type 0) (o : Option A) (f : A → Option B) → IsSomeAnd o P → ((x : A) → P x → IsSomeAnd (f x) Q) → IsSomeAnd (o >>= f) Q
 keeps_then P Q None f h next = absurd h
 keeps_then P Q (Some x) f h next = next x h
 
--- there is a number
-abbrev Is : Option ℕ → Type 0
-Is o = IsSomeAnd o (λ n. Unit {0})
+-- it does not trap
+abbrev Ends : {A : Type 0} → Option A → Type 0
+Ends o = IsSomeAnd o (λ x. Unit {0})
+
+is_some-ends : {A : Type 0} (o : Option A) → Ends o → IsSome o
+is_some-ends None h = absurd h
+is_some-ends (Some x) h = refl
 
 -- ---- accesses
 
-load-ends : (memory : List ℕ) (z : ℤ) (size at : ℕ) (f : List ℕ → ℕ) → z ≡ pos at → at + size ≤ length memory → Is (loaded memory z size >>= λ read. Some (f read))
+load-ends : (memory : List ℕ) (z : ℤ) (size at : ℕ) (f : List ℕ → ℕ) → z ≡ pos at → at + size ≤ length memory → Ends (loaded memory z size >>= λ read. Some (f read))
 load-ends memory z size at f begins fits = rw (begins, le-leb (at + size) (length memory) fits) tt
 
 length-bytes : (k n : ℕ) → length (bytes k n) ≡ k
@@ -60,7 +60,7 @@ store-keeps memory z new at begins fits = rw (begins, le-leb (at + length new) (
 
 -- ---- a kernel
 
-value-ends : (i : Inputs) (s : State) (e : Expression) → AllByRecursion (Lies i.places (length s.memory)) (reads_of e) → Is (value i s e)
+value-ends : (i : Inputs) (s : State) (e : Expression) → AllByRecursion (Lies i.places (length s.memory)) (reads_of e) → Ends (value i s e)
 value-ends i s (argument k w) h = tt
 value-ends i s (assigned k t) h = tt
 value-ends i s (literal w n) h = tt
@@ -88,21 +88,16 @@ statement-keeps i s (store w a e) h =
     keeps_then _ _ (stored s.memory (place_of i.places a) (bytes (size_of w) n)) _
     (store-keeps s.memory (place_of i.places a) (bytes (size_of w) n) parts.1.0.at parts.1.0.begins (rw (length-bytes (size_of w) n) parts.1.0.ends)) (λ left same. same))
 
-run-ends : (i : Inputs) (ss : List Statement) (s : State) (long : ℕ) → long ≡ length s.memory → AllByRecursion (Lies i.places long) (flat_map statement_accesses ss) → IsSome (run i ss s)
+run-ends : (i : Inputs) (ss : List Statement) (s : State) (long : ℕ) → long ≡ length s.memory → AllByRecursion (Lies i.places long) (flat_map statement_accesses ss) → Ends (run i ss s)
 unfolding run
-run-ends i [] s long e h = refl
+run-ends i [] s long e h = tt
 run-ends i (x ∷ xs) s long e h =
     let parts = parted (Lies i.places long) (statement_accesses x) (flat_map statement_accesses xs) h in
-    let first = statement-keeps i s x (rw (sym e) parts.0) in
-    ends_then _ (after i x s) (run i xs) first (λ t same. run-ends i xs t long (e ∙ sym same) parts.1)
+    keeps_then _ _ (after i x s) (run i xs) (statement-keeps i s x (rw (sym e) parts.0)) (λ t same. run-ends i xs t long (e ∙ sym same) parts.1)
 
 pub meaning-ends : (k : Tree) (memory places args : List ℕ) → AllByRecursion (Lies places (length memory)) (accesses k) → IsSome (meaning k memory places args)
 unfolding meaning
 meaning-ends k memory places args h =
     let i : Inputs = record { places = places; args = args } in
     let s : State = record { memory = memory; numbers = [] } in
-    left (run i k.statements s) (run-ends i k.statements s (length memory) refl h)
-  where
-    left : (o : Option State) → IsSome o → IsSome (o >>= λ t. Some t.memory)
-    left None h = h
-    left (Some t) h = refl
+    is_some-ends _ (keeps_then _ _ (run i k.statements s) _ (run-ends i k.statements s (length memory) refl h) (λ t _. tt))

@@ -29,12 +29,6 @@ memory-length n = length-bytes_to n (80 * groups n)
 pub memory-bytes : (n : ℕ) → All (λ b. b < 2 ^ 8) (memory n)
 memory-bytes n = bytes_to-below n (80 * groups n)
 
--- ---- the places
-
-pub places-near : (n : ℕ) → All (λ place. place < 2 ^ 64) (places n)
-places-near n =
-    All-from_recursion (λ place. place < 2 ^ 64) (places n) (omega arith, (omega arith, (omega arith, tt)))
-
 -- ---- the kernel ends
 
 lies : (n : ℕ) (x : Access) → Inside (groups n) x → Lies (places n) (80 * groups n) x
