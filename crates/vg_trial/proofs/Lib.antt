@@ -1,2 +1,3 @@
+mod Lines
 mod Scripts
 pub mod Trials

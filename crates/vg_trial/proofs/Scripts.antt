@@ -76,10 +76,10 @@ abbrev pub bytes_of : Item → List ℕ
 bytes_of (plain gap bytes) = bytes
 bytes_of (number gap n) = decimal n
 
--- a text of items
-abbrev pub written : List Item → List ℕ
-written [] = []
-written (i ∷ is) = gap_of i ++ (bytes_of i ++ written is)
+-- items in front of a text
+abbrev pub written : List Item → List ℕ → List ℕ
+written [] text = text
+written (i ∷ is) text = gap_of i ++ (bytes_of i ++ written is text)
 
 -- the place behind an item
 abbrev pub past : Place → Item → Place
@@ -114,7 +114,7 @@ ends (number gap n) text = list_all is_white gap && ends_number text
 -- each word of items ends where its bytes end, before this text
 unfoldable pub end_all : List Item → List ℕ → Bool
 end_all [] text = true
-end_all (i ∷ is) text = ends i (written is ++ text) && end_all is text
+end_all (i ∷ is) text = ends i (written is text) && end_all is text
 
 -- the numbers are small
 abbrev pub IsSmall : Item → Type 0
@@ -248,8 +248,8 @@ pub before-append : (ws vs : Words) (more : Option Words) → before ws (before 
 before-append ws vs None = refl
 before-append ws vs (Some more) = ap Some (sym (append_assoc ws vs more))
 
--- the words of a text of items, before what follows
-pub items-words : (p : Place) (is : List Item) (text : List ℕ) → end_all is text ≡ true → AreSmall is → words_in 0 p (written is ++ text) ≡ before (words_of p is) (words_in 0 (past_all p is) text)
+-- the words of items, before those of the text behind them
+pub items-words : (p : Place) (is : List Item) (text : List ℕ) → end_all is text ≡ true → AreSmall is → words_in 0 p (written is text) ≡ before (words_of p is) (words_in 0 (past_all p is) text)
 unfolding end_all
 items-words p [] text h small = none (words_in 0 p text)
   where
@@ -257,8 +257,7 @@ items-words p [] text h small = none (words_in 0 p text)
     none None = refl
     none (Some ws) = refl
 items-words p (i ∷ is) text h small =
-    let both = and_parts (ends i (written is ++ text)) (end_all is text) h in
-    rw (append_assoc (gap_of i) (bytes_of i ++ written is) text, append_assoc (bytes_of i) (written is) text)
-    (item-words p i (written is ++ text) both.0 small.0
+    let both = and_parts (ends i (written is text)) (end_all is text) h in
+    item-words p i (written is text) both.0 small.0
     ∙ ap (option_map (λ ws. word (bytes_of i) (place_after p (gap_of i)) ∷ ws)) (items-words (past p i) is text both.1 small.1)
-    ∙ before-append (word (bytes_of i) (place_after p (gap_of i)) ∷ []) (words_of (past p i) is) (words_in 0 (past_all p (i ∷ is)) text))
+    ∙ before-append (word (bytes_of i) (place_after p (gap_of i)) ∷ []) (words_of (past p i) is) (words_in 0 (past_all p (i ∷ is)) text)
