@@ -1,9 +1,10 @@
 -- The lines of a trial's kernel by their items, and what each of them spells.
-use Rattle.std.proofs.Common.{◌≡◌, ℕ, zero, suc, ◌+◌, ◌-◌, ◌*◌, ◌^◌, ◌<◌, ◌≤◌, max, Bool, true, false, ◌&&◌, ◌==◌, List, [], ◌∷◌, ◌++◌, length, Option, Some, None, pos, inl, inr, refl, sym, ◌∙◌, ap, subst, arith, append_assoc, append-nil}
+use Rattle.std.proofs.Common.{lit<, ◌≡◌, ℕ, zero, suc, ◌+◌, ◌-◌, ◌*◌, ◌^◌, ◌<◌, ◌≤◌, max, Bool, true, false, ◌&&◌, ◌==◌, List, [], ◌∷◌, ◌++◌, length, Option, Some, None, pos, inl, inr, refl, sym, ◌∙◌, ap, subst, arith, append_assoc, append-nil, length-append}
 use Rattle.std.specs.Prelude.{codes, IsTrue}
 use Rattle.std.specs.Fmt.{decimal}
 use Rattle.std.specs.List.{list_all}
 use Rattle.std.proofs.lemmas.Bool.{ne_eqb, leb-true, and_parts, and_from, lt-ltb, cond-true, cond-false, eq-eqb}
+use Rattle.std.proofs.lemmas.Fmt.{length-decimal-le}
 use Rattle.vg_base.specs.declared.address.Address.{Address}
 use Rattle.vg_base.specs.declared.width.Width.{Width}
 use Rattle.vg_base.specs.declared.width.Width.TheVariants.{W8, W16, W32}
@@ -27,11 +28,11 @@ use Rattle.vg_kernel.specs.Grammar.{IsDistance, SpellsAddress, IsLiteral, IsExpr
 use Rattle.vg_kernel.specs.Names.{Names, parameter_named, given_as, names_of}
 use Rattle.vg_kernel.specs.Nodes.{width_in, pair_node, resize_node}
 use Rattle.vg_kernel.specs.Script.{Words}
-use Rattle.vg_kernel.specs.Tree.{Expression, literal, load, two, shift, resize, store}
+use Rattle.vg_kernel.specs.Tree.{Expression, Statement, literal, load, two, shift, resize, store}
 use Rattle.vg_kernel.specs.Words.{sized, level_of, operator_named, plain_named, function_named, is_reserved, is_free, adjoins, offset_of, literal_of}
-use Rattle.vg_trial.specs.TrialKernel.{params, d_at, p_at, q_at, product, sum_stored}
-use Rattle.vg_trial.specs.Trial.{line_text, sum_line}
-use Rattle.vg_trial.proofs.Scripts.{Item, plain, number as digits, gap_of, bytes_of, written, past, past_all, words_of, word, end_all, AreSmall}
+use Rattle.vg_trial.specs.TrialKernel.{params, d_at, p_at, q_at, product, sum_stored, pair_stored, products_stored, clamped_stored, average_stored}
+use Rattle.vg_trial.specs.Trial.{line_text, sum_line, pair_line, product_line, clamped_line, average_line}
+use Rattle.vg_trial.proofs.Scripts.{Item, plain, number as digits, gap_of, bytes_of, written, past, past_all, words_of, words_in, word, end_all, AreSmall, before, white-words, items-words}
 
 -- the names of a trial's parameters
 abbrev pub names : Names
@@ -194,28 +195,208 @@ spell_store w to d xs e p small few width is =
     let whole = ap (λ (ws : Words). first ∷ opening ∷ (place ++ comma ∷ ws)) (words_of-append second xs (plain [] (codes ")") ∷ plain [] (codes ";") ∷ [])) in
     (first, opening, comma, closing, end, place, words_of second xs, refl, refl, spells_address inside (codes "d") 0 to d_named small, refl, (d, is second, few), refl, refl, width, whole, refl)
 
--- the sum of two loads
-spell_sum : (d d' : ℕ) (xs ys : List Item) (x y e : Expression) → pair_node (functions.Two Add) x y ≡ Some e → Spell xs 0 d x → Spell ys 0 d' y → Spell (joined_items xs (codes "+") ys) 2 (max d d' + 1) e
+-- a sum
+spell_sum : (d d' : ℕ) (xs ys : List Item) (x y e : Expression) → pair_node (functions.Two Add) x y ≡ Some e → Spell xs 2 d x → Spell ys 1 d' y → Spell (joined_items xs (codes "+") ys) 2 (max d d' + 1) e
 unfolding operator_named
-spell_sum d d' xs ys x y e node left right = spell_joined Add (codes "+") 1 d d' xs ys x y e refl refl node (looser 2 d xs x left) (looser 1 d' ys y right)
+spell_sum d d' xs ys x y e node left right = spell_joined Add (codes "+") 1 d d' xs ys x y e refl refl node left right
 
-abbrev sum_items : ℕ → ℕ → List Item
-sum_items to from =
-    store_items W32 to (joined_items (load_items (codes " ") W32 (codes "p") from) (codes "+") (load_items (codes " ") W32 (codes "q") from))
+-- a product
+spell_product : (d d' : ℕ) (xs ys : List Item) (x y e : Expression) → pair_node (functions.Two Mul) x y ≡ Some e → Spell xs 1 d x → Spell ys 0 d' y → Spell (joined_items xs (codes "*") ys) 1 (max d d' + 1) e
+unfolding operator_named
+spell_product d d' xs ys x y e node left right = spell_joined Mul (codes "*") 0 d d' xs ys x y e refl refl node left right
 
-sum_written : (to from : ℕ) (text : List ℕ) → line_text (sum_line to from) ++ text ≡ written (sum_items to from) (codes "\n" ++ text)
-unfolding line_text
-sum_written to from text = simp append_assoc
+-- a statement that stands in a line of its own
+pub record IsLine (text : List ℕ) (s : Statement) : Type 0 where
+  pub size : length text ≤ 240
+  pub spells : (p : Place) (rest : List ℕ) → (ws : Words) × (q : Place) × (words_in 0 p (text ++ rest) ≡ before ws (words_in 0 q rest)) × IsStatement names ws s names
 
-sum_ends : (to from : ℕ) (text : List ℕ) → end_all (sum_items to from) (codes "\n" ++ text) ≡ true
-unfolding end_all front_of
-sum_ends to from text = refl
+-- a line by its items
+line_of : (text : List ℕ) (is : List Item) (s : Statement) → length text ≤ 240 → ((rest : List ℕ) → text ++ rest ≡ written is (codes "\n" ++ rest)) → ((rest : List ℕ) → end_all is (codes "\n" ++ rest) ≡ true)
+    → AreSmall is → ((p : Place) → IsStatement names (words_of p is) s names) → IsLine text s
+line_of text is s size same ended small spelled = record {
+  size = size;
+  spells = λ p rest. (
+    words_of p is,
+    place_after (past_all p is) (codes "\n"),
+    ap (words_in 0 p) (same rest) ∙ items-words p is (codes "\n" ++ rest) (ended rest) small ∙ ap (before (words_of p is)) (white-words (past_all p is) (codes "\n") rest refl),
+    spelled p,
+  );
+}
 
-sum_spelled : (to from : ℕ) (p : Place) → to < 10000 → from < 10000 → IsStatement names (words_of p (sum_items to from)) (sum_stored to from) names
-sum_spelled to from p small few =
-    let left = load_items (codes " ") W32 (codes "p") from in
-    let right = load_items (codes " ") W32 (codes "q") from in
-    let e = two Add W32 (load W32 (p_at from)) (load W32 (q_at from)) in
+-- a sum of loads
+abbrev loads_items : List ℕ → List ℕ → ℕ → ℕ → List Item
+loads_items low high from from' = joined_items (load_items (codes " ") W32 low from) (codes "+") (load_items (codes " ") W32 high from')
+
+spell_loads : (low high : List ℕ) (k k' from from' : ℕ) → IsNamed low k → IsNamed high k' → from < 10000 → from' < 10000
+    → Spell (loads_items low high from from') 5 2 (two Add W32 (load W32 (record { pointer = k; offset = pos from })) (load W32 (record { pointer = k'; offset = pos from' })))
+spell_loads low high k k' from from' named named' small small' =
+    let left = load_items (codes " ") W32 low from in
+    let right = load_items (codes " ") W32 high from' in
+    let x = load W32 (record { pointer = k; offset = pos from }) in
+    let y = load W32 (record { pointer = k'; offset = pos from' }) in
+    whole_sum 2 (joined_items left (codes "+") right) (two Add W32 x y)
+    (spell_sum 1 1 left right x y (two Add W32 x y) refl (looser 2 1 left x (spell_load (codes " ") W32 low k from named small)) (looser 1 1 right y (spell_load (codes " ") W32 high k' from' named' small')))
+
+-- the sum of two dwords
+pub sum_is_line : (to from : ℕ) → to < 10000 → from < 10000 → IsLine (line_text (sum_line to from)) (sum_stored to from)
+unfolding line_text end_all front_of
+sum_is_line to from small few =
+    let a = length-decimal-le 4 to (lit< tt) small (omega arith) in
+    let b = length-decimal-le 4 from (lit< tt) few (omega arith) in
+    let sum = loads_items (codes "p") (codes "q") from from in
+    line_of _ (store_items W32 to sum) (sum_stored to from) (simp length-append (omega arith)) (λ rest. simp append_assoc) (λ rest. refl) (assumption)
+    (λ p. spell_store W32 to 2 sum _ p small (omega arith) refl (spell_loads (codes "p") (codes "q") 1 2 from from p_named q_named few few))
+
+-- the sum of two dwords that stand beside each other, at p
+pub low_pair_is_line : (to from : ℕ) → to < 10000 → from + 4 < 10000 → IsLine (line_text (pair_line to (codes "p") from)) (pair_stored to (p_at from) (p_at (from + 4)))
+unfolding line_text end_all front_of
+low_pair_is_line to from small few =
+    let less : from < 10000 = omega arith in
+    let a = length-decimal-le 4 to (lit< tt) small (omega arith) in
+    let b = length-decimal-le 4 from (lit< tt) less (omega arith) in
+    let c = length-decimal-le 4 (from + 4) (lit< tt) few (omega arith) in
+    let sum = loads_items (codes "p") (codes "p") from (from + 4) in
+    line_of _ (store_items W32 to sum) (pair_stored to (p_at from) (p_at (from + 4))) (simp length-append (omega arith)) (λ rest. simp append_assoc) (λ rest. refl) (assumption)
+    (λ p. spell_store W32 to 2 sum _ p small (omega arith) refl (spell_loads (codes "p") (codes "p") 1 1 from (from + 4) p_named p_named less few))
+
+-- the same, at q
+pub high_pair_is_line : (to from : ℕ) → to < 10000 → from + 4 < 10000 → IsLine (line_text (pair_line to (codes "q") from)) (pair_stored to (q_at from) (q_at (from + 4)))
+unfolding line_text end_all front_of
+high_pair_is_line to from small few =
+    let less : from < 10000 = omega arith in
+    let a = length-decimal-le 4 to (lit< tt) small (omega arith) in
+    let b = length-decimal-le 4 from (lit< tt) less (omega arith) in
+    let c = length-decimal-le 4 (from + 4) (lit< tt) few (omega arith) in
+    let sum = loads_items (codes "q") (codes "q") from (from + 4) in
+    line_of _ (store_items W32 to sum) (pair_stored to (q_at from) (q_at (from + 4))) (simp length-append (omega arith)) (λ rest. simp append_assoc) (λ rest. refl) (assumption)
+    (λ p. spell_store W32 to 2 sum _ p small (omega arith) refl (spell_loads (codes "q") (codes "q") 2 2 from (from + 4) q_named q_named less few))
+
+-- an extended word
+abbrev extended_items : List ℕ → List ℕ → ℕ → List Item
+extended_items gap pointer from = call_items gap (codes "sext32") (load_items [] W16 pointer from)
+
+spell_extended : (gap pointer : List ℕ) (k from : ℕ) → IsNamed pointer k → from < 10000 → Spell (extended_items gap pointer from) 0 2 (resize Sext W32 W16 (load W16 (record { pointer = k; offset = pos from })))
+unfolding plain_named
+spell_extended gap pointer k from named small =
+    let x = load W16 (record { pointer = k; offset = pos from }) in
+    let xs = load_items [] W16 pointer from in
+    spell_resized gap (codes "sext32") Sext W32 1 xs x (resize Sext W32 W16 x) refl refl (looser 5 1 xs x (spell_load [] W16 pointer k from named small))
+
+-- the product of the words at p and q
+abbrev product_items : ℕ → List Item
+product_items from = joined_items (extended_items (codes " ") (codes "p") from) (codes "*") (extended_items (codes " ") (codes "q") from)
+
+spell_words : (from : ℕ) → from < 10000 → Spell (product_items from) 1 3 (product from)
+spell_words from small =
+    let left = extended_items (codes " ") (codes "p") from in
+    let right = extended_items (codes " ") (codes "q") from in
+    let x = resize Sext W32 W16 (load W16 (p_at from)) in
+    let y = resize Sext W32 W16 (load W16 (q_at from)) in
+    spell_product 2 2 left right x y (product from) refl (looser 1 2 left x (spell_extended (codes " ") (codes "p") 1 from p_named small)) (spell_extended (codes " ") (codes "q") 2 from q_named small)
+
+-- the sum of two products of words
+pub products_are_line : (to from : ℕ) → to < 10000 → from + 2 < 10000 → IsLine (line_text (product_line to from)) (products_stored to from)
+unfolding line_text end_all front_of
+products_are_line to from small few =
+    let less : from < 10000 = omega arith in
+    let a = length-decimal-le 4 to (lit< tt) small (omega arith) in
+    let b = length-decimal-le 4 from (lit< tt) less (omega arith) in
+    let c = length-decimal-le 4 (from + 2) (lit< tt) few (omega arith) in
+    let left = product_items from in
+    let right = product_items (from + 2) in
     let sum = joined_items left (codes "+") right in
-    spell_store W32 to 2 sum e p small (omega arith) refl
-    (whole_sum 2 sum e (spell_sum 1 1 left right (load W32 (p_at from)) (load W32 (q_at from)) e refl (spell_load (codes " ") W32 (codes "p") 1 from p_named few) (spell_load (codes " ") W32 (codes "q") 2 from q_named few)))
+    let e = two Add W32 (product from) (product (from + 2)) in
+    line_of _ (store_items W32 to sum) (products_stored to from) (simp length-append (omega arith)) (λ rest. simp append_assoc) (λ rest. refl) (assumption)
+    (λ p. spell_store W32 to 4 sum e p small (omega arith) refl
+    (whole_sum 4 sum e (spell_sum 3 3 left right (product from) (product (from + 2)) e refl (λ q. tighter 1 3 (words_of q left) (product from) (spell_words from less q)) (spell_words (from + 2) few))))
+
+-- a dword, kept in the range of signed words
+abbrev clamped_items : ℕ → List Item
+clamped_items from =
+    call_items (codes " ") (codes "trunc16")
+    (pair_items [] (codes "smin")
+    (pair_items [] (codes "smax") (load_items [] W32 (codes "p") from) (plain (codes " ") (codes "-") ∷ literal_items [] (codes "32768") (codes "i32")))
+    (literal_items (codes " ") (codes "32767") (codes "i32")))
+
+spell_clamped : (from : ℕ) → from < 10000
+    → Spell (clamped_items from) 0 4 (resize Trunc W16 W32 (two Smin W32 (two Smax W32 (load W32 (p_at from)) (literal W32 (2 ^ 32 - 32768))) (literal W32 32767)))
+unfolding plain_named decimal_value value_from
+spell_clamped from small =
+    let x = load W32 (p_at from) in
+    let low = literal W32 (2 ^ 32 - 32768) in
+    let high = literal W32 32767 in
+    let xs = load_items [] W32 (codes "p") from in
+    let lows = plain (codes " ") (codes "-") ∷ literal_items [] (codes "32768") (codes "i32") in
+    let highs = literal_items (codes " ") (codes "32767") (codes "i32") in
+    let greatest = two Smax W32 x low in
+    let least = two Smin W32 greatest high in
+    let greatests = pair_items [] (codes "smax") xs lows in
+    let leasts = pair_items [] (codes "smin") greatests highs in
+    spell_resized (codes " ") (codes "trunc16") Trunc W16 3 leasts least (resize Trunc W16 W32 least) refl refl
+    (looser 5 3 leasts least
+    (spell_pair [] (codes "smin") (functions.Two Smin) 2 1 greatests highs greatest high least refl refl
+    (looser 5 2 greatests greatest
+    (spell_pair [] (codes "smax") (functions.Two Smax) 1 1 xs lows x low greatest refl refl (looser 5 1 xs x (spell_load [] W32 (codes "p") 1 from p_named small))
+    (looser 5 1 lows low (spell_negative (codes " ") (codes "32768") W32 32768 (2 ^ 32 - 32768) refl refl refl))))
+    (looser 5 1 highs high (spell_literal (codes " ") (codes "32767") W32 32767 32767 refl refl refl))))
+
+pub clamped_is_line : (to from : ℕ) → to < 10000 → from < 10000 → IsLine (line_text (clamped_line to from)) (clamped_stored to from)
+unfolding line_text end_all front_of value_from
+clamped_is_line to from small few =
+    let a = length-decimal-le 4 to (lit< tt) small (omega arith) in
+    let b = length-decimal-le 4 from (lit< tt) few (omega arith) in
+    line_of _ (store_items W16 to (clamped_items from)) (clamped_stored to from) (simp length-append (omega arith)) (λ rest. simp append_assoc) (λ rest. refl) (assumption)
+    (λ p. spell_store W16 to 4 (clamped_items from) _ p small (omega arith) refl (looser 5 4 (clamped_items from) _ (spell_clamped from few)))
+
+-- an extended byte
+abbrev byte_items : List ℕ → List ℕ → ℕ → List Item
+byte_items gap pointer from = call_items gap (codes "zext16") (load_items [] W8 pointer from)
+
+spell_byte : (gap pointer : List ℕ) (k from : ℕ) → IsNamed pointer k → from < 10000 → Spell (byte_items gap pointer from) 0 2 (resize Zext W16 W8 (load W8 (record { pointer = k; offset = pos from })))
+unfolding plain_named
+spell_byte gap pointer k from named small =
+    let x = load W8 (record { pointer = k; offset = pos from }) in
+    let xs = load_items [] W8 pointer from in
+    spell_resized gap (codes "zext16") Zext W16 1 xs x (resize Zext W16 W8 x) refl refl (looser 5 1 xs x (spell_load [] W8 pointer k from named small))
+
+-- two bytes and one
+abbrev bytes_items : ℕ → List Item
+bytes_items from = joined_items (joined_items (byte_items [] (codes "p") from) (codes "+") (byte_items (codes " ") (codes "q") from)) (codes "+") (literal_items (codes " ") (codes "1") (codes "i16"))
+
+-- the average of two bytes, rounded up
+abbrev average_items : ℕ → List Item
+average_items from = call_items (codes " ") (codes "trunc8") (shift_items [] (codes "lshr") (bytes_items from) (codes "1"))
+
+spell_bytes : (from : ℕ) → from < 10000
+    → Spell (bytes_items from) 2 4 (two Add W16 (two Add W16 (resize Zext W16 W8 (load W8 (p_at from))) (resize Zext W16 W8 (load W8 (q_at from)))) (literal W16 1))
+unfolding decimal_value value_from
+spell_bytes from small =
+    let x = resize Zext W16 W8 (load W8 (p_at from)) in
+    let y = resize Zext W16 W8 (load W8 (q_at from)) in
+    let one = literal W16 1 in
+    let xs = byte_items [] (codes "p") from in
+    let ys = byte_items (codes " ") (codes "q") from in
+    let ones = literal_items (codes " ") (codes "1") (codes "i16") in
+    let both = two Add W16 x y in
+    spell_sum 3 1 (joined_items xs (codes "+") ys) ones both one (two Add W16 both one) refl
+    (spell_sum 2 2 xs ys x y both refl (looser 2 2 xs x (spell_byte [] (codes "p") 1 from p_named small)) (looser 1 2 ys y (spell_byte (codes " ") (codes "q") 2 from q_named small)))
+    (looser 1 1 ones one (spell_literal (codes " ") (codes "1") W16 1 1 refl refl refl))
+
+spell_average : (from : ℕ) → from < 10000
+    → Spell (average_items from) 0 6 (resize Trunc W8 W16 (shift Lshr W16 1 (two Add W16 (two Add W16 (resize Zext W16 W8 (load W8 (p_at from))) (resize Zext W16 W8 (load W8 (q_at from)))) (literal W16 1))))
+unfolding plain_named decimal_value value_from
+spell_average from small =
+    let sum = two Add W16 (two Add W16 (resize Zext W16 W8 (load W8 (p_at from))) (resize Zext W16 W8 (load W8 (q_at from)))) (literal W16 1) in
+    let half = shift Lshr W16 1 sum in
+    let sums = bytes_items from in
+    let halves = shift_items [] (codes "lshr") sums (codes "1") in
+    spell_resized (codes " ") (codes "trunc8") Trunc W8 5 halves half (resize Trunc W8 W16 half) refl refl
+    (looser 5 5 halves half (spell_shift [] (codes "lshr") (codes "1") Lshr W16 4 1 sums sum refl refl (lit< tt) refl (whole_sum 4 sums sum (spell_bytes from small))))
+
+pub average_is_line : (to from : ℕ) → to < 10000 → from < 10000 → IsLine (line_text (average_line to from)) (average_stored to from)
+unfolding line_text end_all front_of value_from
+average_is_line to from small few =
+    let a = length-decimal-le 4 to (lit< tt) small (omega arith) in
+    let b = length-decimal-le 4 from (lit< tt) few (omega arith) in
+    line_of _ (store_items W8 to (average_items from)) (average_stored to from) (simp length-append (omega arith)) (λ rest. simp append_assoc) (λ rest. refl) (assumption)
+    (λ p. spell_store W8 to 6 (average_items from) _ p small (omega arith) refl (looser 5 6 (average_items from) _ (spell_average from few)))

@@ -126,7 +126,7 @@ AreSmall [] = Unit {0}
 AreSmall (i ∷ is) = IsSmall i × AreSmall is
 
 -- white space in front of a text has no word
-white-words : (p : Place) (gap text : List ℕ) → list_all is_white gap ≡ true → words_in 0 p (gap ++ text) ≡ words_in 0 (place_after p gap) text
+pub white-words : (p : Place) (gap text : List ℕ) → list_all is_white gap ≡ true → words_in 0 p (gap ++ text) ≡ words_in 0 (place_after p gap) text
 unfolding words_in front_of place_after
 white-words p [] text all = refl
 white-words p (b ∷ bs) text all =
