@@ -1,3 +1,4 @@
+mod Accepted
 mod Lines
 mod Scripts
 pub mod Trials
