@@ -1,8 +1,7 @@
 -- The text of a trial's kernel is in the language of kernels, and spells the trial's kernel.
-use Rattle.std.proofs.Common.{◌≡◌, ℕ, zero, suc, ◌+◌, ◌-◌, ◌*◌, ◌%◌, ◌<◌, ◌≤◌, Bool, true, false, List, [], ◌∷◌, ◌++◌, length, map, Option, Some, None, refl, sym, ◌∙◌, ap, subst, arith, append_assoc, append-nil, length-append}
+use Rattle.std.proofs.Common.{◌≡◌, ℕ, zero, suc, ◌+◌, ◌-◌, ◌*◌, ◌<◌, ◌≤◌, Bool, true, false, List, [], ◌∷◌, ◌++◌, length, Option, Some, None, refl, sym, ◌∙◌, ap, arith, append_assoc, append-nil, length-append}
 use Rattle.std.specs.Prelude.{codes, IsTrue, nat_lt, sum_by, if◌then◌else◌}
 use Rattle.std.specs.List.{IsDistinct}
-use Rattle.std.specs.Str.{bytes_eq}
 use Rattle.std.proofs.lemmas.List.Sums.{sum_by-append}
 use Rattle.vg_text.specs.declared.place.Place.{Place}
 use Rattle.vg_text.specs.Place.{first_place, place_after}
@@ -10,14 +9,14 @@ use Rattle.vg_text.specs.Token.{front_of}
 use Rattle.vg_kernel.specs.declared.parameter.KParamKind.TheVariants.{Pointer}
 use Rattle.vg_kernel.specs.Cost.{uses_of}
 use Rattle.vg_kernel.specs.Grammar.{IsStatement, AreStatements, IsParameter, AreParameters, IsKernel, IsKernelText}
-use Rattle.vg_kernel.specs.Script.{Words, script_of}
+use Rattle.vg_kernel.specs.Script.{Words}
 use Rattle.vg_kernel.specs.Tree.{Statement}
 use Rattle.vg_kernel.specs.Words.{is_free, is_reserved, plain_named}
 use Rattle.vg_trial.specs.declared.shape.Shape.{Shape}
 use Rattle.vg_trial.specs.declared.shape.Shape.TheVariants.{Sums, Products, Clamped, Averages, Pairs}
 use Rattle.vg_trial.specs.Trial.{groups, shape_of, statements_in, line_text, pair_line, statement, statements, groups_text, kernel_text}
 use Rattle.vg_trial.specs.TrialKernel.{params, kernel, p_at, q_at, pair_stored, statement_made, made, groups_made}
-use Rattle.vg_trial.proofs.Scripts.{Item, plain, written, past, past_all, words_of, words_in, word, end_all, before, before-append, white-words, items-words, script_of-words}
+use Rattle.vg_trial.proofs.Scripts.{Item, plain, past, past_all, words_of, words_in, word, end_all, before, before-append, white-words, items-words, script_of-words}
 use Rattle.vg_trial.proofs.Lines.{names, IsLine, sum_is_line, products_are_line, clamped_is_line, average_is_line, low_pair_is_line, high_pair_is_line}
 
 -- one of two lines

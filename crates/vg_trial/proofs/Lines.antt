@@ -1,11 +1,9 @@
 -- The lines of a trial's kernel by their items, and what each of them spells.
-use Rattle.std.proofs.Common.{lit<, ◌≡◌, ℕ, zero, suc, ◌+◌, ◌-◌, ◌*◌, ◌^◌, ◌<◌, ◌≤◌, max, Bool, true, false, ◌&&◌, ◌==◌, List, [], ◌∷◌, ◌++◌, length, Option, Some, None, pos, inl, inr, refl, sym, ◌∙◌, ap, subst, arith, append_assoc, append-nil, length-append}
+use Rattle.std.proofs.Common.{lit<, ◌≡◌, ℕ, zero, suc, ◌+◌, ◌-◌, ◌^◌, ◌<◌, ◌≤◌, max, true, false, ◌==◌, List, [], ◌∷◌, ◌++◌, length, Some, pos, inl, refl, ◌∙◌, ap, arith, append_assoc, length-append}
 use Rattle.std.specs.Prelude.{codes, IsTrue}
-use Rattle.std.specs.Fmt.{decimal}
 use Rattle.std.specs.List.{list_all}
 use Rattle.std.proofs.lemmas.Bool.{ne_eqb, leb-true, and_parts, and_from, lt-ltb, cond-true, cond-false, eq-eqb}
 use Rattle.std.proofs.lemmas.Fmt.{length-decimal-le}
-use Rattle.vg_base.specs.declared.address.Address.{Address}
 use Rattle.vg_base.specs.declared.width.Width.{Width}
 use Rattle.vg_base.specs.declared.width.Width.TheVariants.{W8, W16, W32}
 use Rattle.vg_base.specs.Width.{bits_of}
@@ -18,18 +16,18 @@ use Rattle.vg_scalar.specs.declared.resize.Resize.TheVariants.{Sext, Zext, Trunc
 use Rattle.vg_text.specs.declared.place.Place.{Place}
 use Rattle.vg_text.specs.Byte.{is_digit}
 use Rattle.vg_text.specs.Number.{value_from, decimal_value}
-use Rattle.vg_text.specs.Place.{place_behind, place_after}
+use Rattle.vg_text.specs.Place.{place_after}
 use Rattle.vg_text.specs.Token.{front_of}
 use Rattle.vg_text.proofs.Printed.{decimal_value-decimal}
 use Rattle.vg_kernel.specs.declared.function.Function.{Function}
 use Rattle.vg_kernel.specs.declared.function.Function.TheVariants as functions
 use Rattle.vg_kernel.specs.declared.given.Given.TheVariants as given
-use Rattle.vg_kernel.specs.Grammar.{IsDistance, SpellsAddress, IsLiteral, IsExpression, number, negative, read, pair, moved, resized, tighter, joined, IsStatement}
+use Rattle.vg_kernel.specs.Grammar.{SpellsAddress, IsExpression, number, negative, read, pair, moved, resized, tighter, joined, IsStatement}
 use Rattle.vg_kernel.specs.Names.{Names, parameter_named, given_as, names_of}
 use Rattle.vg_kernel.specs.Nodes.{width_in, pair_node, resize_node}
 use Rattle.vg_kernel.specs.Script.{Words}
 use Rattle.vg_kernel.specs.Tree.{Expression, Statement, literal, load, two, shift, resize, store}
-use Rattle.vg_kernel.specs.Words.{sized, level_of, operator_named, plain_named, function_named, is_reserved, is_free, adjoins, offset_of, literal_of}
+use Rattle.vg_kernel.specs.Words.{sized, level_of, operator_named, plain_named, function_named, is_reserved, is_free, adjoins, literal_of}
 use Rattle.vg_trial.specs.TrialKernel.{params, d_at, p_at, q_at, product, sum_stored, pair_stored, products_stored, clamped_stored, average_stored}
 use Rattle.vg_trial.specs.Trial.{line_text, sum_line, pair_line, product_line, clamped_line, average_line}
 use Rattle.vg_trial.proofs.Scripts.{Item, plain, number as digits, gap_of, bytes_of, written, past, past_all, words_of, words_in, word, end_all, AreSmall, before, white-words, items-words}

@@ -1,22 +1,21 @@
 -- The words of a text that is written item by item: white space, and a word of plain bytes or a number in decimal digits.
 -- A text is cut into words from left to right, with no look at what stood before, so what is known of a piece of a text
 -- holds of it wherever it stands.
-use Rattle.std.proofs.Common.{◌≡◌, ℕ, zero, suc, ◌+◌, ◌-◌, ◌^◌, ◌<◌, ◌≤◌, Bool, true, false, not, ◌&&◌, ◌==◌, nat_lt, if◌then◌else◌, List, [], ◌∷◌, ◌++◌, length, take, drop, slice_index, Option, Some, None, refl, sym, ◌∙◌, ap, subst, arith, append_assoc, append-nil, length-append}
+use Rattle.std.proofs.Common.{◌≡◌, ℕ, zero, suc, ◌+◌, ◌-◌, ◌^◌, ◌<◌, ◌≤◌, Bool, true, false, not, ◌&&◌, ◌==◌, nat_lt, if◌then◌else◌, List, [], ◌∷◌, ◌++◌, length, take, drop, slice_index, Option, Some, None, refl, sym, ◌∙◌, ap, arith, append_assoc}
 use Rattle.std.specs.Fmt.{decimal}
 use Rattle.std.specs.List.{list_all, prefix_len}
 use Rattle.std.specs.Option.{option_map}
-use Rattle.std.proofs.lemmas.Bool.{and_parts, and_from, and_left, and_right, or_from, ne_eqb, eqb-true, leb-true, ltb-true, lt-leb, le-leb, lt-ltb, cond-true, cond-false, not_from_true, eq-eqb}
+use Rattle.std.proofs.lemmas.Bool.{and_parts, and_left, and_right, or_from, ne_eqb, eqb-true, leb-true, lt-leb, lt-ltb, cond-true, cond-false, not_from_true, eq-eqb}
 use Rattle.std.proofs.lemmas.List.{take_at, drop-drop}
 use Rattle.vg_text.specs.declared.place.Place.{Place}
-use Rattle.vg_text.specs.declared.token.TokenKind.{TokenKind}
 use Rattle.vg_text.specs.declared.token.TokenKind.TheVariants.{Number}
 use Rattle.vg_text.specs.declared.front.Front.{Front}
 use Rattle.vg_text.specs.declared.front.Front.TheVariants.{Gap, Lexeme, Bad}
-use Rattle.vg_text.specs.Byte.{is_white, is_digit, is_letter, is_hex_digit}
+use Rattle.vg_text.specs.Byte.{is_white, is_digit, is_letter}
 use Rattle.vg_text.specs.Number.{value_in, decimal_value, is_decimal}
 use Rattle.vg_text.specs.Place.{first_place, end_place, place_behind, place_after}
-use Rattle.vg_text.specs.Token.{Lexemes, token, finish, fault, from_front, front_of, lex, opens_comment, opens_hexadecimal, comment_front, name_front, number_front, hexadecimal_front, decimal_front, sign_front}
-use Rattle.vg_text.specs.Words.{Spelled, spelled}
+use Rattle.vg_text.specs.Token.{Lexemes, from_front, front_of, lex, opens_comment, opens_hexadecimal}
+use Rattle.vg_text.specs.Words.{Spelled}
 use Rattle.vg_text.proofs.Printed.{decimal_value-decimal}
 use Rattle.vg_kernel.specs.Script.{Words, script_from, script_of}
 
