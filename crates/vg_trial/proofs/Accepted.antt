@@ -1,5 +1,5 @@
 -- The text of a trial's kernel is in the language of kernels, and spells the trial's kernel.
-use Rattle.std.proofs.Common.{◌≡◌, ℕ, zero, suc, ◌+◌, ◌-◌, ◌*◌, ◌<◌, ◌≤◌, Bool, true, false, List, [], ◌∷◌, ◌++◌, length, Option, Some, None, refl, sym, ◌∙◌, ap, arith, append_assoc, append-nil, length-append}
+use Rattle.std.proofs.Common.{◌≡◌, ℕ, zero, suc, ◌+◌, ◌-◌, ◌*◌, ◌<◌, ◌≤◌, Bool, true, false, List, [], ◌∷◌, ◌++◌, length, Some, refl, sym, ◌∙◌, ap, arith, append_assoc, append-nil, length-append}
 use Rattle.std.specs.Prelude.{codes, IsTrue, nat_lt, sum_by, if◌then◌else◌}
 use Rattle.std.specs.List.{IsDistinct}
 use Rattle.std.proofs.lemmas.List.Sums.{sum_by-append}
@@ -16,13 +16,8 @@ use Rattle.vg_trial.specs.declared.shape.Shape.{Shape}
 use Rattle.vg_trial.specs.declared.shape.Shape.TheVariants.{Sums, Products, Clamped, Averages, Pairs}
 use Rattle.vg_trial.specs.Trial.{groups, shape_of, statements_in, line_text, pair_line, statement, statements, groups_text, kernel_text}
 use Rattle.vg_trial.specs.TrialKernel.{params, kernel, p_at, q_at, pair_stored, statement_made, made, groups_made}
-use Rattle.vg_trial.proofs.Scripts.{Item, plain, past, past_all, words_of, words_in, word, end_all, before, before-append, white-words, items-words, script_of-words}
+use Rattle.vg_trial.proofs.Scripts.{Item, plain, past, past_all, words_of, words_in, word, end_all, before, before-none, before-append, white-words, items-words, script_of-words}
 use Rattle.vg_trial.proofs.Lines.{names, IsLine, sum_is_line, products_are_line, clamped_is_line, average_is_line, low_pair_is_line, high_pair_is_line}
-
--- one of two lines
-one_line_of : (t : Bool) (x y : List ℕ) (s r : Statement) → IsLine x s → IsLine y r → IsLine (if t then x else y) (if t then s else r)
-one_line_of true x y s r left right = left
-one_line_of false x y s r left right = right
 
 -- two dwords that stand beside each other
 pairs_are_line : (t : Bool) (to from from' : ℕ) → to < 10000 → from + 4 < 10000 → from' + 4 < 10000
@@ -44,33 +39,32 @@ AreStores : Words → List Statement → Type 0
 AreStores words [] = words ≡ []
 AreStores words (s ∷ ss) = (front rest : Words) × IsStatement names front s names × AreStores rest ss × (words ≡ front ++ rest)
 
+-- statements behind statements
 stores-append : (ws vs : Words) (ss rs : List Statement) → AreStores ws ss → AreStores vs rs → AreStores (ws ++ vs) (ss ++ rs)
 unfolding AreStores
 stores-append ws vs [] rs none more = rw none more
 stores-append ws vs (s ∷ ss) rs (front, rest, is, behind, whole) more =
     (front, rest ++ vs, is, stores-append rest vs ss rs behind more, ap (λ (t : Words). t ++ vs) whole ∙ append_assoc front rest vs)
 
+-- they are statements of a kernel
 stores-statements : (ws : Words) (ss : List Statement) → AreStores ws ss → AreStatements names ws ss
 unfolding AreStores
 stores-statements ws [] none = none
 stores-statements ws (s ∷ ss) (front, rest, is, behind, whole) = (front, rest, names, is, stores-statements rest ss behind, whole)
 
--- statements that stand in lines of their own
+-- a text of lines, with the statements that they spell, wherever it stands
 record AreLines (text : List ℕ) (ss : List Statement) : Type 0 where
   size : length text ≤ 240 * length ss
   spells : (p : Place) (rest : List ℕ) → (ws : Words) × (q : Place) × (words_in 0 p (text ++ rest) ≡ before ws (words_in 0 q rest)) × AreStores ws ss
 
-before-none : (o : Option Words) → o ≡ before [] o
-before-none None = refl
-before-none (Some ws) = refl
-
+-- no line, one line, and lines behind lines
 no_lines : AreLines [] []
 unfolding AreStores
 no_lines = record { size = omega arith; spells = λ p rest. ([], p, before-none (words_in 0 p rest), refl) }
 
-one_line : (text : List ℕ) (s : Statement) → IsLine text s → AreLines text (s ∷ [])
+line_alone : (text : List ℕ) (s : Statement) → IsLine text s → AreLines text (s ∷ [])
 unfolding AreStores
-one_line text s line = record {
+line_alone text s line = record {
   size = omega (arith, line.size);
   spells = λ p rest. let (ws, q, read, is) = line.spells p rest in (ws, q, read, (ws, [], is, refl, sym (append-nil ws)));
 }
@@ -84,12 +78,13 @@ lines-append xs ys ss rs first second = record {
       (ws ++ vs, q', ap (words_in 0 p) (append_assoc xs ys rest) ∙ read ∙ ap (before ws) read' ∙ before-append ws vs (words_in 0 q' rest), stores-append ws vs ss rs are are');
 }
 
+-- the statements of a group
 statements_are_lines : (s : Shape) (k i : ℕ) → k < 40 → i ≤ 16 → AreLines (statements s k i) (made s k i)
 unfolding statements made
 statements_are_lines s k zero few less = no_lines
 statements_are_lines s k (suc i) few less =
     lines-append (statements s k i) (line_text (statement s k i)) (made s k i) (statement_made s k i ∷ []) (statements_are_lines s k i few (omega arith))
-    (one_line (line_text (statement s k i)) (statement_made s k i) (statement_is_line s k i few (omega arith)))
+    (line_alone (line_text (statement s k i)) (statement_made s k i) (statement_is_line s k i few (omega arith)))
 
 few_statements : (s : Shape) → statements_in s ≤ 16
 few_statements Sums = omega arith
@@ -98,6 +93,7 @@ few_statements Clamped = omega arith
 few_statements Averages = omega arith
 few_statements Pairs = omega arith
 
+-- the statements of groups
 groups_are_lines : (n k : ℕ) → k ≤ 40 → AreLines (groups_text n k) (groups_made n k)
 unfolding groups_text groups_made
 groups_are_lines n zero few = no_lines
@@ -136,6 +132,7 @@ made-counts s k (suc i) =
       sum_by-append uses_of (made s k i) (statement_made s k i ∷ []) ∙ rw (more.1, statement-uses s k i) (grind arith),
     )
 
+-- a group has at most 16 statements, and 128 loads and operations
 group-counts : (s : Shape) (k : ℕ) → (length (made s k (statements_in s)) ≤ 16) × (sum_by uses_of (made s k (statements_in s)) ≤ 128)
 unfolding uses_in
 group-counts Sums k = let c = made-counts Sums k 4 in (omega (arith, c.0), omega (arith, c.1))
@@ -144,6 +141,7 @@ group-counts Clamped k = let c = made-counts Clamped k 8 in (omega (arith, c.0),
 group-counts Averages k = let c = made-counts Averages k 16 in (omega (arith, c.0), omega (arith, c.1))
 group-counts Pairs k = let c = made-counts Pairs k 4 in (omega (arith, c.0), omega (arith, c.1))
 
+-- so many times as much in groups
 groups-counts : (n k : ℕ) → (length (groups_made n k) ≤ 16 * k) × (sum_by uses_of (groups_made n k) ≤ 128 * k)
 unfolding groups_made
 groups-counts n zero = (omega arith, omega arith)
@@ -182,6 +180,7 @@ spell_apart p =
 abbrev parameters_items : List Item
 parameters_items = apart_items ++ (plain [] (codes ",") ∷ (pointer_items (codes " ") (codes "p") ++ (plain [] (codes ",") ∷ pointer_items (codes " ") (codes "q"))))
 
+-- `d: noalias ptr, p: ptr, q: ptr`
 spell_parameters : (p : Place) → AreParameters (words_of p parameters_items) params
 unfolding is_reserved plain_named
 spell_parameters p =
@@ -212,6 +211,7 @@ front_items =
     plain [] (codes "kernel") ∷ plain (codes " ") (codes "trial") ∷ plain [] (codes "(")
     ∷ (parameters_items ++ plain [] (codes ")") ∷ plain (codes " ") (codes "{") ∷ [])
 
+-- each of them ends where its bytes end
 front_ends : (rest : List ℕ) → end_all front_items (codes "\n" ++ rest) ≡ true
 unfolding end_all front_of
 front_ends rest = refl

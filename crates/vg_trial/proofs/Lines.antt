@@ -1,6 +1,7 @@
 -- The lines of a trial's kernel by their items, and what each of them spells.
 use Rattle.std.proofs.Common.{lit<, ◌≡◌, ℕ, zero, suc, ◌+◌, ◌-◌, ◌^◌, ◌<◌, ◌≤◌, max, true, false, ◌==◌, List, [], ◌∷◌, ◌++◌, length, Some, pos, inl, refl, ◌∙◌, ap, arith, append_assoc, length-append}
 use Rattle.std.specs.Prelude.{codes, IsTrue}
+use Rattle.std.specs.Fmt.{decimal}
 use Rattle.std.specs.List.{list_all}
 use Rattle.std.proofs.lemmas.Bool.{ne_eqb, leb-true, and_parts, and_from, lt-ltb, cond-true, cond-false, eq-eqb}
 use Rattle.std.proofs.lemmas.Fmt.{length-decimal-le}
@@ -52,6 +53,14 @@ pair_items gap f xs ys = plain gap f ∷ plain [] (codes "(") ∷ (xs ++ plain [
 abbrev joined_items : List Item → List ℕ → List Item → List Item
 joined_items xs sign ys = xs ++ plain (codes " ") sign ∷ ys
 
+-- the items of `f(x, amount)`, with a gap in front
+abbrev shift_items : List ℕ → List ℕ → List Item → List ℕ → List Item
+shift_items gap f xs amount = plain gap f ∷ plain [] (codes "(") ∷ (xs ++ plain [] (codes ",") ∷ plain (codes " ") amount ∷ plain [] (codes ")") ∷ [])
+
+-- the items of a literal, with a gap in front
+abbrev literal_items : List ℕ → List ℕ → List ℕ → List Item
+literal_items gap bytes type = plain gap bytes ∷ plain [] type ∷ []
+
 -- the items of a load, with a gap in front
 abbrev load_items : List ℕ → Width → List ℕ → ℕ → List Item
 load_items gap w pointer n = call_items gap (sized (codes "load") w) (address_items pointer n)
@@ -62,7 +71,7 @@ store_items w to xs =
     plain [] (sized (codes "store") w) ∷ plain [] (codes "(")
     ∷ (address_items (codes "d") to ++ plain [] (codes ",") ∷ (xs ++ plain [] (codes ")") ∷ plain [] (codes ";") ∷ []))
 
--- the place of the words behind items
+-- the words of items and of those behind them
 words_of-append : (p : Place) (xs ys : List Item) → words_of p (xs ++ ys) ≡ words_of p xs ++ words_of (past_all p xs) ys
 words_of-append p [] ys = refl
 words_of-append p (x ∷ xs) ys = ap (λ (ws : Words). word (bytes_of x) (place_after p (gap_of x)) ∷ ws) (words_of-append (past p x) xs ys)
@@ -87,28 +96,28 @@ q_named : IsNamed (codes "q") 2
 unfolding is_reserved plain_named parameter_named
 q_named = (refl, refl)
 
--- an address
+-- `p + n` spells an address
 spells_address : (p : Place) (pointer : List ℕ) (k n : ℕ) → IsNamed pointer k → n < 10000 → SpellsAddress names (words_of p (address_items pointer n)) (record { pointer = k; offset = pos n })
 spells_address p pointer k n named small = (named, inl (refl, (n, decimal_value-decimal n (omega arith), cond-true _ _ _ (lt-ltb n (2 ^ 31) (omega arith)))))
 
--- a load
+-- a load from `p + n`
 spell_load : (gap : List ℕ) (w : Width) (pointer : List ℕ) (k n : ℕ) → IsNamed pointer k → n < 10000 → Spell (load_items gap w pointer n) 0 1 (load w (record { pointer = k; offset = pos n }))
 spell_load gap w pointer k n named small p =
     let inside = past_all p (plain gap (sized (codes "load") w) ∷ plain [] (codes "(") ∷ []) in
     read _ _ _ (words_of inside (address_items pointer n)) w (record { pointer = k; offset = pos n }) refl refl (spells_address inside pointer k n named small) refl
 
--- looser than a call
+-- what spells an expression with no operator outside of calls spells it at each level
 looser : (level d : ℕ) (xs : List Item) (e : Expression) → Spell xs 0 d e → Spell xs level d e
 looser zero d xs e is p = is p
 looser (suc level) d xs e is p = tighter level d (words_of p xs) e (looser level d xs e is p)
 
--- looser than a sum
+-- what spells a sum spells a whole expression
 whole_sum : (d : ℕ) (xs : List Item) (e : Expression) → Spell xs 2 d e → Spell xs 5 d e
 whole_sum d xs e is p =
     let ws = words_of p xs in
     tighter 4 d ws e (tighter 3 d ws e (tighter 2 d ws e (is p)))
 
--- two operands with an operator between them
+-- two operands and the operator between them
 spell_joined : (op : TwoOp) (sign : List ℕ) (level d d' : ℕ) (xs ys : List Item) (x y e : Expression) → operator_named sign ≡ Some op → level_of op ≡ suc level → pair_node (functions.Two op) x y ≡ Some e
     → Spell xs (suc level) d x → Spell ys level d' y → Spell (joined_items xs sign ys) (suc level) (max d d' + 1) e
 spell_joined op sign level d d' xs ys x y e named high node left right p =
@@ -116,7 +125,7 @@ spell_joined op sign level d d' xs ys x y e named high node left right p =
     rw (words_of-append p xs (plain (codes " ") sign ∷ ys))
     (joined op _ level d d' (words_of p xs) (words_of (past between (plain (codes " ") sign)) ys) x y e (left p) named high (right (past between (plain (codes " ") sign))) node)
 
--- the least or the greatest of two
+-- a function of two
 spell_pair : (gap name : List ℕ) (f : Function) (d d' : ℕ) (xs ys : List Item) (x y e : Expression) → function_named name ≡ Some f → pair_node f x y ≡ Some e
     → Spell xs 5 d x → Spell ys 5 d' y → Spell (pair_items gap name xs ys) 0 (max d d' + 1) e
 spell_pair gap name f d d' xs ys x y e named node left right p =
@@ -133,10 +142,6 @@ spell_resized gap name op to d xs x e named node inside p =
     rw (words_of-append first xs (plain [] (codes ")") ∷ []))
     (resized op to _ _ _ d (words_of first xs) x e named refl (inside first) refl node)
 
--- the items of `f(x, amount)`, with a gap in front
-abbrev shift_items : List ℕ → List ℕ → List Item → List ℕ → List Item
-shift_items gap f xs amount = plain gap f ∷ plain [] (codes "(") ∷ (xs ++ plain [] (codes ",") ∷ plain (codes " ") amount ∷ plain [] (codes ")") ∷ [])
-
 -- a shift
 spell_shift : (gap name amount : List ℕ) (op : Shift) (w : Width) (d k : ℕ) (xs : List Item) (x : Expression) → function_named name ≡ Some (functions.Shift op) → decimal_value amount ≡ Some k → k < bits_of w → width_in x ≡ Some w
     → Spell xs 5 d x → Spell (shift_items gap name xs amount) 0 (d + 1) (shift op w k x)
@@ -145,7 +150,7 @@ spell_shift gap name amount op w d k xs x named value few width inside p =
     rw (words_of-append first xs (plain [] (codes ",") ∷ plain (codes " ") amount ∷ plain [] (codes ")") ∷ []))
     (moved op _ _ _ _ _ d k (words_of first xs) x w named refl (inside first) refl value few refl width)
 
--- digits stand in one line
+-- the place behind digits is in their line
 one_line : (p : Place) (ds : List ℕ) → list_all is_digit ds ≡ true → ((place_after p ds).line ≡ p.line) × ((place_after p ds).column ≡ p.column + length ds)
 unfolding place_after
 one_line p [] all = (refl, omega arith)
@@ -156,14 +161,10 @@ one_line p (d ∷ ds) all =
     let step = ap (λ (q : Place). place_after q ds) (cond-false (d == 10) (record { line = p.line + 1; column = 1 }) (record { line = p.line; column = p.column + 1 }) other) in
     (ap (λ (q : Place). q.line) step ∙ more.0, ap (λ (q : Place). q.column) step ∙ more.1 ∙ omega arith)
 
--- a type right behind digits
+-- a type with no gap in front adjoins the digits before it
 adjoined : (p : Place) (bytes type : List ℕ) → list_all is_digit bytes ≡ true → adjoins (word bytes p) (word type (place_after (place_after p bytes) [])) ≡ true
 unfolding place_after
 adjoined p bytes type all = let at = one_line p bytes all in and_from _ _ (eq-eqb _ _ at.0) (eq-eqb _ _ at.1)
-
--- the items of a literal, with a gap in front
-abbrev literal_items : List ℕ → List ℕ → List ℕ → List Item
-literal_items gap bytes type = plain gap bytes ∷ plain [] type ∷ []
 
 -- a literal
 spell_literal : (gap bytes : List ℕ) (w : Width) (m n : ℕ) → list_all is_digit bytes ≡ true → decimal_value bytes ≡ Some m → literal_of false w m ≡ Some n
@@ -203,7 +204,7 @@ spell_product : (d d' : ℕ) (xs ys : List Item) (x y e : Expression) → pair_n
 unfolding operator_named
 spell_product d d' xs ys x y e node left right = spell_joined Mul (codes "*") 0 d d' xs ys x y e refl refl node left right
 
--- a statement that stands in a line of its own
+-- a text that spells a statement, wherever it stands, and ends it
 pub record IsLine (text : List ℕ) (s : Statement) : Type 0 where
   pub size : length text ≤ 240
   pub spells : (p : Place) (rest : List ℕ) → (ws : Words) × (q : Place) × (words_in 0 p (text ++ rest) ≡ before ws (words_in 0 q rest)) × IsStatement names ws s names
@@ -221,7 +222,7 @@ line_of text is s size same ended small spelled = record {
   );
 }
 
--- a sum of loads
+-- the sum of two dwords, each at a pointer
 abbrev loads_items : List ℕ → List ℕ → ℕ → ℕ → List Item
 loads_items low high from from' = joined_items (load_items (codes " ") W32 low from) (codes "+") (load_items (codes " ") W32 high from')
 
@@ -235,12 +236,16 @@ spell_loads low high k k' from from' named named' small small' =
     whole_sum 2 (joined_items left (codes "+") right) (two Add W32 x y)
     (spell_sum 1 1 left right x y (two Add W32 x y) refl (looser 2 1 left x (spell_load (codes " ") W32 low k from named small)) (looser 1 1 right y (spell_load (codes " ") W32 high k' from' named' small')))
 
+-- a small number has at most four digits
+few_digits : (n : ℕ) → n < 10000 → length (decimal n) ≤ 4
+few_digits n small = length-decimal-le 4 n (lit< tt) small (omega arith)
+
 -- the sum of two dwords
 pub sum_is_line : (to from : ℕ) → to < 10000 → from < 10000 → IsLine (line_text (sum_line to from)) (sum_stored to from)
 unfolding line_text end_all front_of
 sum_is_line to from small few =
-    let a = length-decimal-le 4 to (lit< tt) small (omega arith) in
-    let b = length-decimal-le 4 from (lit< tt) few (omega arith) in
+    let a = few_digits to small in
+    let b = few_digits from few in
     let sum = loads_items (codes "p") (codes "q") from from in
     line_of _ (store_items W32 to sum) (sum_stored to from) (simp length-append (omega arith)) (λ rest. simp append_assoc) (λ rest. refl) (assumption)
     (λ p. spell_store W32 to 2 sum _ p small (omega arith) refl (spell_loads (codes "p") (codes "q") 1 2 from from p_named q_named few few))
@@ -250,9 +255,9 @@ pub low_pair_is_line : (to from : ℕ) → to < 10000 → from + 4 < 10000 → I
 unfolding line_text end_all front_of
 low_pair_is_line to from small few =
     let less : from < 10000 = omega arith in
-    let a = length-decimal-le 4 to (lit< tt) small (omega arith) in
-    let b = length-decimal-le 4 from (lit< tt) less (omega arith) in
-    let c = length-decimal-le 4 (from + 4) (lit< tt) few (omega arith) in
+    let a = few_digits to small in
+    let b = few_digits from less in
+    let c = few_digits (from + 4) few in
     let sum = loads_items (codes "p") (codes "p") from (from + 4) in
     line_of _ (store_items W32 to sum) (pair_stored to (p_at from) (p_at (from + 4))) (simp length-append (omega arith)) (λ rest. simp append_assoc) (λ rest. refl) (assumption)
     (λ p. spell_store W32 to 2 sum _ p small (omega arith) refl (spell_loads (codes "p") (codes "p") 1 1 from (from + 4) p_named p_named less few))
@@ -262,9 +267,9 @@ pub high_pair_is_line : (to from : ℕ) → to < 10000 → from + 4 < 10000 → 
 unfolding line_text end_all front_of
 high_pair_is_line to from small few =
     let less : from < 10000 = omega arith in
-    let a = length-decimal-le 4 to (lit< tt) small (omega arith) in
-    let b = length-decimal-le 4 from (lit< tt) less (omega arith) in
-    let c = length-decimal-le 4 (from + 4) (lit< tt) few (omega arith) in
+    let a = few_digits to small in
+    let b = few_digits from less in
+    let c = few_digits (from + 4) few in
     let sum = loads_items (codes "q") (codes "q") from (from + 4) in
     line_of _ (store_items W32 to sum) (pair_stored to (q_at from) (q_at (from + 4))) (simp length-append (omega arith)) (λ rest. simp append_assoc) (λ rest. refl) (assumption)
     (λ p. spell_store W32 to 2 sum _ p small (omega arith) refl (spell_loads (codes "q") (codes "q") 2 2 from (from + 4) q_named q_named less few))
@@ -297,9 +302,9 @@ pub products_are_line : (to from : ℕ) → to < 10000 → from + 2 < 10000 → 
 unfolding line_text end_all front_of
 products_are_line to from small few =
     let less : from < 10000 = omega arith in
-    let a = length-decimal-le 4 to (lit< tt) small (omega arith) in
-    let b = length-decimal-le 4 from (lit< tt) less (omega arith) in
-    let c = length-decimal-le 4 (from + 2) (lit< tt) few (omega arith) in
+    let a = few_digits to small in
+    let b = few_digits from less in
+    let c = few_digits (from + 2) few in
     let left = product_items from in
     let right = product_items (from + 2) in
     let sum = joined_items left (codes "+") right in
@@ -341,8 +346,8 @@ spell_clamped from small =
 pub clamped_is_line : (to from : ℕ) → to < 10000 → from < 10000 → IsLine (line_text (clamped_line to from)) (clamped_stored to from)
 unfolding line_text end_all front_of value_from
 clamped_is_line to from small few =
-    let a = length-decimal-le 4 to (lit< tt) small (omega arith) in
-    let b = length-decimal-le 4 from (lit< tt) few (omega arith) in
+    let a = few_digits to small in
+    let b = few_digits from few in
     line_of _ (store_items W16 to (clamped_items from)) (clamped_stored to from) (simp length-append (omega arith)) (λ rest. simp append_assoc) (λ rest. refl) (assumption)
     (λ p. spell_store W16 to 4 (clamped_items from) _ p small (omega arith) refl (looser 5 4 (clamped_items from) _ (spell_clamped from few)))
 
@@ -357,7 +362,7 @@ spell_byte gap pointer k from named small =
     let xs = load_items [] W8 pointer from in
     spell_resized gap (codes "zext16") Zext W16 1 xs x (resize Zext W16 W8 x) refl refl (looser 5 1 xs x (spell_load [] W8 pointer k from named small))
 
--- two bytes and one
+-- the sum of the bytes at p and q and one
 abbrev bytes_items : ℕ → List Item
 bytes_items from = joined_items (joined_items (byte_items [] (codes "p") from) (codes "+") (byte_items (codes " ") (codes "q") from)) (codes "+") (literal_items (codes " ") (codes "1") (codes "i16"))
 
@@ -394,7 +399,7 @@ spell_average from small =
 pub average_is_line : (to from : ℕ) → to < 10000 → from < 10000 → IsLine (line_text (average_line to from)) (average_stored to from)
 unfolding line_text end_all front_of value_from
 average_is_line to from small few =
-    let a = length-decimal-le 4 to (lit< tt) small (omega arith) in
-    let b = length-decimal-le 4 from (lit< tt) few (omega arith) in
+    let a = few_digits to small in
+    let b = few_digits from few in
     line_of _ (store_items W8 to (average_items from)) (average_stored to from) (simp length-append (omega arith)) (λ rest. simp append_assoc) (λ rest. refl) (assumption)
     (λ p. spell_store W8 to 6 (average_items from) _ p small (omega arith) refl (looser 5 6 (average_items from) _ (spell_average from few)))

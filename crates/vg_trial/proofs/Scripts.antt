@@ -243,6 +243,10 @@ item-words p (number gap n) text h small =
 abbrev pub before : Words → Option Words → Option Words
 before ws more = option_map (λ behind. ws ++ behind) more
 
+pub before-none : (o : Option Words) → o ≡ before [] o
+before-none None = refl
+before-none (Some ws) = refl
+
 pub before-append : (ws vs : Words) (more : Option Words) → before ws (before vs more) ≡ before (ws ++ vs) more
 before-append ws vs None = refl
 before-append ws vs (Some more) = ap Some (sym (append_assoc ws vs more))
@@ -250,11 +254,7 @@ before-append ws vs (Some more) = ap Some (sym (append_assoc ws vs more))
 -- the words of items, before those of the text behind them
 pub items-words : (p : Place) (is : List Item) (text : List ℕ) → end_all is text ≡ true → AreSmall is → words_in 0 p (written is text) ≡ before (words_of p is) (words_in 0 (past_all p is) text)
 unfolding end_all
-items-words p [] text h small = none (words_in 0 p text)
-  where
-    none : (o : Option Words) → o ≡ before [] o
-    none None = refl
-    none (Some ws) = refl
+items-words p [] text h small = before-none (words_in 0 p text)
 items-words p (i ∷ is) text h small =
     let both = and_parts (ends i (written is text)) (end_all is text) h in
     item-words p i (written is text) both.0 small.0
