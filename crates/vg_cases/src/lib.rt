@@ -8,6 +8,8 @@ mod desk;
 #[cfg(test)]
 mod eval_cases;
 #[cfg(test)]
+mod hostile_cases;
+#[cfg(test)]
 mod instruction_files;
 #[cfg(test)]
 mod memories;
@@ -17,3 +19,5 @@ mod option_cases;
 mod outside_cases;
 #[cfg(test)]
 mod run_cases;
+#[cfg(test)]
+mod trial_cases;
