@@ -30,9 +30,9 @@ trial_text number statements scalar cost sum =
     ++ (codes " sum " ++ decimal sum) ++ codes "\n"
 
 -- The line on the trial of number n: the statements and the scalar cost of the kernel that its text
--- spells, the cost of a program compiled for it with all extensions, and the sum of the bytes that both
--- leave of the trial's memory. The program costs at most what the kernel does, and exactly what the
--- chosen plan costs.
+-- spells, the cost of a program compiled for it with all extensions, and the sum of the bytes that
+-- both leave of the trial's memory. The program costs at most what the kernel does, and exactly what
+-- the chosen plan costs.
 pub record IsTrialLine (entries : List Entry) (n : ℕ) (text : List ℕ) : Type 0 where
   pub kernel : Tree
   pub spelled : kernel_of (kernel_text n) ≡ Ok kernel
@@ -40,6 +40,7 @@ pub record IsTrialLine (entries : List Entry) (n : ℕ) (text : List ℕ) : Type
   pub compiled : IsCompiled entries all_extensions kernel width program
   pub left : List ℕ
   pub by_kernel : of_kernels.meaning kernel (memory n) (places n) [] ≡ Some left
-  pub by_program : of_programs.meaning (called_by entries) program (memory n) (places n) [] ≡ Some left
+  pub by_program :
+      of_programs.meaning (called_by entries) program (memory n) (places n) [] ≡ Some left
   pub line : text ≡ trial_text n (length kernel.statements) (scalar_cost kernel)
       (cost_of program) (sum left % 2 ^ 32)

@@ -1,5 +1,5 @@
-//! The line on the trial of a number: what its kernel and the program compiled for it cost, and the sum
-//! of the bytes that are left.
+//! The line on the trial of a number: what its kernel and the program compiled for it cost, and the
+//! sum of the bytes that are left.
 //!
 //! [`trial_line`] makes it, and `specs/TrialLine.antt` says what it tells.
 #![tactic(auto)]

@@ -28,11 +28,12 @@ fn all_extensions() -> Extensions
     Extensions::from_bits_retain(1023)
 }
 
-/// The line on the trial of a number: how many statements its kernel has, what the kernel costs and what
-/// the program costs that is compiled for it with all entries, and the sum of the bytes that are left.
+/// The line on the trial of a number: how many statements its kernel has, what the kernel costs and
+/// what the program costs that is compiled for it with all entries, and the sum of the bytes that
+/// are left.
 ///
-/// The kernel and the program are run, each on a memory of its own, and leave the same bytes. `Err` for
-/// want of memory alone.
+/// The kernel and the program are run, each on a memory of its own, and leave the same bytes. `Err`
+/// for want of memory alone.
 pub fn trial_line(alloc: Global, catalog: &Catalog, number: u32) -> Result<Vec<u8>, AllocError>
     requires written { AllWritten (entries_in catalog.now) }
     requires lanes { HaveLanes (entries_in catalog.now) }

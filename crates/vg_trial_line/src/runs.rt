@@ -55,7 +55,8 @@ pub(crate) fn left_by_program(
 ) -> Result<Vec<u8>, AllocError>
     requires written { AllWritten (entries_in catalog.now) }
     requires rules { KeepsRules (headers_of (entries_in catalog.now)) program.now }
-    requires means { Means (called_by (entries_in catalog.now)) program.now (kernel_of_trial number) }
+    requires means { Means (called_by (entries_in catalog.now)) program.now
+        (kernel_of_trial number) }
     ensures by_kernel { IfOk result (λ left.
         meaning (kernel_of_trial number) (memory number) (places number) [] ≡ Some left.items) }
     ensures by_program { IfOk result (λ left.
