@@ -1,0 +1,7 @@
+mod Agreeing
+mod Calling
+mod Exact
+mod Fitting
+mod Loading
+mod Producing
+mod Rising
