@@ -3,5 +3,8 @@ mod Calling
 mod Exact
 mod Fitting
 mod Loading
+mod Planning
 mod Producing
 mod Rising
+mod TwoSums
+mod Waiting

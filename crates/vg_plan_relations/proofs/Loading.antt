@@ -101,7 +101,7 @@ bytes-same n W16 = omega arith
 bytes-same n W32 = omega arith
 bytes-same n W64 = omega arith
 
-is-wide : (w : Width) → 0 < bits_of w
+pub is-wide : (w : Width) → 0 < bits_of w
 is-wide W8 = omega arith
 is-wide W16 = omega arith
 is-wide W32 = omega arith

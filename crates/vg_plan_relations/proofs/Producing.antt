@@ -113,8 +113,8 @@ module _ (ds : List Description) (matches : List Match) (ssa : Ssa) (o : Operand
 
   -- ---- the list
 
-  right : AllByRecursion IsPackable ds → AreMatches ds ssa matches → (p : Packed) → Has p (producers ds matches ssa o) → Produces ds matches ssa p o
-  right packable are p h = elim (has-append p (load_producer ssa o) (call_producers ds matches ssa o 0 ds) h) [
+  pub listed-right : AllByRecursion IsPackable ds → AreMatches ds ssa matches → (p : Packed) → Has p (producers ds matches ssa o) → Produces ds matches ssa p o
+  listed-right packable are p h = elim (has-append p (load_producer ssa o) (call_producers ds matches ssa o 0 ds) h) [
     | inl l ↦ load-right ds matches ssa o p l
     | inr r ↦
         let k = calls-from 0 ds p r in
@@ -123,11 +123,11 @@ module _ (ds : List Description) (matches : List Match) (ssa : Ssa) (o : Operand
         (subst (λ n. Has p (call_producer ds matches ssa o n k.1)) z k.3)
   ]
 
-  whole : AllByRecursion IsPackable ds → AreMatches ds ssa matches → AreRising o.slots → (p : Packed) → Produces ds matches ssa p o → Has p (producers ds matches ssa o)
-  whole packable are rise (Stores us) is = absurd is.pack
-  whole packable are rise (Loads us) is =
+  pub listed-whole : AllByRecursion IsPackable ds → AreMatches ds ssa matches → AreRising o.slots → (p : Packed) → Produces ds matches ssa p o → Has p (producers ds matches ssa o)
+  listed-whole packable are rise (Stores us) is = absurd is.pack
+  listed-whole packable are rise (Loads us) is =
       has-left (Loads us) (load_producer ssa o) (call_producers ds matches ssa o 0 ds) (load-whole ds matches ssa o us rise is)
-  whole packable are rise (Call d lanes) is =
+  listed-whole packable are rise (Call d lanes) is =
       let pack = is.pack in
       let e = pack.instance in
       let at = pack.listed in
@@ -138,7 +138,7 @@ module _ (ds : List Description) (matches : List Match) (ssa : Ssa) (o : Operand
 
 pub producers-listed : ProducersAreListed
 producers-listed ds matches ssa o packable are rise = record {
-  right = right ds matches ssa o packable are;
-  whole = whole ds matches ssa o packable are rise;
+  right = listed-right ds matches ssa o packable are;
+  whole = listed-whole ds matches ssa o packable are rise;
   once = producers-once ds matches ssa o;
 }

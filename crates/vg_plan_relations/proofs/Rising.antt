@@ -1,5 +1,5 @@
 -- Slots by rising low bit are told by their members; the lanes of a pack are such slots.
-use Rattle.std.proofs.Common.{◌≡◌, ℕ, zero, suc, ◌+◌, ◌*◌, ◌<◌, ◌≤◌, ◌⊎◌, Bool, true, false, List, [], ◌∷◌, ◌++◌, length, map, filter, refl, sym, ◌∙◌, ap, subst, inl, inr, arith}
+use Rattle.std.proofs.Common.{◌≡◌, ℕ, zero, suc, ◌+◌, ◌*◌, ◌<◌, ◌≤◌, ◌⊎◌, Bool, true, false, List, [], ◌∷◌, ◌++◌, length, map, filter, refl, sym, ◌∙◌, ap, subst, inl, inr, arith, lit<}
 use Rattle.std.specs.Prelude.{◌&&◌, not, nat_eq, Option, Some, None, slice_get}
 use Rattle.std.specs.List.{filter_map, list_all, list_any}
 use Rattle.std.proofs.lemmas.Bool.{cases_Bool}
@@ -7,9 +7,12 @@ use Rattle.std.proofs.lemmas.Bool.Decides.{nat_tests}
 use Rattle.vg_plans.specs.Members.{AllDiffer, Every, Has}
 use Rattle.vg_plans.proofs.Lists.{every-has, none-found}
 use Rattle.vg_plans.proofs.Members.{Includes, any-found}
+use Rattle.vg_shapes.specs.declared.operand.Operand.{Operand}
 use Rattle.vg_shapes.specs.declared.operand.Slot.{Slot}
+use Rattle.vg_shapes.specs.declared.ssa.Ssa.{Ssa}
 use Rattle.vg_shapes.specs.declared.wanted.Wanted.{Wanted}
 use Rattle.vg_shapes.specs.declared.wanted.Wanted.TheVariants.{Value, Constant, Nothing}
+use Rattle.vg_shapes.specs.Operands.{AreSlots, IsOperand}
 use Rattle.vg_packing.specs.Held.{lanes_from}
 use Rattle.vg_packing.specs.Producers.{all_differ}
 use Rattle.vg_packing.specs.Wants.{is_wanted, slot, value_of, wants_value}
@@ -206,3 +209,28 @@ none-any test (x ∷ xs) a = rw a.0 (none-any test xs a.1)
 pub all-differ : (vs : List ℕ) → AllDiffer nat_eq vs → all_differ vs ≡ true
 all-differ [] d = refl
 all-differ (v ∷ vs) d = rw (none-any (nat_eq v) vs d.0) (all-differ vs d.1)
+
+-- ---- sound operands
+
+slot-wide : (w : ℕ) → list_any (nat_eq w) (8 ∷ 16 ∷ 32 ∷ 64 ∷ []) ≡ true → 0 < w
+slot-wide w t =
+    let k = any-found (nat_eq w) (8 ∷ 16 ∷ 32 ∷ 64 ∷ []) t in
+    let same : w ≡ k.0 = let e = k.2 in grind (arith, nat_tests, e) in
+    let wide : 0 < k.0 = every-has (λ n. 0 < n) k.0 (8 ∷ 16 ∷ 32 ∷ 64 ∷ []) (lit< tt, (lit< tt, (lit< tt, (lit< tt, tt)))) k.1 in
+    omega (arith, same, wide)
+
+slots-behind : (ssa : Ssa) (register low n : ℕ) (ss : List Slot) → n ≤ low → AreSlots ssa register low ss → Every (λ (s : Slot). n ≤ s.low) ss
+slots-behind ssa register low n [] l h = tt
+slots-behind ssa register low n (s ∷ ss) l h =
+    let a = h.0 in
+    (omega (arith, l, a), slots-behind ssa register (s.low + s.width) n ss (omega (arith, l, a)) h.2)
+
+slots-rise : (ssa : Ssa) (register low : ℕ) (ss : List Slot) → AreSlots ssa register low ss → AreRising ss
+slots-rise ssa register low [] h = tt
+slots-rise ssa register low (s ∷ ss) h =
+    let is = h.1 in
+    let wide = slot-wide s.width is.width in
+    (slots-behind ssa register (s.low + s.width) (suc s.low) ss (omega (arith, wide)) h.2, slots-rise ssa register (s.low + s.width) ss h.2)
+
+pub sound-rises : (ssa : Ssa) (o : Operand) → IsOperand ssa o → AreRising o.slots
+sound-rises ssa o is = slots-rise ssa o.register 0 o.slots is.slots

@@ -6,4 +6,6 @@
 
 mod law;
 
-pub use law::producers_are_listed;
+pub use law::{
+    plans_are_plans_by_nodes, producers_are_listed, sound_operands_rise, two_sums_are_planned,
+};
