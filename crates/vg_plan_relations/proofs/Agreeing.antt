@@ -1,6 +1,6 @@
 -- Lanes that bind one leaf agree exactly where no two slots of an operand of the call stand at one bit.
 use Rattle.std.proofs.Common.{◌≡◌, ℕ, zero, suc, ◌+◌, ◌<◌, ◌≤◌, ◌⊎◌, Bool, true, false, List, [], ◌∷◌, length, map, filter, refl, sym, ◌∙◌, ap, subst, inl, inr, arith}
-use Rattle.std.specs.Prelude.{◌&&◌, not, if◌then◌else◌, nat_eq, nat_le, Option, Some, None, slice_get}
+use Rattle.std.specs.Prelude.{not, nat_eq, nat_le, Option, Some, slice_get}
 use Rattle.std.specs.List.{list_all, list_any}
 use Rattle.std.specs.Option.{option_map_or}
 use Rattle.std.proofs.lemmas.Bool.{cases_Bool}
@@ -27,7 +27,7 @@ use Rattle.vg_packing.proofs.SameTests.{both-true, operand-itself, slot-is}
 use Rattle.vg_plan_relations.specs.Produces.{AreRising, Binds, LanesAgree}
 use Rattle.vg_plan_relations.proofs.Fitting.{binds-param, bound-binds, bound-there}
 
-slot-itself : (s : Slot) → same_slot s s ≡ true
+pub slot-itself : (s : Slot) → same_slot s s ≡ true
 slot-itself s = (both-true (same_slot s s) true (operand-itself (record { register = 0; slots = s ∷ [] }))).0
 
 not-true : (b : Bool) → not b ≡ true → b ≡ false

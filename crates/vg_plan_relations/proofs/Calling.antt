@@ -1,13 +1,12 @@
 -- The calls of the list produce the operand, and a call that does is that of the list.
-use Rattle.std.proofs.Common.{◌≡◌, ℕ, zero, suc, ◌+◌, ◌*◌, ◌/◌, ◌<◌, ◌≤◌, Bool, true, false, List, [], ◌∷◌, ◌++◌, length, map, refl, sym, ◌∙◌, ap, subst, inl, inr, arith, mul-div_cancel}
-use Rattle.std.specs.Prelude.{◌&&◌, find, if◌then◌else◌, is_some, nat_eq, Option, Some, None, slice_get}
-use Rattle.std.specs.List.{AllByRecursion, filter_map, list_all}
+use Rattle.std.proofs.Common.{◌≡◌, ℕ, zero, suc, ◌+◌, ◌*◌, ◌/◌, ◌<◌, ◌≤◌, Bool, true, List, [], ◌∷◌, length, refl, sym, ◌∙◌, ap, subst, inl, inr, arith, mul-div_cancel}
+use Rattle.std.specs.Prelude.{◌&&◌, find, is_some, nat_eq, Option, Some, None, slice_get}
+use Rattle.std.specs.List.{filter_map, list_all}
 use Rattle.std.specs.Option.{option_map_or}
 use Rattle.std.specs.Cmp.Lexicographic.{pointwise}
 use Rattle.std.proofs.lemmas.Bool.{cases_Bool}
 use Rattle.std.proofs.lemmas.Bool.Decides.{nat_tests}
-use Rattle.vg_plans.specs.Members.{AllDiffer, Has}
-use Rattle.vg_plans.proofs.Members.{has-append, has-left, has-right}
+use Rattle.vg_plans.specs.Members.{Has}
 use Rattle.vg_shapes.specs.declared.match_table.Match.{Match}
 use Rattle.vg_shapes.specs.declared.operand.Operand.{Operand}
 use Rattle.vg_shapes.specs.declared.operand.Slot.{Slot}
@@ -20,16 +19,16 @@ use Rattle.vg_shapes.specs.Description.{Description, IsPackable}
 use Rattle.vg_shapes.specs.Matches.{AreMatches}
 use Rattle.vg_shapes.specs.Pack.{match_at}
 use Rattle.vg_packing.specs.Held.{lane_width_of, lanes_from, register_of}
-use Rattle.vg_packing.specs.Producers.{agree, are_matched, call_producer, call_producers, can_be_produced, lanes_for, value_at}
+use Rattle.vg_packing.specs.Producers.{agree, are_matched, call_producer, can_be_produced, lanes_for, value_at}
 use Rattle.vg_packing.specs.SameAs.{same_slot}
 use Rattle.vg_packing.specs.Taken.{operands_of}
 use Rattle.vg_packing.specs.Wants.{is_wanted, slot, value_of, wanted_slots}
 use Rattle.vg_packing.proofs.SameTests.{both-true, list-is, operand-itself, slot-is}
 use Rattle.vg_packing.proofs.Tried.{if-has}
-use Rattle.vg_plan_relations.specs.Produces.{AreRising, HasLane, IsCallPack, IsLaneSlot, LaneFits, Produces}
+use Rattle.vg_plan_relations.specs.Produces.{AreRising, HasLane, IsCallPack, LaneFits, Produces}
 use Rattle.vg_plan_relations.proofs.Agreeing.{agree-binds, binds-agree}
 use Rattle.vg_plan_relations.proofs.Exact.{and-true, can-be, exact, has-once, has-two, IsLaneAt, lane-wanted, one-if, wanted-lane}
-use Rattle.vg_plan_relations.proofs.Fitting.{at-matched, found-fit, get-has, all-has, lane-term, lane-wide, lane-with, matched-at}
+use Rattle.vg_plan_relations.proofs.Fitting.{at-matched, found-fit, lane-term, lane-wide, lane-with, matched-at}
 use Rattle.vg_plan_relations.proofs.Rising.{one-at}
 
 -- ---- the lanes of a call

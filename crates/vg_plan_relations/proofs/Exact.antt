@@ -1,6 +1,6 @@
 -- The lanes of a pack are exactly the slots of an operand that want something: as lists, and slot by slot.
-use Rattle.std.proofs.Common.{◌≡◌, ℕ, zero, suc, ◌+◌, ◌*◌, ◌<◌, ◌≤◌, Bool, true, false, List, [], ◌∷◌, length, filter, refl, sym, ◌∙◌, ap, subst, inl, inr, arith}
-use Rattle.std.specs.Prelude.{◌&&◌, if◌then◌else◌, nat_eq, nat_le, Option, Some, None}
+use Rattle.std.proofs.Common.{◌≡◌, ℕ, ◌+◌, ◌*◌, ◌<◌, ◌≤◌, Bool, true, false, List, [], ◌∷◌, length, refl, sym, ◌∙◌, ap, subst, inl, arith}
+use Rattle.std.specs.Prelude.{◌&&◌, if◌then◌else◌, nat_eq, nat_le, Option}
 use Rattle.std.specs.List.{filter_map, list_all}
 use Rattle.std.proofs.lemmas.Bool.Decides.{nat_tests}
 use Rattle.vg_plans.specs.Members.{AllDiffer, Has}
@@ -8,7 +8,6 @@ use Rattle.vg_plans.proofs.Members.{from-filter, has-filter}
 use Rattle.vg_shapes.specs.declared.operand.Operand.{Operand}
 use Rattle.vg_shapes.specs.declared.operand.Slot.{Slot}
 use Rattle.vg_shapes.specs.declared.pack.Pack.{Pack as Packed}
-use Rattle.vg_shapes.specs.declared.wanted.Wanted.{Wanted}
 use Rattle.vg_shapes.specs.declared.wanted.Wanted.TheVariants.{Value}
 use Rattle.vg_packing.specs.Held.{lanes_from}
 use Rattle.vg_packing.specs.Producers.{all_differ, can_be_produced}
@@ -28,7 +27,7 @@ and-true a b t u = rw (t, u) refl
 abbrev pub IsLaneAt : ℕ → List (Option ℕ) → Slot → Type 0
 IsLaneAt w lanes s = (i : ℕ) × (v : ℕ) × HasLane lanes i v × (s ≡ slot (i * w) w (Value v))
 
-from-none : (i w v : ℕ) → slot (0 + i * w) w (Value v) ≡ slot (i * w) w (Value v)
+pub from-none : (i w v : ℕ) → slot (0 + i * w) w (Value v) ≡ slot (i * w) w (Value v)
 from-none i w v = let e : 0 + i * w ≡ i * w = omega arith in ap (λ n. slot n w (Value v)) e
 
 module _ (o : Operand) (w : ℕ) (lanes : List (Option ℕ)) where

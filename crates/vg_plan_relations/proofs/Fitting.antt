@@ -1,6 +1,6 @@
 -- What matched lanes tell: their terms fit, lanes are wide, and their leaves are those of parameters.
-use Rattle.std.proofs.Common.{◌≡◌, ℕ, zero, suc, ◌+◌, ◌<◌, ◌≤◌, Bool, true, false, List, [], ◌∷◌, ◌++◌, length, refl, sym, ◌∙◌, ap, subst, inl, inr, arith, get_or}
-use Rattle.std.specs.Prelude.{◌&&◌, ◌||◌, find, is_some, nat_eq, Option, Some, None, slice_get}
+use Rattle.std.proofs.Common.{◌≡◌, ℕ, zero, suc, ◌+◌, ◌<◌, ◌≤◌, true, List, [], ◌∷◌, length, refl, sym, ◌∙◌, ap, subst, inl, inr, arith, get_or}
+use Rattle.std.specs.Prelude.{◌&&◌, ◌||◌, is_some, nat_eq, Option, Some, None, slice_get}
 use Rattle.std.specs.List.{AllByRecursion, filter_map}
 use Rattle.std.specs.Option.{option_map_or}
 use Rattle.std.specs.Ordering.{int_eq}
@@ -19,10 +19,10 @@ use Rattle.vg_shapes.specs.Description.{Description, IsLane, IsPackable}
 use Rattle.vg_shapes.specs.Fits.{Fits, has_leaf}
 use Rattle.vg_shapes.specs.Matches.{AreMatches, IsMatch, lane_at}
 use Rattle.vg_shapes.specs.Pack.{bounds_from, match_at}
-use Rattle.vg_shapes.specs.Registers.{bits_key, LeavesInside}
+use Rattle.vg_shapes.specs.Registers.{LeavesInside}
 use Rattle.vg_packing.specs.Producers.{are_matched}
 use Rattle.vg_packing.proofs.SameTests.{both-true}
-use Rattle.vg_plan_relations.specs.Produces.{Binds, HasLane, LaneFits}
+use Rattle.vg_plan_relations.specs.Produces.{Binds, HasLane}
 
 pub all-has : {X : Type 0} (P : X → Type 0) (xs : List X) (x : X) → AllByRecursion P xs → Has x xs → P x
 all-has P [] x a h = absurd h

@@ -2,6 +2,7 @@ mod Agreeing
 mod Calling
 mod Exact
 mod Fitting
+mod Held
 mod Loading
 mod Planning
 mod Producing

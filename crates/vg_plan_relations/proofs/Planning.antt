@@ -1,11 +1,10 @@
 -- A plan that grows by packs that may follow is a plan by its packs, units and nodes, and the other way.
-use Rattle.std.proofs.Common.{◌≡◌, ℕ, zero, suc, ◌+◌, ◌<◌, ◌≤◌, ◌⊎◌, Bool, true, false, List, [], ◌∷◌, ◌++◌, length, map, refl, sym, ◌∙◌, ap, subst, inl, inr, arith, append_assoc, append-nil}
-use Rattle.std.specs.Prelude.{◌&&◌, not, Option, Some, None, flat_map}
+use Rattle.std.proofs.Common.{◌≡◌, ℕ, ◌+◌, ◌<◌, ◌≤◌, ◌⊎◌, true, List, [], ◌∷◌, ◌++◌, length, refl, sym, ◌∙◌, ap, subst, inl, inr, arith, append_assoc, append-nil}
+use Rattle.std.specs.Prelude.{not, flat_map}
 use Rattle.std.specs.List.{AllByRecursion, list_any}
 use Rattle.std.proofs.lemmas.Bool.{cases_Bool}
 use Rattle.vg_base.specs.declared.address.Address.{Address}
 use Rattle.vg_base.specs.declared.width.Width.{Width}
-use Rattle.vg_base.specs.Width.{bits_of}
 use Rattle.vg_plans.specs.Crowded.{IsPlan, empty, more}
 use Rattle.vg_plans.specs.Members.{Every, Has}
 use Rattle.vg_plans.specs.World.{follows, has_no_cycle, is_in, is_packed, stays_plan, tried}
@@ -15,7 +14,6 @@ use Rattle.vg_plans.proofs.Reach.{has-in, in-has}
 use Rattle.vg_shapes.specs.declared.match_table.Match.{Match}
 use Rattle.vg_shapes.specs.declared.operand.Operand.{Operand}
 use Rattle.vg_shapes.specs.declared.operand.Slot.{Slot}
-use Rattle.vg_shapes.specs.declared.order.Node.{Node}
 use Rattle.vg_shapes.specs.declared.pack.Pack.{Pack as Packed}
 use Rattle.vg_shapes.specs.declared.pack.Pack.TheVariants.{Stores, Loads, Call}
 use Rattle.vg_shapes.specs.declared.ssa.Ssa.{Ssa}
@@ -35,8 +33,8 @@ use Rattle.vg_packs.proofs.Once.{groups-listed}
 use Rattle.vg_order.proofs.AllDependences.{dependences-give_orders, dependences-name_units}
 use Rattle.vg_plan_orders.proofs.Cycles.{plans-have-no-cycle}
 use Rattle.vg_plan_relations.specs.Laws.{PlansArePlansByNodes}
-use Rattle.vg_plan_relations.specs.Plans.{HasNoCycle, IsApart, IsPlanByNodes, ProducesFor}
-use Rattle.vg_plan_relations.specs.Produces.{AreRising, Produces}
+use Rattle.vg_plan_relations.specs.Plans.{IsPlanByNodes, ProducesFor}
+use Rattle.vg_plan_relations.specs.Produces.{AreRising}
 use Rattle.vg_plan_relations.proofs.Agreeing.{binds-agree, call-rises}
 use Rattle.vg_plan_relations.proofs.Exact.{and-true}
 use Rattle.vg_plan_relations.proofs.Loading.{is-wide}

@@ -1,6 +1,6 @@
 -- Where units hold each other back, a walk along the nodes that wait for each other comes back: a cycle.
-use Rattle.std.proofs.Common.{◌≡◌, ℕ, zero, suc, ◌+◌, ◌<◌, ◌≤◌, ◌⊎◌, Bool, true, false, List, [], ◌∷◌, ◌++◌, length, map, filter, refl, sym, ◌∙◌, ap, subst, inl, inr, arith}
-use Rattle.std.specs.Prelude.{Contains, if◌then◌else◌, nat_eq, not, Option, Some, None, slice_get, flat_map}
+use Rattle.std.proofs.Common.{◌≡◌, ℕ, zero, suc, ◌+◌, ◌<◌, ◌≤◌, ◌⊎◌, Bool, true, false, List, [], ◌∷◌, length, map, filter, refl, sym, ◌∙◌, ap, subst, inl, inr, arith}
+use Rattle.std.specs.Prelude.{Contains, if◌then◌else◌, nat_eq, not, Some, slice_get, flat_map}
 use Rattle.std.specs.List.{AllByRecursion, filter_map, list_any}
 use Rattle.std.specs.Option.{option_map_or}
 use Rattle.std.proofs.lemmas.Bool.{cases_Bool}
@@ -9,7 +9,7 @@ use Rattle.vg_plans.specs.Members.{Every, Has}
 use Rattle.vg_plans.specs.World.{World, has_no_cycle, is_empty, is_held_back, is_in, is_packed, left_after, needs}
 use Rattle.vg_plans.proofs.Disjoint.{unique-length}
 use Rattle.vg_plans.proofs.Lists.{every-has, has-map}
-use Rattle.vg_plans.proofs.Members.{Includes, Unique, any-found, any-is, from-filter, from-flat_map, has-filter, has-flat, has-left, has-right}
+use Rattle.vg_plans.proofs.Members.{Includes, Unique, any-found, any-is, from-filter, from-flat_map, has-filter, has-left, has-right}
 use Rattle.vg_plans.proofs.Reach.{has-in, in-has}
 use Rattle.vg_shapes.specs.declared.match_table.Bound.{Bound}
 use Rattle.vg_shapes.specs.declared.match_table.Match.{Match}
@@ -21,7 +21,7 @@ use Rattle.vg_shapes.specs.declared.pack.Pack.TheVariants.{Stores, Loads, Call}
 use Rattle.vg_shapes.specs.declared.ssa.Ssa.{Ssa}
 use Rattle.vg_shapes.specs.declared.wanted.Wanted.{Wanted}
 use Rattle.vg_shapes.specs.declared.wanted.Wanted.TheVariants.{Value, Constant, Nothing}
-use Rattle.vg_shapes.specs.DepList.{is_listed, row_of}
+use Rattle.vg_shapes.specs.DepList.{row_of}
 use Rattle.vg_shapes.specs.Depends.{dependences, depends_on, numbers_below}
 use Rattle.vg_shapes.specs.Description.{Description}
 use Rattle.vg_shapes.specs.Nodes as node
@@ -30,7 +30,6 @@ use Rattle.vg_shapes.specs.Pack.{bounds_from, units_of}
 use Rattle.vg_shapes.specs.Units.{arguments, is_unit, is_value}
 use Rattle.vg_packing.specs.Packing.{falling_units, needs_of, packing}
 use Rattle.vg_packing.specs.Wants.{value_of}
-use Rattle.vg_packing.proofs.SameTests.{both-true}
 use Rattle.vg_deps.proofs.Pairs.{lists-dependences}
 use Rattle.vg_order.proofs.Graphs.{found-stands, unit-inside}
 use Rattle.vg_plan_relations.proofs.Exact.{and-true}

@@ -1,4 +1,4 @@
--- When a pack produces an operand.
+-- When a pack produces an operand, and when it holds one.
 use Rattle.std.specs.Prelude.{◌≡◌, ◌<◌, ◌≤◌, ℕ, ◌*◌, true, List, [], ◌∷◌, length, Option, Some, nat_eq, slice_get}
 use Rattle.vg_plans.specs.Members.{AllDiffer, Every, Has}
 use Rattle.vg_terms.specs.Term.{Tree}
@@ -75,6 +75,13 @@ pub record Produces (ds : List Description) (matches : List Match) (ssa : Ssa) (
   pub register : register_of ds ssa p ≡ o.register
   pub wanted : (s : Slot) → Has s o.slots → is_wanted s.wanted ≡ true → IsLaneSlot ds ssa p s
   pub lanes : (s : Slot) → IsLaneSlot ds ssa p s → Has s o.slots
+
+-- A pack holds an operand: its register is as wide, and each slot that wants something is a lane of it.
+-- Some slot does, as an operand that wants nothing is held by no pack.
+pub record Holds (ds : List Description) (ssa : Ssa) (p : Packed) (o : Operand) : Type 0 where
+  pub register : register_of ds ssa p ≡ o.register
+  pub some : (s : Slot) × Has s o.slots × (is_wanted s.wanted ≡ true)
+  pub wanted : (s : Slot) → Has s o.slots → is_wanted s.wanted ≡ true → IsLaneSlot ds ssa p s
 
 -- slots by rising low bit, no two at one bit
 abbrev pub AreRising : List Slot → Type 0

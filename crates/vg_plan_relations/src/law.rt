@@ -1,6 +1,6 @@
-//! What the list of producers promises, and what plans are.
+//! What the list of producers promises, what packs hold, and what plans are.
 
-ghost use Rattle.vg_plan_relations.specs.Laws.{PlansArePlansByNodes, ProducersAreListed, SoundOperandsRise};
+ghost use Rattle.vg_plan_relations.specs.Laws.{HoldsIsTold, PlansArePlansByNodes, ProducersAreListed, SoundOperandsRise};
 ghost use Rattle.vg_plan_relations.specs.TwoSums.{TwoSumsArePlanned};
 
 /// A law that costs nothing to call: each pack of the list of producers produces the operand, and each
@@ -13,6 +13,12 @@ pub fn producers_are_listed()
 /// A law: the slots of a sound operand stand by rising low bit, as the law on producers wants it.
 pub fn sound_operands_rise()
     ensures { SoundOperandsRise }
+{}
+
+/// A law: a pack passes the test whether it holds an operand exactly where its register is as wide, some
+/// slot wants something, and each slot that does is a lane of the pack.
+pub fn holds_is_told()
+    ensures { HoldsIsTold }
 {}
 
 /// A law that costs nothing to call: by the list of all dependences of a kernel, a list of packs is a plan
