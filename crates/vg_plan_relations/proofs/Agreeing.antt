@@ -1,5 +1,5 @@
 -- Lanes that bind one leaf agree exactly where no two slots of an operand of the call stand at one bit.
-use Rattle.std.proofs.Common.{◌≡◌, ℕ, zero, suc, ◌+◌, ◌<◌, ◌≤◌, ◌⊎◌, Bool, true, false, List, [], ◌∷◌, length, map, filter, refl, sym, ◌∙◌, ap, subst, inl, inr, arith}
+use Rattle.std.proofs.Common.{◌≡◌, ℕ, zero, suc, ◌+◌, ◌<◌, ◌≤◌, ◌⊎◌, true, false, List, [], ◌∷◌, length, map, filter, refl, sym, ◌∙◌, ap, subst, inl, inr, arith}
 use Rattle.std.specs.Prelude.{not, nat_eq, nat_le, Option, Some, slice_get}
 use Rattle.std.specs.List.{list_all, list_any}
 use Rattle.std.specs.Option.{option_map_or}
@@ -26,13 +26,10 @@ use Rattle.vg_packing.specs.Taken.{operands_from, operands_of, params_of, slot_o
 use Rattle.vg_packing.proofs.SameTests.{both-true, operand-itself, slot-is}
 use Rattle.vg_plan_relations.specs.Produces.{AreRising, Binds, LanesAgree}
 use Rattle.vg_plan_relations.proofs.Fitting.{binds-param, bound-binds, bound-there}
+use Rattle.vg_plan_relations.proofs.Rising.{not-true}
 
 pub slot-itself : (s : Slot) → same_slot s s ≡ true
 slot-itself s = (both-true (same_slot s s) true (operand-itself (record { register = 0; slots = s ∷ [] }))).0
-
-not-true : (b : Bool) → not b ≡ true → b ≡ false
-not-true true e = absurd (cc)
-not-true false e = refl
 
 -- ---- slots of which no two stand at one bit
 

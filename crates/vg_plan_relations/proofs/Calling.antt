@@ -23,12 +23,13 @@ use Rattle.vg_packing.specs.Producers.{agree, are_matched, call_producer, can_be
 use Rattle.vg_packing.specs.SameAs.{same_slot}
 use Rattle.vg_packing.specs.Taken.{operands_of}
 use Rattle.vg_packing.specs.Wants.{is_wanted, slot, value_of, wanted_slots}
-use Rattle.vg_packing.proofs.SameTests.{both-true, list-is, operand-itself, slot-is}
+use Rattle.vg_packing.proofs.SameTests.{both-true, list-is, slot-is}
 use Rattle.vg_packing.proofs.Tried.{if-has}
 use Rattle.vg_plan_relations.specs.Produces.{AreRising, HasLane, IsCallPack, LaneFits, Produces}
 use Rattle.vg_plan_relations.proofs.Agreeing.{agree-binds, binds-agree}
 use Rattle.vg_plan_relations.proofs.Exact.{and-true, can-be, exact, has-once, has-two, IsLaneAt, lane-wanted, one-if, wanted-lane}
 use Rattle.vg_plan_relations.proofs.Fitting.{at-matched, found-fit, lane-term, lane-wide, lane-with, matched-at}
+use Rattle.vg_plan_relations.proofs.Loading.{slots-itself}
 use Rattle.vg_plan_relations.proofs.Rising.{one-at}
 
 -- ---- the lanes of a call
@@ -133,9 +134,6 @@ module _ (o : Operand) (w : ℕ) (lanes : List (Option ℕ)) (rise : AreRising o
   lanes-are n l = lanes-made n 0 w o.slots lanes l lane-for
 
 -- ---- one call
-
-slots-itself : (ss : List Slot) → pointwise same_slot ss ss ≡ true
-slots-itself ss = (both-true (nat_eq 0 0) (pointwise same_slot ss ss) (operand-itself (record { register = 0; slots = ss }))).1
 
 module _ (ds : List Description) (matches : List Match) (ssa : Ssa) (o : Operand) (d : ℕ) (e : Description)
     (are : AreMatches ds ssa matches) (at : slice_get ds d ≡ Some e) (packable : IsPackable e) where

@@ -1,11 +1,9 @@
 -- What matched lanes tell: their terms fit, lanes are wide, and their leaves are those of parameters.
 use Rattle.std.proofs.Common.{◌≡◌, ℕ, zero, suc, ◌+◌, ◌<◌, ◌≤◌, true, List, [], ◌∷◌, length, refl, sym, ◌∙◌, ap, subst, inl, inr, arith, get_or}
-use Rattle.std.specs.Prelude.{◌&&◌, ◌||◌, is_some, nat_eq, Option, Some, None, slice_get}
+use Rattle.std.specs.Prelude.{◌||◌, is_some, Option, Some, None, slice_get}
 use Rattle.std.specs.List.{AllByRecursion, filter_map}
 use Rattle.std.specs.Option.{option_map_or}
-use Rattle.std.specs.Ordering.{int_eq}
-use Rattle.std.proofs.lemmas.Bool.{cases_Bool, or_cases}
-use Rattle.std.proofs.lemmas.Bool.Decides.{nat_tests}
+use Rattle.std.proofs.lemmas.Bool.{or_cases}
 use Rattle.vg_base.specs.Trap.{◌>>=◌}
 use Rattle.vg_plans.specs.Members.{Has}
 use Rattle.vg_plans.proofs.Members.{has-append, has-left, has-right}
@@ -14,12 +12,14 @@ use Rattle.vg_terms.specs.Term.{Tree, leaf, constant, one, two, sel, WellFormed,
 use Rattle.vg_shapes.specs.declared.match_table.Bound.{Bound}
 use Rattle.vg_shapes.specs.declared.match_table.Match.{Match}
 use Rattle.vg_shapes.specs.declared.ssa.Ssa.{Ssa}
-use Rattle.vg_terms.specs.Value.{same_key}
 use Rattle.vg_shapes.specs.Description.{Description, IsLane, IsPackable}
 use Rattle.vg_shapes.specs.Fits.{Fits, has_leaf}
-use Rattle.vg_shapes.specs.Matches.{AreMatches, IsMatch, lane_at}
+use Rattle.vg_shapes.specs.Matches.{AreMatches, lane_at}
 use Rattle.vg_shapes.specs.Pack.{bounds_from, match_at}
 use Rattle.vg_shapes.specs.Registers.{LeavesInside}
+use Rattle.vg_shapes.specs.declared.wanted.Wanted.TheVariants.{Nothing}
+use Rattle.vg_match.proofs.Binding.{leaf-same}
+use Rattle.vg_match.proofs.Laws.{found-fit as fit-found}
 use Rattle.vg_packing.specs.Producers.{are_matched}
 use Rattle.vg_packing.proofs.SameTests.{both-true}
 use Rattle.vg_plan_relations.specs.Produces.{Binds, HasLane}
@@ -43,33 +43,15 @@ pub record IsFound (ds : List Description) (matches : List Match) (ssa : Ssa) (d
   pub lane : lane_at ds d i ≡ Some term
   pub fits : Fits ssa term v found.bound
 
-found-of : (ds : List Description) (ssa : Ssa) (d i v : ℕ) (ms : List Match) → AllByRecursion (IsMatch ds ssa) ms
-    → is_some (match_at ms d i v) ≡ true → IsFound ds ms ssa d i v
-found-of ds ssa d i v [] all t = absurd (cc)
-found-of ds ssa d i v (m ∷ ms) all t =
-    elim (cases_Bool (nat_eq m.description d && (nat_eq m.lane i && nat_eq m.value v))) [
-      | inl h ↦
-          let p = both-true (nat_eq m.description d) (nat_eq m.lane i && nat_eq m.value v) h in
-          let q = both-true (nat_eq m.lane i) (nat_eq m.value v) p.1 in
-          let a : m.description ≡ d = grind (arith, nat_tests, p.0) in
-          let b : m.lane ≡ i = grind (arith, nat_tests, q.0) in
-          let c : m.value ≡ v = grind (arith, nat_tests, q.1) in
-          let is = all.0 in
-          record {
-            found = m;
-            is = rw h refl;
-            term = is.term;
-            lane = ap (λ x. lane_at ds x i) (sym a) ∙ ap (λ y. lane_at ds m.description y) (sym b) ∙ is.lane;
-            fits = subst (λ x. Fits ssa is.term x m.bound) c is.fits;
-          }
-      | inr f ↦
-          let rest = found-of ds ssa d i v ms all.1 (rw f at t) in
-          record { found = rest.found; is = rw f rest.is; term = rest.term; lane = rest.lane; fits = rest.fits }
-    ]
-
 pub found-fit : (ds : List Description) (matches : List Match) (ssa : Ssa) (d i v : ℕ) → AreMatches ds ssa matches
     → is_some (match_at matches d i v) ≡ true → IsFound ds matches ssa d i v
-found-fit ds matches ssa d i v are t = found-of ds ssa d i v matches are.right t
+found-fit ds matches ssa d i v are t = by (match_at matches d i v) refl t
+  where
+    by : (o : Option Match) → match_at matches d i v ≡ o → is_some o ≡ true → IsFound ds matches ssa d i v
+    by None e s = absurd (cc)
+    by (Some m) e s =
+        let f = fit-found ds ssa matches are d i v m e in
+        record { found = m; is = e; term = f.0; lane = f.1; fits = f.2 }
 
 pub lane-term : (ds : List Description) (d i : ℕ) (e : Description) (t : Tree)
     → slice_get ds d ≡ Some e → lane_at ds d i ≡ Some t → slice_get e.lanes i ≡ Some t
@@ -188,18 +170,11 @@ param-there [] k h = absurd (omega (arith, h))
 param-there (w ∷ ws) zero h = omega arith
 param-there (w ∷ ws) (suc k) h = let r = param-there ws k h in omega (arith, r)
 
-same-first : (k l : LeafKey) → same_key k l ≡ true → k.first ≡ l.first
-same-first k l e =
-    let p = both-true _ (nat_eq k.third l.third) e in
-    let q = both-true _ (int_eq k.second l.second) p.0 in
-    let r = both-true (nat_eq k.kind l.kind) (nat_eq k.first l.first) q.0 in
-    grind (arith, nat_tests, r.1)
-
 -- a leaf that a term has is one of a parameter
 leaf-param : (ws : List ℕ) (t : Tree) (w : ℕ) (k : LeafKey) → WellFormed t → LeavesInside ws t → has_leaf w k t ≡ true → k.first < length ws
 leaf-param ws (leaf u l) w k f h e =
-    let b = both-true (nat_eq w u) (same_key k l) e in
-    let same : k.first ≡ h.0 = same-first k l b.1 ∙ ap (λ (y : LeafKey). y.first) h.2 in
+    let b = leaf-same w k (record { key = l; width = u; wanted = Nothing }) e in
+    let same : k.first ≡ h.0 = ap (λ (y : LeafKey). y.first) b.1 ∙ ap (λ (y : LeafKey). y.first) h.2 in
     let some = f.0 in
     let room = h.3 in
     let wide : 0 < get_or ws h.0 0 = omega (arith, some, room) in

@@ -108,7 +108,7 @@ is-wide W64 = omega arith
 
 -- ---- the load pack
 
-slots-itself : (ss : List Slot) → pointwise same_slot ss ss ≡ true
+pub slots-itself : (ss : List Slot) → pointwise same_slot ss ss ≡ true
 slots-itself ss = (both-true (nat_eq 0 0) (pointwise same_slot ss ss) (operand-itself (record { register = 0; slots = ss }))).1
 
 pub load-right : (ds : List Description) (matches : List Match) (ssa : Ssa) (o : Operand) (p : Packed)

@@ -39,6 +39,7 @@ use Rattle.vg_plan_relations.proofs.Agreeing.{binds-agree, call-rises}
 use Rattle.vg_plan_relations.proofs.Exact.{and-true}
 use Rattle.vg_plan_relations.proofs.Loading.{is-wide}
 use Rattle.vg_plan_relations.proofs.Producing.{listed-right, listed-whole}
+use Rattle.vg_plan_relations.proofs.Rising.{every-more}
 use Rattle.vg_plan_relations.proofs.Waiting.{cycle-from}
 
 -- ---- prefixes of plans
@@ -95,10 +96,6 @@ at-pack f plan is before after p e =
 slots-behind : (low w n : ℕ) (xs : List Wanted) → n ≤ low → Every (λ (s : Slot). n ≤ s.low) (slots_from low w xs)
 slots-behind low w n [] l = tt
 slots-behind low w n (x ∷ xs) l = (l, slots-behind (low + w) w n xs (omega (arith, l)))
-
-every-more : {X : Type 0} (P Q : X → Type 0) → ((x : X) → P x → Q x) → (xs : List X) → Every P xs → Every Q xs
-every-more P Q f [] a = tt
-every-more P Q f (x ∷ xs) a = (f x a.0, every-more P Q f xs a.1)
 
 slots-rise : (low w : ℕ) (xs : List Wanted) → 0 < w → AreRising (slots_from low w xs)
 slots-rise low w [] l = tt

@@ -101,7 +101,7 @@ lanes-low low w n [] l = tt
 lanes-low low w n (None ∷ lanes) l = lanes-low (low + w) w n lanes (omega (arith, l))
 lanes-low low w n (Some v ∷ lanes) l = (l, lanes-low (low + w) w n lanes (omega (arith, l)))
 
-every-more : {X : Type 0} (P Q : X → Type 0) → ((x : X) → P x → Q x) → (xs : List X) → Every P xs → Every Q xs
+pub every-more : {X : Type 0} (P Q : X → Type 0) → ((x : X) → P x → Q x) → (xs : List X) → Every P xs → Every Q xs
 every-more P Q f [] a = tt
 every-more P Q f (x ∷ xs) a = (f x a.0, every-more P Q f xs a.1)
 
@@ -192,7 +192,7 @@ values-wanted (s ∷ slots) = by (values-wanted slots) s.wanted refl
 
 -- ---- numbers none of which stands twice
 
-not-true : (b : Bool) → not b ≡ true → b ≡ false
+pub not-true : (b : Bool) → not b ≡ true → b ≡ false
 not-true true e = absurd (cc)
 not-true false e = refl
 

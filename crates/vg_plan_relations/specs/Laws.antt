@@ -18,7 +18,9 @@ use Rattle.vg_plan_relations.specs.Plans.{IsPlanByNodes}
 use Rattle.vg_plan_relations.specs.Produces.{AreRising, Holds, Produces}
 
 -- each of the list produces the operand, and each pack that does is in the list, once
-pub record AreListed (ds : List Description) (matches : List Match) (ssa : Ssa) (o : Operand) : Type 0 where
+pub record AreListed
+    (ds : List Description) (matches : List Match) (ssa : Ssa) (o : Operand)
+    : Type 0 where
   pub right : (p : Packed) → Has p (producers ds matches ssa o) → Produces ds matches ssa p o
   pub whole : (p : Packed) → Produces ds matches ssa p o → Has p (producers ds matches ssa o)
   pub once : AllDiffer same_pack (producers ds matches ssa o)
@@ -40,8 +42,8 @@ HoldsIsTold =
     (ds : List Description) (ssa : Ssa) (p : Packed) (o : Operand) →
     (holds ds ssa p o ≡ true) ↔ Holds ds ssa p o
 
--- By the list of all dependences of a kernel, the plans that grow by packs that may follow are those
--- by packs, units and nodes. The descriptions are packable, and the matches are all.
+-- By the list of all dependences of a kernel, the plans that grow by packs that may follow are
+-- those by packs, units and nodes. The descriptions are packable, and the matches are all.
 abbrev pub PlansArePlansByNodes : Type 0
 PlansArePlansByNodes =
     (ds : List Description) (matches : List Match) (ssa : Ssa) (plan : List Packed) →

@@ -29,10 +29,13 @@ IsApart before p =
 abbrev pub HasNoCycle : Ssa → List Match → List Packed → Type 0
 HasNoCycle ssa matches packs = (cycle : List Node) → IsCycle ssa matches packs cycle → ⊥
 
--- A list of packs is a plan: each pack is a store group or produces an operand of an earlier pack, no
--- unit stands in two packs, and neither the list nor a prefix of it has a cycle among its nodes.
-pub record IsPlanByNodes (ds : List Description) (matches : List Match) (ssa : Ssa) (packs : List Packed) : Type 0 where
+-- A list of packs is a plan: each pack is a store group or produces an operand of an earlier pack,
+-- no unit stands in two packs, and neither the list nor a prefix of it has a cycle among its nodes.
+pub record IsPlanByNodes
+    (ds : List Description) (matches : List Match) (ssa : Ssa) (packs : List Packed)
+    : Type 0 where
   pub made : (before after : List Packed) (p : Packed) → packs ≡ before ++ p ∷ after →
       IsGroup ssa p ⊎ ProducesFor ds matches ssa before p
-  pub apart : (before after : List Packed) (p : Packed) → packs ≡ before ++ p ∷ after → IsApart before p
+  pub apart : (before after : List Packed) (p : Packed) → packs ≡ before ++ p ∷ after →
+      IsApart before p
   pub free : (before after : List Packed) → packs ≡ before ++ after → HasNoCycle ssa matches before

@@ -36,8 +36,8 @@ Binds matches d lanes b =
     × (match_at matches d i v ≡ Some m)
     × Has b m.bound
 
--- Lanes that bind one leaf agree: leaves of one parameter that begin at one bit are of one width and
--- want the same.
+-- Lanes that bind one leaf agree: leaves of one parameter that begin at one bit are of one width
+-- and want the same.
 abbrev pub LanesAgree : List Match → ℕ → List (Option ℕ) → Type 0
 LanesAgree matches d lanes =
     (b c : Bound) → Binds matches d lanes b → Binds matches d lanes c →
@@ -45,8 +45,11 @@ LanesAgree matches d lanes =
     bit_number b.key.second ≡ bit_number c.key.second →
     slot_of b ≡ slot_of c
 
--- a call pack: an instance with a fitting value in at least two of its lanes and nothing in the others
-pub record IsCallPack (ds : List Description) (matches : List Match) (ssa : Ssa) (d : ℕ) (lanes : List (Option ℕ)) : Type 0 where
+-- a call pack: an instance with a fitting value in at least two of its lanes, and nothing in the
+-- others
+pub record IsCallPack
+    (ds : List Description) (matches : List Match) (ssa : Ssa) (d : ℕ) (lanes : List (Option ℕ))
+    : Type 0 where
   pub instance : Description
   pub listed : slice_get ds d ≡ Some instance
   pub long : length lanes ≡ length instance.lanes
@@ -60,15 +63,17 @@ LeavesRegister ds matches ssa (Stores us) = ⊥
 LeavesRegister ds matches ssa (Loads us) = IsLoadPack ssa us
 LeavesRegister ds matches ssa (Call d lanes) = IsCallPack ds matches ssa d lanes
 
--- a slot is a lane of a pack: it stands where the lane does, is as wide, and wants the value of the lane
+-- a slot is a lane of a pack: it stands where the lane does, is as wide, and wants its value
 abbrev pub IsLaneSlot : List Description → Ssa → Packed → Slot → Type 0
 IsLaneSlot ds ssa p s =
     (i : ℕ) × (v : ℕ) × HasLane (lanes_of p) i v
     × (s ≡ slot (i * lane_width_of ds ssa p) (lane_width_of ds ssa p) (Value v))
 
--- A pack produces an operand: its register is as wide, and its lanes are exactly the slots that want
--- something. So each of these wants a value, and no lane is matched that no slot wants.
-pub record Produces (ds : List Description) (matches : List Match) (ssa : Ssa) (p : Packed) (o : Operand) : Type 0 where
+-- A pack produces an operand: its register is as wide, and its lanes are exactly the slots that
+-- want something. So each of these wants a value, and no lane is matched that no slot wants.
+pub record Produces
+    (ds : List Description) (matches : List Match) (ssa : Ssa) (p : Packed) (o : Operand)
+    : Type 0 where
   pub pack : LeavesRegister ds matches ssa p
   -- no unit stands in the pack twice
   pub once : AllDiffer nat_eq (units_of p)
@@ -76,8 +81,8 @@ pub record Produces (ds : List Description) (matches : List Match) (ssa : Ssa) (
   pub wanted : (s : Slot) → Has s o.slots → is_wanted s.wanted ≡ true → IsLaneSlot ds ssa p s
   pub lanes : (s : Slot) → IsLaneSlot ds ssa p s → Has s o.slots
 
--- A pack holds an operand: its register is as wide, and each slot that wants something is a lane of it.
--- Some slot does, as an operand that wants nothing is held by no pack.
+-- A pack holds an operand: its register is as wide, and each slot that wants something is a lane of
+-- it. Some slot does, as an operand that wants nothing is held by no pack.
 pub record Holds (ds : List Description) (ssa : Ssa) (p : Packed) (o : Operand) : Type 0 where
   pub register : register_of ds ssa p ≡ o.register
   pub some : (s : Slot) × Has s o.slots × (is_wanted s.wanted ≡ true)

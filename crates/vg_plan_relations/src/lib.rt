@@ -1,5 +1,5 @@
-//! Packs that produce or hold operands, and plans, in the words of relations: over slots, lanes, units
-//! and nodes.
+//! Packs that produce or hold operands, and plans, in the words of relations: over slots, lanes,
+//! units and nodes.
 //!
 //! `specs/Produces.antt` says when a pack produces an operand and when it holds one, and
 //! `specs/Plans.antt` when a list of packs is a plan. The laws join them to the lists and tests of
@@ -9,5 +9,6 @@
 mod law;
 
 pub use law::{
-    holds_is_told, plans_are_plans_by_nodes, producers_are_listed, sound_operands_rise, two_sums_are_planned,
+    holds_is_told, plans_are_plans_by_nodes, producers_are_listed, sound_operands_rise,
+    two_sums_are_planned,
 };
