@@ -15,7 +15,7 @@ const PROGRAM: &[u8] = b"program none()\nend cost 0 scalar 0\n";
 const HEADER: &str =
     "INSTRUCTION x\nPARAM a 128 SI32\nRESULT dst 128 SI32\nEXTENSION SSE2\nCOST 1\nOPERATION\n";
 
-const ADD: &str =
+pub const ADD: &str =
     "INSTRUCTION _mm_add_epi32 PARAM a 128 SI32 PARAM b 128 SI32\nRESULT dst 128 SI32 EXTENSION SSE2 COST 1 OPERATION\nFOR j := 0 to 3\ni := j*32\ndst[i+31:i] := a[i+31:i] + b[i+31:i]\nENDFOR\nEND\n";
 
 /// What `compile` says of this file.

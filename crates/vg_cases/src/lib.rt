@@ -17,3 +17,5 @@ mod option_cases;
 mod outside_cases;
 #[cfg(test)]
 mod run_cases;
+#[cfg(test)]
+mod trial_cases;

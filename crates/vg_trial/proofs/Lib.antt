@@ -1,1 +1,4 @@
 pub mod Trials
+pub mod Ends
+pub mod Inside
+pub mod Layouts

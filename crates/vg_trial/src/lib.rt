@@ -6,7 +6,9 @@
 mod kernel;
 mod memory;
 mod piece;
+mod places;
 mod shape;
 
 pub use kernel::make_kernel;
 pub use memory::trial_memory;
+pub use places::trial_places;
