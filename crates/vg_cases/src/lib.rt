@@ -8,6 +8,8 @@ mod desk;
 #[cfg(test)]
 mod eval_cases;
 #[cfg(test)]
+mod hostile_cases;
+#[cfg(test)]
 mod instruction_files;
 #[cfg(test)]
 mod memories;
