@@ -1,3 +1,6 @@
+mod Accepted
+mod Lines
+mod Scripts
 pub mod Trials
 pub mod Ends
 pub mod Inside

@@ -1,7 +1,9 @@
 //! The text of a trial's kernel.
 
 ghost use Rattle.std.specs.Prelude.{◌≡◌, ◌+◌, ◌<◌, ◌≤◌, ◌^◌, ◌++◌, IfOk, OnOk};
+ghost use Rattle.vg_kernel.specs.Grammar.{IsKernelText};
 ghost use Rattle.vg_trial.specs.Trial.{line_text, sum_line, product_line, clamped_line, average_line, pair_line, statement, statements, group, groups, groups_text, kernel_text};
+ghost use Rattle.vg_trial.specs.TrialKernel.{kernel};
 
 use crate::piece::Piece::{Number, Words};
 use crate::piece::put_line;
@@ -133,7 +135,9 @@ fn put_groups(text: &mut Vec<u8>, number: u32) -> Result<(), AllocError>
 
 /// The text of the kernel of the trial of this number. `Err` for want of memory alone.
 pub fn make_kernel(alloc: Global, number: u32) -> Result<Vec<u8>, AllocError>
-    ensures { IfOk result (λ text. text.items ≡ kernel_text number) }
+    ensures text { IfOk result (λ text. text.items ≡ kernel_text number) }
+    // It is in the language of kernels, and spells the kernel as data.
+    ensures accepted { IsKernelText (kernel_text number) (kernel number) }
 {
     let mut text = Vec::new(alloc);
     text.extend_from_slice(b"kernel trial(d: noalias ptr, p: ptr, q: ptr) {\n")?;
