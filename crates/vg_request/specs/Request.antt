@@ -1,10 +1,11 @@
 -- The requests: what the words of a command line ask for.
-use Rattle.std.specs.Prelude.{ℕ, ◌-◌, List, [], ◌∷◌, Option, Some, None, codes, slice_get, unwrap_or, if◌then◌else◌}
+use Rattle.std.specs.Prelude.{ℕ, ◌-◌, ◌^◌, List, [], ◌∷◌, Option, Some, None, codes, nat_lt, slice_get, unwrap_or, if◌then◌else◌}
 use Rattle.std.specs.Str.{bytes_eq}
 use Rattle.std.specs.List.{list_all}
 use Rattle.std.specs.Option.{option_and_then, option_map}
+use Rattle.vg_text.specs.Number.{decimal_value}
 use Rattle.vg_request.specs.declared.request.Request.{Request}
-use Rattle.vg_request.specs.declared.request.Request.TheVariants.{Compile, Run, Eval, Lift, Explain}
+use Rattle.vg_request.specs.declared.request.Request.TheVariants.{Compile, Run, Eval, Lift, Explain, Trial}
 use Rattle.vg_request.specs.Binding.{Binding, is_binding, bindings_in}
 use Rattle.vg_request.specs.Options.{Choices, kernel_asked, choices_seen}
 use Rattle.vg_request.specs.Word.{plain_word}
@@ -16,6 +17,7 @@ pub data Asked : Type 0 where
   eval : List ℕ → List ℕ → List Binding → Asked
   lift : List ℕ → Asked
   explain : List ℕ → List ℕ → Choices → Asked
+  trial : List ℕ → ℕ → Asked
 
 -- the names of its files, in the order in which they are read
 abbrev pub files_of : Asked → List (List ℕ)
@@ -24,6 +26,7 @@ files_of (run instructions program memory bindings) = instructions ∷ program �
 files_of (eval kernel memory bindings) = kernel ∷ memory ∷ []
 files_of (lift instructions) = instructions ∷ []
 files_of (explain instructions kernel choices) = instructions ∷ kernel ∷ []
+files_of (trial instructions number) = instructions ∷ []
 
 -- words that are no request name no file
 abbrev pub files_in : Option Asked → List (List ℕ)
@@ -78,6 +81,18 @@ abbrev pub explain_words : List (List ℕ) → Option Asked
 explain_words words =
     option_map (λ k. explain k.instructions k.kernel k.choices) (kernel_asked words)
 
+-- the number of a trial: decimal digits of a value below 2 ^ 32, leading zeros among them
+abbrev pub trial_number : List ℕ → Option ℕ
+trial_number digits =
+    option_and_then (λ n. if nat_lt n (2 ^ 32) then Some n else None) (decimal_value digits)
+
+-- the words behind `trial INSTRUCTIONS N`
+abbrev pub trial_words : List (List ℕ) → Option Asked
+trial_words (a ∷ digits ∷ []) =
+    option_and_then (λ instructions.
+    option_map (λ number. trial instructions number) (trial_number digits)) (plain_word a)
+trial_words _ = None
+
 -- the command, and what stands behind it; all other words are no request
 abbrev pub request_of : List (List ℕ) → Option Asked
 request_of [] = None
@@ -87,6 +102,7 @@ request_of (command ∷ words) =
     else if bytes_eq command (codes "eval") then eval_words words
     else if bytes_eq command (codes "lift") then lift_words words
     else if bytes_eq command (codes "explain") then explain_words words
+    else if bytes_eq command (codes "trial") then trial_words words
     else None
 
 -- what a request of the code asks for
@@ -96,3 +112,4 @@ asked_of (Run a b c words) = run a.now b.now c.now (bindings_in words.now)
 asked_of (Eval a b words) = eval a.now b.now (bindings_in words.now)
 asked_of (Lift a) = lift a.now
 asked_of (Explain a b options) = explain a.now b.now (choices_seen options)
+asked_of (Trial a number) = trial a.now number

@@ -2,7 +2,7 @@
 //!
 //! [`request_of`] reads them. `specs/Request.antt` says what they mean: the command, the options
 //! that are taken out first (`specs/Parts.antt`, `specs/Options.antt`), the files that are left,
-//! and the words that bind parameters (`specs/Binding.antt`).
+//! the words that bind parameters (`specs/Binding.antt`), and the number of a trial.
 #![tactic(auto)]
 
 pub mod binding;

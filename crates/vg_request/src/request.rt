@@ -1,13 +1,14 @@
 //! What the words of a command line ask for.
 
 ghost use Rattle.std.specs.Prelude.{◌≡◌, option_map, drop, length, ◌≤◌};
-ghost use Rattle.vg_request.specs.Request.{run_words, eval_words, lift_words, compile_words, explain_words, request_of, files_of, file_name, asked_of};
+ghost use Rattle.vg_request.specs.Request.{run_words, eval_words, lift_words, compile_words, explain_words, trial_number, trial_words, request_of, files_of, file_name, asked_of};
 
 use crate::binding::are_bindings;
 use crate::options::Options;
 use crate::reading::on_kernel;
 use crate::word::plain_word;
 use vg_outside::{Bytes, Words};
+use vg_text::decimal;
 
 /// A request, with the names of its files in the order in which they are read.
 #[derive(Clone, Copy)]
@@ -41,6 +42,11 @@ pub enum Request<'a> {
         kernel: &'a str,
         options: Options,
     },
+    /// The line on the trial of a number, with the entries in a file.
+    Trial {
+        instructions: &'a str,
+        number: u32,
+    },
 }
 
 impl<'a> Request<'a> {
@@ -59,6 +65,7 @@ impl<'a> Request<'a> {
             (Request::Lift { instructions }, 0..=1) => instructions,
             (Request::Explain { instructions, .. }, 0..=1) => instructions,
             (Request::Explain { kernel, .. }, 2) => kernel,
+            (Request::Trial { instructions, .. }, 0..=1) => instructions,
             _ => "",
         }
     }
@@ -86,6 +93,9 @@ pub fn request_of(words: &Words) -> Option<Request<'_>>
     }
     if command == b"explain".as_slice() {
         return explain_words(words);
+    }
+    if command == b"trial".as_slice() {
+        return trial_words(words);
     }
     None
 }
@@ -161,5 +171,31 @@ fn explain_words(words: &Words) -> Option<Request<'_>>
         instructions: asked.instructions,
         kernel: asked.kernel,
         options: asked.options,
+    })
+}
+
+/// The number of a trial: decimal digits, 0 to 4294967295. None for any other word.
+fn trial_number(digits: &[u8]) -> Option<u32>
+    ensures { result ≡ trial_number digits.now }
+{
+    let number = decimal(digits)?;
+    if number < 1 << 32 {
+        Some(number as u32)
+    } else {
+        None
+    }
+}
+
+fn trial_words(words: &Words) -> Option<Request<'_>>
+    ensures { option_map asked_of result ≡ trial_words (drop 1 words.now) }
+{
+    if words.len() != 3 {
+        return None;
+    }
+    let instructions = plain_word(words.get(1))?;
+    let number = trial_number(words.get(2))?;
+    Some(Request::Trial {
+        instructions,
+        number,
     })
 }

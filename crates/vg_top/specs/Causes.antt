@@ -5,7 +5,7 @@ use Rattle.vg_top.specs.declared.ending.Ending.TheVariants.{Usage, WriteFault}
 use Rattle.vg_top.specs.declared.status.Status.{Status}
 use Rattle.vg_top.specs.declared.status.Status.TheVariants as status
 use Rattle.vg_top.specs.Ending.{status_of}
-use Rattle.vg_request.specs.Request.{Asked, compile, run, eval, lift, explain}
+use Rattle.vg_request.specs.Request.{Asked, compile, run, eval, lift, explain, trial}
 
 -- the commands that read a file of instructions
 abbrev pub reads_instructions : Asked → Bool
@@ -14,6 +14,7 @@ reads_instructions (run instructions program memory bindings) = true
 reads_instructions (eval kernel memory bindings) = false
 reads_instructions (explain instructions kernel choices) = true
 reads_instructions (lift instructions) = true
+reads_instructions (trial instructions number) = true
 
 -- the commands that read a kernel
 abbrev pub reads_kernel : Asked → Bool
@@ -22,6 +23,7 @@ reads_kernel (run instructions program memory bindings) = false
 reads_kernel (eval kernel memory bindings) = true
 reads_kernel (explain instructions kernel choices) = true
 reads_kernel (lift instructions) = false
+reads_kernel (trial instructions number) = false
 
 -- the commands that read a program
 abbrev pub reads_program : Asked → Bool
@@ -30,6 +32,7 @@ reads_program (run instructions program memory bindings) = true
 reads_program (eval kernel memory bindings) = false
 reads_program (explain instructions kernel choices) = false
 reads_program (lift instructions) = false
+reads_program (trial instructions number) = false
 
 -- the commands that bind parameters and run something on a memory
 abbrev pub runs : Asked → Bool
@@ -38,10 +41,11 @@ runs (run instructions program memory bindings) = true
 runs (eval kernel memory bindings) = true
 runs (explain instructions kernel choices) = false
 runs (lift instructions) = false
+runs (trial instructions number) = false
 
 -- A request may end so: its instructions, its kernel, its program are refused only where it reads
--- them, and bindings are refused and runs trap only where it runs something. Words that are no
--- request have one ending.
+-- them, and bindings are refused and runs trap only where it binds parameters and runs something.
+-- Words that are no request have one ending.
 abbrev pub MayEnd : Option Asked → Status → Type 0
 MayEnd None s = s ≡ status.Usage
 MayEnd (Some asked) status.Usage = ⊥

@@ -11,5 +11,6 @@ pub mod Line
 pub mod OnKernel
 pub mod Run
 pub mod Status
+pub mod Trial
 pub mod Verdict
 pub mod Works

@@ -8,11 +8,13 @@ use Rattle.vg_top.specs.declared.ending.Ending.TheVariants.{Usage}
 use Rattle.vg_top.specs.declared.status.Status.{Status}
 use Rattle.vg_top.specs.declared.status.Status.TheVariants as status
 use Rattle.vg_top.specs.Ending.{status_of}
-use Rattle.vg_request.specs.Request.{Asked, compile, run, eval, lift, explain, request_of}
+use Rattle.vg_request.specs.Request.{Asked, compile, run, eval, lift, explain, trial, request_of}
 use Rattle.vg_top.specs.OnKernel.{source_told}
 use Rattle.vg_top.specs.Eval.{evaluated}
 use Rattle.vg_top.specs.Lift.{listed}
 use Rattle.vg_top.specs.Run.{ran}
+use Rattle.vg_top.specs.Trial.{Trial, trial_told}
+use Rattle.vg_trial_line.specs.TrialLine.{IsTrialLine}
 use Rattle.vg_top.specs.Answer.{Source, Answer, Explanation}
 use Rattle.vg_top.specs.Files.{Tells}
 use Rattle.vg_top.specs.Line.{line_of}
@@ -23,14 +25,16 @@ pub data Outcome : Type 0 where
   plan_for : Source → Outcome
   memory_left : List ℕ → Outcome
   listing : List ℕ → Outcome
+  line_on : Trial → Outcome
 
--- the text of a program that means the kernel, the lines on its plan, the memory, or the lines on
--- instances
+-- the text of a program that means the kernel, the lines on its plan, the memory, the lines on
+-- instances, or the line on the trial
 abbrev pub IsAnswer : Outcome → List ℕ → Type 0
 IsAnswer (program_for s) bytes = Answer s bytes
 IsAnswer (plan_for s) bytes = Explanation s bytes
 IsAnswer (memory_left memory) bytes = bytes ≡ memory
 IsAnswer (listing lines) bytes = bytes ≡ lines
+IsAnswer (line_on t) bytes = IsTrialLine t.entries t.number bytes
 
 abbrev pub outcome_of : Held → Asked → Result Outcome Ending
 outcome_of held (compile instructions kernel choices) =
@@ -42,6 +46,8 @@ outcome_of held (run instructions program memory bindings) =
 outcome_of held (eval kernel memory bindings) =
     evaluated held kernel memory bindings >>= λ left. Ok (memory_left left)
 outcome_of held (lift instructions) = listed held instructions >>= λ lines. Ok (listing lines)
+outcome_of held (trial instructions number) =
+    trial_told held instructions number >>= λ t. Ok (line_on t)
 
 -- what is to be written, or the first refusal: of the words, and then of the files in their order
 abbrev pub asked_outcome : Held → Option Asked → Result Outcome Ending

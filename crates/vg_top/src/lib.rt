@@ -14,6 +14,7 @@ pub mod on_kernel;
 pub mod run;
 pub mod status;
 pub mod top;
+pub mod trial;
 
 pub use status::Status;
 pub use top::vegen;

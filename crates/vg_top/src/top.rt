@@ -18,6 +18,7 @@ use crate::message::say;
 use crate::on_kernel::{Task, on_kernel};
 use crate::run::run;
 use crate::status::Status;
+use crate::trial::trial;
 use std::alloc::Global;
 use vg_outside::{Shelf, Sink, Words};
 use vg_request::{Request, request_of};
@@ -64,6 +65,12 @@ fn answer<S: Shelf>(
             },
         ) => eval(alloc, shelf, kernel, memory, bindings),
         Some(Request::Lift { instructions }) => lift(alloc, shelf, instructions),
+        Some(
+            Request::Trial {
+                instructions,
+                number,
+            },
+        ) => trial(alloc, shelf, instructions, number),
         None => Err(Ending::Usage),
     }
 }
@@ -79,6 +86,9 @@ fn answer<S: Shelf>(
 /// one in the file, with its parameters bound by the words, and `eval KERNEL MEMORY name=number ..`
 /// the memory that the kernel leaves. `lift INSTRUCTIONS` writes lines on each instance of the
 /// entries in the file: the canonical term of each lane, and why packs cannot call it.
+/// `trial INSTRUCTIONS N` writes a line on the trial of N, a number below 2^32: how many statements
+/// its kernel has, what the kernel costs and what the program costs that is compiled for it with all
+/// entries in the file, and the sum of the bytes that both leave of its memory.
 ///
 /// All files are read before the one write. What goes wrong is told by the status and by one line
 /// on `err`; a fault of `err` changes no status. Where `shelf` tells what it holds, the status is a

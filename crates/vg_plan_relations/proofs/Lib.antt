@@ -1,0 +1,11 @@
+mod Agreeing
+mod Calling
+mod Exact
+mod Fitting
+mod Held
+mod Loading
+mod Planning
+mod Producing
+mod Rising
+mod TwoSums
+mod Waiting
