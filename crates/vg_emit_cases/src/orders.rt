@@ -9,8 +9,7 @@ use vg_shapes::Node;
 use vg_shapes::Node::{PackAt, UnitAt};
 
 // Two words are copied, then copied in the other order, and a byte is stored.
-const KERNEL: &[u8] =
-    b"kernel turned(p: noalias ptr, q: noalias ptr, x: noalias ptr, k: i8) {
+const KERNEL: &[u8] = b"kernel turned(p: noalias ptr, q: noalias ptr, x: noalias ptr, k: i8) {
   a = load32(x); b = load32(x + 4);
   store32(p, a); store32(p + 4, b);
   store32(q, b); store32(q + 4, a);
