@@ -12,6 +12,10 @@ extension_names =
 abbrev pub extension_place : List ℕ → Option ℕ
 extension_place name = position (bytes_eq name) extension_names
 
+-- the set of all ten
+abbrev pub all_extensions : ℕ
+all_extensions = 1023
+
 -- a set as a number: bit i stands for the extension at place i
 abbrev pub bits_in : Extensions → ℕ
 bits_in e = e.0

@@ -1,7 +1,7 @@
 //! Sets of extensions.
 
 ghost use Rattle.std.specs.Prelude.{⊤, ◌≡◌, ◌^◌, [], ◌∷◌, ◌<◌, codes, option_map, IfSome};
-ghost use Rattle.vg_catalog.specs.Extensions.{bits_in, extension_place};
+ghost use Rattle.vg_catalog.specs.Extensions.{all_extensions, bits_in, extension_place};
 
 use bitflags::{Flag, Flags};
 use vg_text::byte::is_text;
@@ -81,6 +81,13 @@ impl Flags for Extensions {
 }
 
 impl Extensions {
+    /// The set of all extensions. Takes no memory.
+    pub fn every() -> Extensions
+        ensures { bits_in result ≡ all_extensions }
+    {
+        Extensions(1023)
+    }
+
     /// The set of the extension of this name alone. None exactly where no extension has the name.
     /// Takes no memory.
     pub fn from_name(name: &[u8]) -> Option<Extensions>

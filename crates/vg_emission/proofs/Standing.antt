@@ -1,10 +1,10 @@
 -- Each unit stands in a legal order.
-use Rattle.std.proofs.Common.{◌≡◌, ℕ, zero, suc, ◌+◌, ◌-◌, ◌<◌, ◌≤◌, Bool, true, false, List, [], ◌∷◌, ◌++◌, length, map, Option, Some, refl, sym, ap, ◌∙◌, arith, append_assoc, inl, inr}
-use Rattle.std.specs.Prelude.{filter, nat_eq, nat_lt, not, slice_get, sum_by, ◌||◌, ◌==◌, if◌then◌else◌}
+use Rattle.std.proofs.Common.{◌≡◌, ℕ, zero, suc, ◌+◌, ◌-◌, Bool, true, List, [], ◌∷◌, ◌++◌, length, map, Some, refl, sym, ap, ◌∙◌, arith, append_assoc, inl, inr}
+use Rattle.std.specs.Prelude.{filter, nat_eq, not, slice_get, sum_by, ◌||◌, ◌==◌}
 use Rattle.std.specs.List.{flat_map, list_any}
 use Rattle.std.specs.List.Sorted.{IsPermutation}
-use Rattle.std.specs.Option.{is_some, option_map_or}
-use Rattle.std.proofs.lemmas.Bool.{cases_Bool, cond-true, cond-false, eqb-true, eqb-false, ltb-false, true≢false}
+use Rattle.std.specs.Option.{option_map_or}
+use Rattle.std.proofs.lemmas.Bool.{cases_Bool, cond-true, cond-false, eqb-true}
 use Rattle.std.proofs.lemmas.List.{length-append}
 use Rattle.std.proofs.lemmas.List.Concat.{flat_map-append}
 use Rattle.std.proofs.lemmas.List.Sorted.{sum_by-IsPermutation}
@@ -17,11 +17,10 @@ use Rattle.vg_shapes.specs.declared.ssa.Ssa.{Ssa}
 use Rattle.vg_shapes.specs.Nodes.{ArePacks, is_packed, IsOrder, nodes, packed, units_at}
 use Rattle.vg_shapes.specs.Order.{all_units, count_of, numbers_from, one_if, Stands}
 use Rattle.vg_shapes.specs.Pack.{units_of}
-use Rattle.vg_shapes.specs.Units.{arguments, is_unit}
 use Rattle.vg_order_laws.specs.Laws.{AreUnits}
 use Rattle.vg_order_laws.specs.Steps.{unit_numbers}
-use Rattle.vg_order_laws.proofs.Sequences.{count_of-append, count_of-earlier}
-use Rattle.vg_emission.proofs.Jobs.{stands-found}
+use Rattle.vg_order_laws.proofs.Plans.{nodes-have_units}
+use Rattle.vg_order_laws.proofs.Sequences.{count_of-append}
 
 count_of-units : {N : Type 0} (units : N → List ℕ) (x : ℕ) (ns : List N) → count_of x (flat_map units ns) ≡ sum_by (λ n. count_of x (units n)) ns
 count_of-units units x [] = refl
@@ -88,80 +87,8 @@ stands-in-order ssa matches packs order x legal there =
 
 -- ---- and it stands there once
 
--- a number that passes is left as often as it stood, and one that does not is gone
-count_of-kept : (test : ℕ → Bool) (x : ℕ) (ys : List ℕ) → count_of x (filter test ys) ≡ (if test x then count_of x ys else 0)
-count_of-kept test x ys = elim (cases_Bool (test x)) [
-  | inl t ↦ passing ys t ∙ sym (cond-true _ _ _ t)
-  | inr f ↦ failing ys f ∙ sym (cond-false _ _ _ f)
-]
-  where
-    passing : (ys : List ℕ) → test x ≡ true → count_of x (filter test ys) ≡ count_of x ys
-    passing [] t = refl
-    passing (y ∷ ys) t = elim (cases_Bool (test y)) [
-      | inl u ↦ ap (count_of x) (cond-true _ _ _ u) ∙ ap (λ n. one_if (x == y) + n) (passing ys t)
-      | inr f ↦ ap (count_of x) (cond-false _ _ _ f) ∙ passing ys t
-          ∙ elim (cases_Bool (x == y)) [
-            | inl same ↦ absurd (true≢false (sym t ∙ ap test (eqb-true x y same) ∙ f))
-            | inr other ↦ (let none : one_if (x == y) ≡ 0 = ap one_if other in omega arith)
-          ]
-    ]
-
-    failing : (ys : List ℕ) → test x ≡ false → count_of x (filter test ys) ≡ 0
-    failing [] f = refl
-    failing (y ∷ ys) f = elim (cases_Bool (test y)) [
-      | inl u ↦ ap (count_of x) (cond-true _ _ _ u)
-          ∙ elim (cases_Bool (x == y)) [
-            | inl same ↦ absurd (true≢false (sym u ∙ ap test (sym (eqb-true x y same)) ∙ f))
-            | inr other ↦ (let none : one_if (x == y) ≡ 0 = ap one_if other in let rest = failing ys f in omega arith)
-          ]
-      | inr g ↦ ap (count_of x) (cond-false _ _ _ g) ∙ failing ys f
-    ]
-
--- the numbers of units
-count_of-within : (x first n : ℕ) → first ≤ x → x < first + n → count_of x (numbers_from first n) ≡ 1
-count_of-within x first zero low high = absurd (omega arith)
-count_of-within x first (suc n) low high = elim (cases_Bool (x == first)) [
-  | inl t ↦ (let e = eqb-true x first t in let one : one_if (x == first) ≡ 1 = ap one_if t in let none = count_of-earlier x (first + 1) n (omega arith) in omega arith)
-  | inr f ↦ (let e = eqb-false x first f in let none : one_if (x == first) ≡ 0 = ap one_if f in let rest = count_of-within x (first + 1) n (omega arith) (omega arith) in omega arith)
-]
-
-slice_get-some : {A : Type 0} (xs : List A) (k : ℕ) → is_some (slice_get xs k) ≡ true → k < length xs
-slice_get-some [] k e = absurd (cc)
-slice_get-some (x ∷ xs) zero e = omega arith
-slice_get-some (x ∷ xs) (suc k) e = let rest = slice_get-some xs k e in omega arith
-
-count_of-unit : (ssa : Ssa) (x : ℕ) → is_unit ssa x ≡ true → count_of x (unit_numbers ssa) ≡ 1
-count_of-unit ssa x e = elim (cases_Bool (nat_lt x (arguments ssa))) [
-  | inl t ↦ absurd (true≢false (sym e ∙ ap is_some (cond-true _ _ _ t)))
-  | inr f ↦
-      let low = not-less x (arguments ssa) f in
-      let below = slice_get-some ssa.units (x - arguments ssa) (sym (ap is_some (cond-false _ _ _ f)) ∙ e) in
-      count_of-within x (arguments ssa) (length ssa.units) low (omega arith)
-]
-  where
-    not-less : (a b : ℕ) → nat_lt a b ≡ false → b ≤ a
-    not-less a b f = ltb-false a b f
-
 pub orders-have_units : (ssa : Ssa) (matches : List Match) (packs : List Packed) (order : List Node) → ArePacks ssa packs → IsOrder ssa matches packs order → AreUnits ssa (all_units (units_at packs) order)
-orders-have_units ssa matches packs order good legal x =
-    let outside = filter (λ v. not (is_packed packs v)) (unit_numbers ssa) in
-    let all : count_of x (all_units (units_at packs) order) ≡ count_of x (packed packs) + count_of x outside =
-    count_of-permuted (units_at packs) x (nodes ssa packs) order legal.once ∙ ap (count_of x) (node-units ssa packs) ∙ count_of-append x (packed packs) outside in
-    let kept : count_of x outside ≡ (if not (is_packed packs x) then count_of x (unit_numbers ssa) else 0) = count_of-kept (λ v. not (is_packed packs v)) x (unit_numbers ssa) in
-    let most = good.once x in
-    elim (cases_Bool (is_packed packs x)) [
-      | inl t ↦
-          let some = found-stands x (packed packs) t in
-          let gone : count_of x outside ≡ 0 = kept ∙ ap (λ b. if not b then count_of x (unit_numbers ssa) else 0) t in
-          elim (cases_Bool (is_unit ssa x)) [
-            | inl u ↦ (let one = count_of-unit ssa x u in let bound : one_if (is_unit ssa x) ≡ 1 = ap one_if u in omega arith)
-            | inr f ↦ absurd (let bound : one_if (is_unit ssa x) ≡ 0 = ap one_if f in omega arith)
-          ]
-      | inr f ↦
-          let none = stands-found x (packed packs) f in
-          let left : count_of x outside ≡ count_of x (unit_numbers ssa) = kept ∙ ap (λ b. if not b then count_of x (unit_numbers ssa) else 0) f in
-          omega arith
-    ]
+orders-have_units ssa matches packs order good legal = nodes-have_units ssa packs order good legal.once
 
 -- the units in packs and those outside are all units, each once
 pub packed-outside : (ssa : Ssa) (matches : List Match) (packs : List Packed) (order : List Node) → ArePacks ssa packs → IsOrder ssa matches packs order → (x : ℕ) → count_of x (packed packs ++ filter (λ v. not (is_packed packs v)) (unit_numbers ssa)) ≡ count_of x (unit_numbers ssa)

@@ -1,6 +1,6 @@
 -- The entries of files have proper headers and names that differ.
-use Rattle.std.proofs.Common.{◌≡◌, ℕ, ◌≤◌, ◌⊎◌, Bool, true, false, List, [], ◌∷◌, ◌++◌, map, refl, sym, subst, inl, inr, arith}
-use Rattle.std.specs.Prelude.{Option, Some, None, IfSome, codes, ◌&&◌, ◌||◌, ◌==◌, if◌then◌else◌, not}
+use Rattle.std.proofs.Common.{◌≡◌, ℕ, ◌≤◌, Bool, true, false, List, [], ◌∷◌, ◌++◌, map, refl, sym, subst, inl, inr, arith}
+use Rattle.std.specs.Prelude.{Option, Some, None, IfSome, ◌||◌, ◌==◌, if◌then◌else◌, not}
 use Rattle.std.specs.List.{AllByRecursion, IsDistinct}
 use Rattle.std.specs.Str.{bytes_eq}
 use Rattle.std.proofs.lemmas.Bool.{and_parts, cases_Bool}
@@ -15,11 +15,12 @@ use Rattle.vg_pseudo.specs.Words.{is_reserved}
 use Rattle.vg_program.proofs.Steps.{bytes_same, same_bytes}
 use Rattle.vg_catalog.specs.Entries.{Entry, is_known, name_of}
 use Rattle.vg_catalog.specs.Grammar.{AreEntries, AreParams, IsHeader, IsImm}
-use Rattle.vg_catalog.specs.Headers.{first_of, lanes_named, make_lanes, register_named, signed_lanes, unsigned_lanes, whole_lanes}
+use Rattle.vg_catalog.specs.Headers.{register_named}
 use Rattle.vg_catalog.specs.Words.{number_in_word}
 use Rattle.vg_catalog.proofs.FilesFound.{file-found}
 use Rattle.vg_emission.specs.Planned.{IsLaneWidth}
 use Rattle.vg_emission.specs.Truth.{IsRegisterWidth}
+use Rattle.vg_listing.proofs.FileLanes.{named-lanes}
 use Rattle.vg_instances.specs.Laws.{FilesAreProper}
 use Rattle.vg_instances.specs.Proper.{IsProper, NamesDiffer}
 
@@ -45,72 +46,6 @@ named-register (Some k) n bytes e h = (let found = rw e at h in by (k == 128 || 
     by true t f = let same : k ≡ n = cc in subst IsRegisterWidth same (three k t)
     by false t f = absurd (cc)
 
-either : {X : Type 0} (b : Bool) (x y : Option X) (l : X) → (if b then x else y) ≡ Some l → (x ≡ Some l) ⊎ (y ≡ Some l)
-either true x y l e = inl e
-either false x y l e = inr e
-
-first : {X : Type 0} (x y : Option X) (l : X) → first_of x y ≡ Some l → (x ≡ Some l) ⊎ (y ≡ Some l)
-first (Some z) y l e = inl e
-first None y l e = inr e
-
-some-is : {X : Type 0} (x y : X) → Some x ≡ Some y → x ≡ y
-some-is x y e = cc
-
-made : (register w : ℕ) (s : Bool) (l : _) → IsLaneWidth w → make_lanes register w s ≡ Some l → IsLaneWidth l.lane_width
-made register w s l wide e = let same = some-is _ l e in subst IsLaneWidth (λ i. (same i).lane_width) wide
-
-unsigned : (register : ℕ) (bytes : List ℕ) (l : _) → unsigned_lanes register bytes ≡ Some l → IsLaneWidth l.lane_width
-unsigned register bytes l e = elim (either (bytes_eq bytes (codes "UI8")) _ _ l e) [
-  | inl a ↦ made register 8 false l refl a
-  | inr b ↦ elim (either (bytes_eq bytes (codes "UI16")) _ _ l b) [
-    | inl a ↦ made register 16 false l refl a
-    | inr c ↦ elim (either (bytes_eq bytes (codes "UI32")) _ _ l c) [
-      | inl a ↦ made register 32 false l refl a
-      | inr d ↦ elim (either (bytes_eq bytes (codes "UI64")) _ _ l d) [
-        | inl a ↦ made register 64 false l refl a
-        | inr n ↦ absurd (cc)
-      ]
-    ]
-  ]
-]
-
-signed : (register : ℕ) (bytes : List ℕ) (l : _) → signed_lanes register bytes ≡ Some l → IsLaneWidth l.lane_width
-signed register bytes l e = elim (either (bytes_eq bytes (codes "SI8")) _ _ l e) [
-  | inl a ↦ made register 8 true l refl a
-  | inr b ↦ elim (either (bytes_eq bytes (codes "SI16")) _ _ l b) [
-    | inl a ↦ made register 16 true l refl a
-    | inr c ↦ elim (either (bytes_eq bytes (codes "SI32")) _ _ l c) [
-      | inl a ↦ made register 32 true l refl a
-      | inr d ↦ elim (either (bytes_eq bytes (codes "SI64")) _ _ l d) [
-        | inl a ↦ made register 64 true l refl a
-        | inr n ↦ absurd (cc)
-      ]
-    ]
-  ]
-]
-
-whole : (register : ℕ) (bytes : List ℕ) (l : _) → whole_lanes register bytes ≡ Some l → IsLaneWidth l.lane_width
-whole register bytes l e = elim (either (bytes_eq bytes (codes "M128") && register == 128) _ _ l e) [
-  | inl a ↦ made register 64 false l refl a
-  | inr b ↦ elim (either (bytes_eq bytes (codes "M256") && register == 256) _ _ l b) [
-    | inl a ↦ made register 64 false l refl a
-    | inr c ↦ elim (either (bytes_eq bytes (codes "M512") && register == 512) _ _ l c) [
-      | inl a ↦ made register 64 false l refl a
-      | inr n ↦ absurd (cc)
-    ]
-  ]
-]
-
-named-lanes : (register : ℕ) (bytes : List ℕ) (l : _) → lanes_named register bytes ≡ Some l → IsLaneWidth l.lane_width
-named-lanes register bytes l e =
-    elim (first (unsigned_lanes register bytes) (first_of (signed_lanes register bytes) (whole_lanes register bytes)) l e) [
-      | inl a ↦ unsigned register bytes l a
-      | inr b ↦ elim (first (signed_lanes register bytes) (whole_lanes register bytes) l b) [
-        | inl a ↦ signed register bytes l a
-        | inr c ↦ whole register bytes l c
-      ]
-    ]
-
 -- ---- headers
 
 param-widths : (before : List Param) (words : Words) (ps : List Param) → AreParams before words ps → AllByRecursion (λ q. IsRegisterWidth q.register) ps
@@ -127,7 +62,7 @@ header-proper known words h is =
     let c = is.closes in
     record {
       name = subst (λ n. is_name_text n ≡ true) is.is_named (and_parts (is_name_text is.named.bytes) (not (is_reserved is.named.bytes)) is.is_name).0;
-      lane = named-lanes h.register c.etype.bytes _ c.are_lanes.divided;
+      lane = named-lanes IsLaneWidth refl refl refl refl h.register c.etype.bytes _ c.are_lanes.divided;
       register = named-register _ h.register c.register.bytes refl c.are_lanes.width;
       params = param-widths [] is.params h.params is.are_params;
       few = is.few;

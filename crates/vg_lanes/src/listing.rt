@@ -1,6 +1,6 @@
 //! The lines on an instance.
 
-ghost use Rattle.std.specs.Prelude.{◌≡◌, ◌+◌, ◌<◌, ◌++◌, ◌^◌, IfOk, OnOk, length, map};
+ghost use Rattle.std.specs.Prelude.{◌≡◌, ◌+◌, ◌<◌, ◌++◌, ◌^◌, IfOk, OnErr, OnOk, length, map};
 ghost use Rattle.std.specs.Fmt.{decimal};
 ghost use Rattle.vg_shapes.specs.Lane.{lane_of};
 ghost use Rattle.vg_lanes.specs.Described.{AreLanes, cause_of, immediate};
@@ -137,11 +137,7 @@ fn put_last_line(to: &mut Vec<u8>, cause: Option<Cause>) -> Result<(), AllocErro
     }
 }
 
-/// Appends the lines on an instance of this entry, whose immediate is `imm` if it has one, by its
-/// lanes as they were lifted: `instruction NAME`, with ` imm N` behind it; for each lane
-/// `lane N TERM`, with the canonical form of its term, `lane N too large` or `lane N dynamic`; and
-/// `not packable CAUSE` where packs cannot call it. Each line ends with a line feed.
-pub fn list_instance(
+fn write_instance(
     alloc: Global,
     header: &Header,
     imm: u8,
@@ -157,4 +153,25 @@ pub fn list_instance(
     put_first_line(alloc, to, header, imm)?;
     put_lane_lines(alloc, to, &names, forms.as_slice())?;
     put_last_line(to, cause)
+}
+
+/// Appends the lines on an instance of this entry, whose immediate is `imm` if it has one, by its
+/// lanes as they were lifted: `instruction NAME`, with ` imm N` behind it; for each lane
+/// `lane N TERM`, with the canonical form of its term, `lane N too large` or `lane N dynamic`; and
+/// `not packable CAUSE` where packs cannot call it. Each line ends with a line feed. Where memory is
+/// short nothing is appended.
+pub fn list_instance(
+    alloc: Global,
+    header: &Header,
+    imm: u8,
+    lanes: Vec<Lane>,
+    to: &mut Vec<u8>,
+) -> Result<(), AllocError>
+    requires { AreLanes header.now (map lane_of lanes.items) }
+    ensures done { OnOk result (to.new.items ≡ to.old.items ++ instance_text header.now imm (map lane_of lanes.items)) }
+    ensures refused { OnErr result (to.new.items ≡ to.old.items) }
+{
+    let mut whole = Vec::new(alloc);
+    write_instance(alloc, header, imm, lanes, &mut whole)?;
+    to.extend_from_slice(whole.as_slice())
 }

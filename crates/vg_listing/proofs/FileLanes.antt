@@ -48,60 +48,62 @@ first None y l e = inr e
 some-is : {X : Type 0} (x y : X) → Some x ≡ Some y → x ≡ y
 some-is x y e = cc
 
-made : (register w : ℕ) (s : Bool) (l : _) → IsWide w → make_lanes register w s ≡ Some l → IsWide l.lane_width
-made register w s l wide e = let same = some-is _ l e in subst IsWide (λ i. (same i).lane_width) wide
+-- what holds of the four widths of lanes holds of the width that a header names
+module _ (P : ℕ → Type 0) (eight : P 8) (sixteen : P 16) (thirty-two : P 32) (sixty-four : P 64) where
+  made : (register w : ℕ) (s : Bool) (l : _) → P w → make_lanes register w s ≡ Some l → P l.lane_width
+  made register w s l wide e = let same = some-is _ l e in subst P (λ i. (same i).lane_width) wide
 
-unsigned : (register : ℕ) (bytes : List ℕ) (l : _) → unsigned_lanes register bytes ≡ Some l → IsWide l.lane_width
-unsigned register bytes l e = elim (either (bytes_eq bytes (codes "UI8")) _ _ l e) [
-  | inl a ↦ made register 8 false l wide-8 a
-  | inr b ↦ elim (either (bytes_eq bytes (codes "UI16")) _ _ l b) [
-    | inl a ↦ made register 16 false l wide-16 a
-    | inr c ↦ elim (either (bytes_eq bytes (codes "UI32")) _ _ l c) [
-      | inl a ↦ made register 32 false l wide-32 a
-      | inr d ↦ elim (either (bytes_eq bytes (codes "UI64")) _ _ l d) [
-        | inl a ↦ made register 64 false l wide-64 a
+  unsigned : (register : ℕ) (bytes : List ℕ) (l : _) → unsigned_lanes register bytes ≡ Some l → P l.lane_width
+  unsigned register bytes l e = elim (either (bytes_eq bytes (codes "UI8")) _ _ l e) [
+    | inl a ↦ made register 8 false l eight a
+    | inr b ↦ elim (either (bytes_eq bytes (codes "UI16")) _ _ l b) [
+      | inl a ↦ made register 16 false l sixteen a
+      | inr c ↦ elim (either (bytes_eq bytes (codes "UI32")) _ _ l c) [
+        | inl a ↦ made register 32 false l thirty-two a
+        | inr d ↦ elim (either (bytes_eq bytes (codes "UI64")) _ _ l d) [
+          | inl a ↦ made register 64 false l sixty-four a
+          | inr n ↦ absurd (cc)
+        ]
+      ]
+    ]
+  ]
+
+  signed : (register : ℕ) (bytes : List ℕ) (l : _) → signed_lanes register bytes ≡ Some l → P l.lane_width
+  signed register bytes l e = elim (either (bytes_eq bytes (codes "SI8")) _ _ l e) [
+    | inl a ↦ made register 8 true l eight a
+    | inr b ↦ elim (either (bytes_eq bytes (codes "SI16")) _ _ l b) [
+      | inl a ↦ made register 16 true l sixteen a
+      | inr c ↦ elim (either (bytes_eq bytes (codes "SI32")) _ _ l c) [
+        | inl a ↦ made register 32 true l thirty-two a
+        | inr d ↦ elim (either (bytes_eq bytes (codes "SI64")) _ _ l d) [
+          | inl a ↦ made register 64 true l sixty-four a
+          | inr n ↦ absurd (cc)
+        ]
+      ]
+    ]
+  ]
+
+  whole : (register : ℕ) (bytes : List ℕ) (l : _) → whole_lanes register bytes ≡ Some l → P l.lane_width
+  whole register bytes l e = elim (either (bytes_eq bytes (codes "M128") && register == 128) _ _ l e) [
+    | inl a ↦ made register 64 false l sixty-four a
+    | inr b ↦ elim (either (bytes_eq bytes (codes "M256") && register == 256) _ _ l b) [
+      | inl a ↦ made register 64 false l sixty-four a
+      | inr c ↦ elim (either (bytes_eq bytes (codes "M512") && register == 512) _ _ l c) [
+        | inl a ↦ made register 64 false l sixty-four a
         | inr n ↦ absurd (cc)
       ]
     ]
   ]
-]
 
-signed : (register : ℕ) (bytes : List ℕ) (l : _) → signed_lanes register bytes ≡ Some l → IsWide l.lane_width
-signed register bytes l e = elim (either (bytes_eq bytes (codes "SI8")) _ _ l e) [
-  | inl a ↦ made register 8 true l wide-8 a
-  | inr b ↦ elim (either (bytes_eq bytes (codes "SI16")) _ _ l b) [
-    | inl a ↦ made register 16 true l wide-16 a
-    | inr c ↦ elim (either (bytes_eq bytes (codes "SI32")) _ _ l c) [
-      | inl a ↦ made register 32 true l wide-32 a
-      | inr d ↦ elim (either (bytes_eq bytes (codes "SI64")) _ _ l d) [
-        | inl a ↦ made register 64 true l wide-64 a
-        | inr n ↦ absurd (cc)
+  pub named-lanes : (register : ℕ) (bytes : List ℕ) (l : _) → lanes_named register bytes ≡ Some l → P l.lane_width
+  named-lanes register bytes l e =
+      elim (first (unsigned_lanes register bytes) (first_of (signed_lanes register bytes) (whole_lanes register bytes)) l e) [
+        | inl a ↦ unsigned register bytes l a
+        | inr b ↦ elim (first (signed_lanes register bytes) (whole_lanes register bytes) l b) [
+          | inl a ↦ signed register bytes l a
+          | inr c ↦ whole register bytes l c
+        ]
       ]
-    ]
-  ]
-]
-
-whole : (register : ℕ) (bytes : List ℕ) (l : _) → whole_lanes register bytes ≡ Some l → IsWide l.lane_width
-whole register bytes l e = elim (either (bytes_eq bytes (codes "M128") && register == 128) _ _ l e) [
-  | inl a ↦ made register 64 false l wide-64 a
-  | inr b ↦ elim (either (bytes_eq bytes (codes "M256") && register == 256) _ _ l b) [
-    | inl a ↦ made register 64 false l wide-64 a
-    | inr c ↦ elim (either (bytes_eq bytes (codes "M512") && register == 512) _ _ l c) [
-      | inl a ↦ made register 64 false l wide-64 a
-      | inr n ↦ absurd (cc)
-    ]
-  ]
-]
-
-named-lanes : (register : ℕ) (bytes : List ℕ) (l : _) → lanes_named register bytes ≡ Some l → IsWide l.lane_width
-named-lanes register bytes l e =
-    elim (first (unsigned_lanes register bytes) (first_of (signed_lanes register bytes) (whole_lanes register bytes)) l e) [
-      | inl a ↦ unsigned register bytes l a
-      | inr b ↦ elim (first (signed_lanes register bytes) (whole_lanes register bytes) l b) [
-        | inl a ↦ signed register bytes l a
-        | inr c ↦ whole register bytes l c
-      ]
-    ]
 
 -- lanes of each width fill a register
 abbrev IsFilled : ℕ → Type 0
@@ -130,7 +132,7 @@ named-register (Some k) n bytes e h = (let found = rw e at h in by (k == 128 || 
 header-lanes : (known : List ℕ → Bool) (words : Words) (h : Header) → IsHeader known words h → HasLanes h
 header-lanes known words h is =
     let c = is.closes in
-    let wide = named-lanes h.register c.etype.bytes _ c.are_lanes.divided in
+    let wide = named-lanes IsWide wide-8 wide-16 wide-32 wide-64 h.register c.etype.bytes _ c.are_lanes.divided in
     record {
       width = (wide.some, wide.few);
       fill = named-register _ h.register c.register.bytes refl c.are_lanes.width h.lane_width wide;

@@ -1,6 +1,6 @@
 //! The text of a program.
 
-ghost use Rattle.std.specs.Prelude.{◌≡◌, ◌+◌, ◌^◌, ◌<◌, ◌≤◌, ◌++◌, IfOk, OnOk, slice_get, codes};
+ghost use Rattle.std.specs.Prelude.{◌≡◌, ◌+◌, ◌^◌, ◌<◌, ◌≤◌, ◌++◌, IfOk, OnErr, OnOk, slice_get, codes};
 ghost use Rattle.std.specs.Fmt.{decimal, signed_decimal};
 ghost use Rattle.vg_program.specs.Params.{pointers, integers, name_of};
 ghost use Rattle.vg_program.specs.Before.{counted};
@@ -54,9 +54,10 @@ fn integer_name(params: &[Param], number: u32) -> &[u8]
     b""
 }
 
-/// Appends a number in decimal digits.
+/// Appends a number in decimal digits, or nothing where memory is short.
 pub fn put_number(alloc: Global, to: &mut Vec<u8>, number: u64) -> Result<(), AllocError>
-    ensures { OnOk result (to.new.items ≡ to.old.items ++ decimal number) }
+    ensures done { OnOk result (to.new.items ≡ to.old.items ++ decimal number) }
+    ensures refused { OnErr result (to.new.items ≡ to.old.items) }
 {
     let digits = number.to_string(alloc)?;
     to.extend_from_slice(digits.as_bytes())?;
@@ -104,8 +105,7 @@ fn put_params(alloc: Global, to: &mut Vec<u8>, params: &[Param]) -> Result<(), A
     Ok(())
 }
 
-/// Appends an address as programs write it: the name of its pointer and the offset with its sign.
-pub fn put_address(
+fn write_address(
     alloc: Global,
     to: &mut Vec<u8>,
     params: &[Param],
@@ -120,6 +120,22 @@ pub fn put_address(
     let offset = address.offset.to_string(alloc)?;
     to.extend_from_slice(offset.as_bytes())?;
     Ok(())
+}
+
+/// Appends an address as programs write it: the name of its pointer and the offset with its sign. Where
+/// memory is short nothing is appended.
+pub fn put_address(
+    alloc: Global,
+    to: &mut Vec<u8>,
+    params: &[Param],
+    address: Address,
+) -> Result<(), AllocError>
+    ensures done { OnOk result (to.new.items ≡ to.old.items ++ address_text params.now address) }
+    ensures refused { OnErr result (to.new.items ≡ to.old.items) }
+{
+    let mut whole = Vec::new(alloc);
+    write_address(alloc, &mut whole, params, address)?;
+    to.extend_from_slice(whole.as_slice())
 }
 
 fn put_scalar(alloc: Global, to: &mut Vec<u8>, number: u64) -> Result<(), AllocError>
@@ -226,15 +242,25 @@ fn put_lane(alloc: Global, to: &mut Vec<u8>, register: u32, lane: u32) -> Result
     put_number(alloc, to, lane as u64)
 }
 
-/// Appends ` imm N`, or nothing where there is no immediate.
-pub fn put_imm(alloc: Global, to: &mut Vec<u8>, imm: Option<u8>) -> Result<(), AllocError>
-    ensures { OnOk result (to.new.items ≡ to.old.items ++ imm_text imm) }
+/// The text of an immediate, ` imm N`, or nothing where there is none.
+fn imm_text(alloc: Global, imm: Option<u8>) -> Result<Vec<u8>, AllocError>
+    ensures { IfOk result (λ text. text.items ≡ imm_text imm) }
 {
+    let mut text = Vec::new(alloc);
     if let Some(number) = imm {
-        to.extend_from_slice(b" imm ")?;
-        put_number(alloc, to, number as u64)?;
+        text.extend_from_slice(b" imm ")?;
+        put_number(alloc, &mut text, number as u64)?;
     }
-    Ok(())
+    Ok(text)
+}
+
+/// Appends ` imm N`, or nothing where there is no immediate. Where memory is short nothing is appended.
+pub fn put_imm(alloc: Global, to: &mut Vec<u8>, imm: Option<u8>) -> Result<(), AllocError>
+    ensures done { OnOk result (to.new.items ≡ to.old.items ++ imm_text imm) }
+    ensures refused { OnErr result (to.new.items ≡ to.old.items) }
+{
+    let text = imm_text(alloc, imm)?;
+    to.extend_from_slice(text.as_slice())
 }
 
 fn put_operands(
@@ -246,9 +272,9 @@ fn put_operands(
     ensures { OnOk result (to.new.items ≡ to.old.items ++ operands_text params.now line.now) }
 {
     match line {
-        Line::Load { address, .. } => put_address(alloc, to, params, *address)?,
+        Line::Load { address, .. } => write_address(alloc, to, params, *address)?,
         Line::Store { address, value, .. } => {
-            put_address(alloc, to, params, *address)?;
+            write_address(alloc, to, params, *address)?;
             to.extend_from_slice(b" ")?;
             put_operand(alloc, to, params, *value)?;
         }
@@ -276,7 +302,7 @@ fn put_operands(
         }
         Line::VectorLoad { size, address } => {
             put_sized(alloc, to, *size)?;
-            put_address(alloc, to, params, *address)?;
+            write_address(alloc, to, params, *address)?;
         }
         Line::VectorStore {
             size,
@@ -284,7 +310,7 @@ fn put_operands(
             register,
         } => {
             put_sized(alloc, to, *size)?;
-            put_address(alloc, to, params, *address)?;
+            write_address(alloc, to, params, *address)?;
             to.extend_from_slice(b" ")?;
             put_vector(alloc, to, *register as u64)?;
         }

@@ -2,7 +2,7 @@
 use Rattle.std.specs.Prelude.{ℕ, ◌&&◌, List, [], ◌∷◌, Option, Some, None, ◌^◌, nat_le, bit_or, if◌then◌else◌}
 use Rattle.std.specs.Option.{option_and_then, option_map}
 use Rattle.vg_text.specs.Number.{decimal_value}
-use Rattle.vg_catalog.specs.Extensions.{extension_place, bits_in}
+use Rattle.vg_catalog.specs.Extensions.{all_extensions, extension_place, bits_in}
 use Rattle.vg_request.specs.declared.options.Options.{Options}
 use Rattle.vg_request.specs.declared.reading.OnKernel.{OnKernel}
 use Rattle.vg_request.specs.Parts.{Part, parts_of, widths_in, extensions_in, words_in}
@@ -16,10 +16,6 @@ pub record Choices : Type 0 where
 -- the width where none is given
 abbrev pub usual_width : ℕ
 usual_width = 32
-
--- the set of all ten extensions
-abbrev pub all_extensions : ℕ
-all_extensions = 1023
 
 -- the number of a width: 1 to 4096
 abbrev pub width_number : List ℕ → Option ℕ

@@ -7,7 +7,8 @@ use Rattle.vg_request.specs.declared.reading.Files.{Files}
 use Rattle.vg_request.specs.declared.reading.Files.TheVariants as files
 use Rattle.vg_request.specs.declared.reading.Reading.{Reading}
 use Rattle.vg_request.specs.Parts.{Part, width, extension, word}
-use Rattle.vg_request.specs.Options.{KernelAsked, usual_width, all_extensions, width_number, extension_named, two_files}
+use Rattle.vg_catalog.specs.Extensions.{all_extensions}
+use Rattle.vg_request.specs.Options.{KernelAsked, usual_width, width_number, extension_named, two_files}
 
 pub record Read : Type 0 where
   pub width : Option ℕ

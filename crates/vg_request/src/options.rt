@@ -1,10 +1,8 @@
 //! What the options of a command say.
 
 ghost use Rattle.std.specs.Prelude.{◌≡◌};
-ghost use Rattle.vg_catalog.specs.Extensions.{bits_in};
-ghost use Rattle.vg_request.specs.Options.{all_extensions, width_number, usual_width, Choices, choices_seen};
+ghost use Rattle.vg_request.specs.Options.{width_number, usual_width, Choices, choices_seen};
 
-use bitflags::Flags;
 use vg_catalog::Extensions;
 use vg_text::decimal;
 
@@ -20,13 +18,6 @@ pub struct Options {
 
 /// The width of the search where the words give none.
 pub(crate) const USUAL_WIDTH: u32 = 32;
-
-/// The set of all extensions.
-pub(crate) fn all_extensions() -> Extensions
-    ensures { bits_in result ≡ all_extensions }
-{
-    Extensions::from_bits_retain(1023)
-}
 
 /// The number of a width: decimal digits, 1 to 4096.
 pub(crate) fn width_number(text: &str) -> Option<u32>

@@ -7,7 +7,7 @@ ghost use Rattle.vg_request.specs.Options.{kernel_asked, kernel_seen};
 ghost use Rattle.vg_request.specs.Reading.{more_width, more_allowed, more_files, with_part, read_on, nothing_read, asked_by, files_seen, read_seen};
 ghost use Rattle.vg_catalog.specs.Extensions.{bits_in};
 
-use crate::options::{Options, USUAL_WIDTH, all_extensions, width_number};
+use crate::options::{Options, USUAL_WIDTH, width_number};
 use crate::part::{Part, first_part};
 use bitflags::Flags;
 use vg_catalog::Extensions;
@@ -110,7 +110,7 @@ impl<'a> Reading<'a> {
         };
         let options = Options {
             width: self.width.unwrap_or(USUAL_WIDTH),
-            allowed: self.allowed.unwrap_or(all_extensions()),
+            allowed: self.allowed.unwrap_or(Extensions::every()),
         };
         Some(OnKernel {
             instructions,

@@ -2,6 +2,7 @@
 use Rattle.std.proofs.Common.{◌≡◌, ◌%◌, ◌^◌, ℕ, List, [], length, Some, Ok, sum, sym, ◌∙◌, ap, subst}
 use Rattle.vg_catalog.specs.Called.{called_by}
 use Rattle.vg_catalog.specs.Entries.{Entry}
+use Rattle.vg_catalog.specs.Extensions.{all_extensions}
 use Rattle.vg_compile.specs.Compiled.{IsCompiled}
 use Rattle.vg_kernel.specs.Cost.{scalar_cost}
 use Rattle.vg_kernel.specs.Meaning as of_kernels
@@ -12,7 +13,7 @@ use Rattle.vg_program.specs.Cost.{cost_of}
 use Rattle.vg_program.specs.Meaning as of_programs
 use Rattle.vg_trial.specs.Trial.{kernel_text, memory}
 use Rattle.vg_trial.specs.TrialKernel.{kernel, places}
-use Rattle.vg_trial_line.specs.TrialLine.{IsTrialLine, all_extensions, width, trial_text}
+use Rattle.vg_trial_line.specs.TrialLine.{IsTrialLine, width, trial_text}
 
 -- a line with numbers that are those of the kernel, of the program and of what both leave
 pub told : (entries : List Entry) (n set : ℕ) (k : Tree) (p : Program) (left text : List ℕ) (statements scalar sum_left : ℕ) → kernel_of (kernel_text n) ≡ Ok k → k ≡ kernel n → set ≡ all_extensions → IsCompiled entries set k width p

@@ -3,6 +3,7 @@ use Rattle.std.specs.Prelude.{◌≡◌, ℕ, ◌%◌, ◌^◌, List, [], ◌++�
 use Rattle.std.specs.Fmt.{decimal}
 use Rattle.vg_catalog.specs.Called.{called_by}
 use Rattle.vg_catalog.specs.Entries.{Entry}
+use Rattle.vg_catalog.specs.Extensions.{all_extensions}
 use Rattle.vg_compile.specs.Compiled.{IsCompiled}
 use Rattle.vg_kernel.specs.Cost.{scalar_cost}
 use Rattle.vg_kernel.specs.Meaning as of_kernels
@@ -13,10 +14,6 @@ use Rattle.vg_program.specs.Cost.{cost_of}
 use Rattle.vg_program.specs.Meaning as of_programs
 use Rattle.vg_trial.specs.Trial.{kernel_text, memory}
 use Rattle.vg_trial.specs.TrialKernel.{places}
-
--- the set of all ten extensions
-abbrev pub all_extensions : ℕ
-all_extensions = 1023
 
 -- how many plans of each size the search keeps
 abbrev pub width : ℕ

@@ -2,17 +2,15 @@
 
 ghost use Rattle.std.specs.Prelude.{◌≡◌, IfOk};
 ghost use Rattle.vg_catalog.specs.Catalogs.{entries_in};
-ghost use Rattle.vg_catalog.specs.Extensions.{bits_in};
 ghost use Rattle.vg_catalog.specs.Written.{AllWritten};
 ghost use Rattle.vg_instances.specs.Proper.{AreProper};
 ghost use Rattle.vg_listing.specs.Listed.{HaveLanes};
-ghost use Rattle.vg_trial_line.specs.TrialLine.{IsTrialLine, all_extensions};
+ghost use Rattle.vg_trial_line.specs.TrialLine.{IsTrialLine};
 
 use crate::kernel::trial_kernel;
 use crate::runs::{left_by_kernel, left_by_program};
 use crate::sum::sum_of;
 use crate::text::{Figures, print_line};
-use bitflags::Flags;
 use std::alloc::{AllocError, Global};
 use vg_catalog::{Catalog, Extensions};
 use vg_compile::compile;
@@ -20,13 +18,6 @@ use vg_kernel::scalar_cost;
 
 /// How many plans of each size the search for the program keeps.
 const WIDTH: u32 = 32;
-
-/// The set of all extensions.
-fn all_extensions() -> Extensions
-    ensures { bits_in result ≡ all_extensions }
-{
-    Extensions::from_bits_retain(1023)
-}
 
 /// The line on the trial of a number: how many statements its kernel has, what the kernel costs and
 /// what the program costs that is compiled for it with all entries, and the sum of the bytes that
@@ -41,7 +32,8 @@ pub fn trial_line(alloc: Global, catalog: &Catalog, number: u32) -> Result<Vec<u
     ensures { IfOk result (λ bytes. IsTrialLine (entries_in catalog.now) number bytes.items) }
 {
     let kernel = trial_kernel(alloc, number)?;
-    let program = compile(alloc, catalog, all_extensions(), &kernel, WIDTH)?;
+    let every = Extensions::every();
+    let program = compile(alloc, catalog, every, &kernel, WIDTH)?;
     let by_kernel = left_by_kernel(alloc, &kernel, number)?;
     let left = left_by_program(alloc, catalog, &program, number)?;
     prove!(left.as_slice() == by_kernel.as_slice());

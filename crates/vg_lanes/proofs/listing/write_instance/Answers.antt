@@ -4,7 +4,7 @@ use Rattle.vg_shapes.specs.Lane.{lane_of}
 use Rattle.vg_lanes.specs.Described.{cause_of}
 use Rattle.vg_lanes.specs.Listing.{first_line, lane_lines, last_line}
 use Rattle.vg_lanes.proofs.Lanes.{formed-lanes, listed-by, put-lines}
-use Rattle.vg_lanes.proofs.listing.list_instance.Goals as goal
+use Rattle.vg_lanes.proofs.listing.write_instance.Goals as goal
 
 pub canonical_lanes-requires : goal.canonical_lanes-requires
 canonical_lanes-requires c = formed-lanes c.args.header.now c.args.lanes.items c.requires.each
