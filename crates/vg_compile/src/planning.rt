@@ -51,8 +51,7 @@ pub(crate) fn plan_units(
     let table = build(alloc, descriptions, ssa)?;
     let deps = depends(alloc, ssa)?;
     let plan = choose(alloc, descriptions, &table, ssa, &deps, width)?;
-    let packs = plain_plan(alloc, descriptions, &table, ssa, &deps)?;
-    let plain = Plan::from_vec(packs);
+    let plain = plain_plan(alloc, descriptions, &table, ssa, &deps)?;
     let cost = plan_cost(alloc, &plan, descriptions, &table, ssa)?;
     let plain_cost = plan_cost(alloc, &plain, descriptions, &table, ssa)?;
     Ok(Planned {

@@ -47,9 +47,8 @@ fn push_producers(
     Ok(())
 }
 
-/// Appends the packs that produce what a pack takes. Where it has more than 64 loads or stores, or more
-/// than some 2^24 lanes, there is no memory.
-pub fn push_produced(
+/// Appends the packs that produce what a pack takes.
+fn push_produced(
     alloc: Global,
     packs: &mut Vec<Pack>,
     descriptions: &[Description],
@@ -62,6 +61,23 @@ pub fn push_produced(
 {
     let operands = taken_by(alloc, descriptions, table, ssa, pack)?;
     push_producers(alloc, packs, descriptions, table, ssa, operands.as_slice())
+}
+
+/// The packs that produce what a pack takes. Where it has more than 64 loads or stores, or more than
+/// some 2^24 lanes, there is no memory.
+pub fn produced(
+    alloc: Global,
+    descriptions: &[Description],
+    table: &MatchTable,
+    ssa: &Ssa,
+    pack: &Pack,
+) -> Result<Vec<Pack>, AllocError>
+    requires near { MatchesNear table.now }
+    ensures { IfOk result (λ packs. packs.items ≡ flat_map (producers (map description_of descriptions.now) table.now ssa.now) (operands_of (map description_of descriptions.now) table.now ssa.now pack.now)) }
+{
+    let mut packs = Vec::new(alloc);
+    push_produced(alloc, &mut packs, descriptions, table, ssa, pack)?;
+    Ok(packs)
 }
 
 /// The packs that are tried behind a plan: the store groups of the kernel, then for each pack of the plan

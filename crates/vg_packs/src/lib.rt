@@ -18,7 +18,7 @@ mod producing;
 mod taking;
 mod walk;
 
-pub use follows::{compatible, push_produced, tried};
+pub use follows::{compatible, produced, tried};
 pub use groups::store_groups;
 pub use law::{dependences_are_earlier, store_groups_are_listed};
 pub use plain::plain_plan;

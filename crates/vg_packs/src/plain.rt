@@ -20,7 +20,7 @@ use std::alloc::{AllocError, Global};
 use std::collections::VecDeque;
 use vg_packing::held::holds;
 use vg_packing::wants::is_constant;
-use vg_shapes::{DepList, Description, MatchTable, Operand, Pack, Ssa};
+use vg_shapes::{DepList, Description, MatchTable, Operand, Pack, Plan, Ssa};
 
 /// The greatest number of units of a kernel that has a plain plan.
 const MOST: usize = 1 << 24;
@@ -177,10 +177,8 @@ fn turn(
     }
 }
 
-/// The plain plan of a kernel: each store group with which it stays a plan, then for each operand that
-/// waits, first in, first out, the first pack that produces it and with which it stays a plan. The
-/// dependences name earlier units alone, as those of a kernel do. Where a kernel has more than some 2^24 units there is no memory.
-pub fn plain_plan(
+/// The packs of the plain plan of a kernel.
+fn plain_packs(
     alloc: Global,
     descriptions: &[Description],
     table: &MatchTable,
@@ -219,4 +217,24 @@ pub fn plain_plan(
         }
     }
     Ok(plan)
+}
+
+/// The plain plan of a kernel: each store group with which it stays a plan, then for each operand that
+/// waits, first in, first out, the first pack that produces it and with which it stays a plan. The
+/// dependences name earlier units alone, as those of a kernel do. Where a kernel has more than some
+/// 2^24 units there is no memory.
+pub fn plain_plan(
+    alloc: Global,
+    descriptions: &[Description],
+    table: &MatchTable,
+    ssa: &Ssa,
+    deps: &DepList,
+) -> Result<Plan, AllocError>
+    requires near { MatchesNear table.now }
+    requires earlier { NameEarlierUnits ssa.now deps.now }
+    ensures plain { IfOk result (λ plan. plan ≡ plain_of (map description_of descriptions.now) table.now ssa.now deps.now) }
+    ensures free { IfOk result (λ plan. IsFree table.now ssa.now deps.now plan) }
+{
+    let packs = plain_packs(alloc, descriptions, table, ssa, deps)?;
+    Ok(Plan::from_vec(packs))
 }

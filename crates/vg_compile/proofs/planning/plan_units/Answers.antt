@@ -47,9 +47,9 @@ plan_cost-requires-clause-short c =
 pub plan_cost-requires-2-clause-short : goal.plan_cost-requires-2-clause-short
 plan_cost-requires-2-clause-short c =
     let ds = map description_of c.args.descriptions.now in
-    plain_short ds c.in_ok-table.table c.args.ssa.now c.in_ok-deps.deps c.from_vec-plain.result
+    plain_short ds c.in_ok-table.table c.args.ssa.now c.in_ok-deps.deps c.in_ok-plain.plain
     (known ds c.in_ok-table.table c.args.ssa.now c.requires.sound c.requires.callable c.in_ok-table.ensures.matches)
-    (c.from_vec-plain.ensures ∙ c.in_ok-packs.ensures.plain)
+    c.in_ok-plain.ensures.plain
 
 pub returns : goal.returns
 returns c =
@@ -61,5 +61,5 @@ returns c =
     c.in_ok-plan.ensures.plan c.in_ok-plan.ensures.chosen in
     planned-is ds matches ssa c.args.width c.in_ok-plan.plan c.in_ok-cost.cost c.in_ok-plain_cost.plain_cost all c.in_ok-table.ensures.order picked
     (c.in_ok-cost.ensures.cost (dependences ssa))
-    (plain-cost ds matches ssa c.in_ok-deps.deps c.from_vec-plain.result c.in_ok-plain_cost.plain_cost c.in_ok-deps.ensures.exact
-    (c.from_vec-plain.ensures ∙ c.in_ok-packs.ensures.plain) (c.in_ok-plain_cost.ensures.cost (dependences ssa)))
+    (plain-cost ds matches ssa c.in_ok-deps.deps c.in_ok-plain.plain c.in_ok-plain_cost.plain_cost c.in_ok-deps.ensures.exact
+    c.in_ok-plain.ensures.plain (c.in_ok-plain_cost.ensures.cost (dependences ssa)))

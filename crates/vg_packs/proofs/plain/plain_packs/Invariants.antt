@@ -3,7 +3,7 @@ use Rattle.vg_packing.specs.Packing.{packing, plain_of}
 use Rattle.vg_plans.specs.PlainPlan.{walk}
 use Rattle.vg_shapes.specs.Description.{description_of}
 use Rattle.vg_packs.specs.Walk.{IsFree}
-use Rattle.vg_packs.proofs.plain.plain_plan.Given as goal
+use Rattle.vg_packs.proofs.plain.plain_packs.Given as goal
 
 abbrev pub invariant-turns : goal.invariant-turns
 invariant-turns l = record {
