@@ -19,7 +19,7 @@ use crate::packs::copy_pack;
 use std::alloc::{AllocError, Global};
 use vg_base::Items;
 use vg_packing::same::is_same_pack;
-use vg_packs::push_produced;
+use vg_packs::produced;
 use vg_shapes::{Description, MatchTable, Pack, Ssa};
 
 /// The greatest number of packs.
@@ -140,15 +140,7 @@ impl Board {
         if self.is_open(number) {
             return Ok(());
         }
-        let mut packs = Vec::new(alloc);
-        push_produced(
-            alloc,
-            &mut packs,
-            descriptions,
-            table,
-            ssa,
-            self.pack(number),
-        )?;
+        let packs = produced(alloc, descriptions, table, ssa, self.pack(number))?;
         let numbers = self.number_all(alloc, packs.as_slice(), descriptions, table, ssa)?;
         self.produced[number as usize] = Some(Items::from_vec(numbers));
         Ok(())

@@ -46,8 +46,7 @@ pub(crate) fn first_plan(
     ensures cost { IfOk result (λ first. first.cost ≡ cost_of (map description_of
         descriptions.now) table.now ssa.now deps.now first.plan) }
 {
-    let packs = plain_plan(alloc, descriptions, table, ssa, deps)?;
-    let plain = Plan::from_vec(packs);
+    let plain = plain_plan(alloc, descriptions, table, ssa, deps)?;
     let empty = Plan::from_vec(Vec::new(alloc));
     let plain_cost = plan_cost(alloc, &plain, descriptions, table, ssa)?;
     let empty_cost = plan_cost(alloc, &empty, descriptions, table, ssa)?;

@@ -10,12 +10,12 @@ use Rattle.vg_beam.proofs.priced_plan.first_plan.Goals as goal
 
 pub plan_cost-requires-clause-short : goal.plan_cost-requires-clause-short
 plan_cost-requires-clause-short c =
-    subst (AllByRecursion IsShort) (sym (c.from_vec-plain.ensures ∙ c.in_ok-packs.ensures.plain))
+    subst (AllByRecursion IsShort) (sym (c.in_ok-plain.ensures.plain))
     (c.requires.short (plain_of (map description_of c.args.descriptions.now) c.args.table.now c.args.ssa.now c.args.deps.now) (plain-plan (packing (map description_of c.args.descriptions.now) c.args.table.now c.args.ssa.now c.args.deps.now) (2 * length c.args.ssa.now.units)))
 
 pub returns-then-plain_cost-empty_cost-clause-plan : goal.returns-then-plain_cost-empty_cost-clause-plan
 returns-then-plain_cost-empty_cost-clause-plan c =
-    let e = c.from_vec-plain.ensures ∙ c.in_ok-packs.ensures.plain in
+    let e = c.in_ok-plain.ensures.plain in
     let f = c.from_vec-empty.ensures ∙ c.new.ensures.items in
     let p = c.in_ok-plain_cost.ensures.cost c.args.deps.now ∙ ap (cost_of (map description_of c.args.descriptions.now) c.args.table.now c.args.ssa.now c.args.deps.now) e in
     let q = c.in_ok-empty_cost.ensures.cost c.args.deps.now ∙ ap (cost_of (map description_of c.args.descriptions.now) c.args.table.now c.args.ssa.now c.args.deps.now) f in
@@ -24,7 +24,7 @@ returns-then-plain_cost-empty_cost-clause-plan c =
 
 pub returns-else-plain_cost-empty_cost-clause-plan : goal.returns-else-plain_cost-empty_cost-clause-plan
 returns-else-plain_cost-empty_cost-clause-plan c =
-    let e = c.from_vec-plain.ensures ∙ c.in_ok-packs.ensures.plain in
+    let e = c.in_ok-plain.ensures.plain in
     let f = c.from_vec-empty.ensures ∙ c.new.ensures.items in
     let p = c.in_ok-plain_cost.ensures.cost c.args.deps.now ∙ ap (cost_of (map description_of c.args.descriptions.now) c.args.table.now c.args.ssa.now c.args.deps.now) e in
     let q = c.in_ok-empty_cost.ensures.cost c.args.deps.now ∙ ap (cost_of (map description_of c.args.descriptions.now) c.args.table.now c.args.ssa.now c.args.deps.now) f in

@@ -1,4 +1,4 @@
-use Rattle.std.proofs.Common.{◌∙◌, ◌++◌, ap, arith, map, refl, subst, sym}
+use Rattle.std.proofs.Common.{◌∙◌, ap, arith, map, refl, subst, sym}
 use Rattle.vg_shapes.specs.Description.{description_of}
 use Rattle.vg_beam.specs.Board.{AreNumbered, produced_by}
 use Rattle.vg_beam.proofs.Boards.{open-new, open-there}
@@ -15,8 +15,7 @@ returns-then-is_open c =
 pub returns : goal.returns
 returns c =
     let packs =
-    c.as_slice.ensures.value ∙ c.in_ok-push_produced.ensures ∙ ap (λ l. l ++ produced_by (map description_of c.args.descriptions.now) c.args.table.now c.args.ssa.now c.pack.result.now) c.new-packs.ensures.items
-    ∙ ap (produced_by (map description_of c.args.descriptions.now) c.args.table.now c.args.ssa.now) c.pack.ensures in
+    c.as_slice.ensures.value ∙ c.in_ok-packs.ensures ∙ ap (produced_by (map description_of c.args.descriptions.now) c.args.table.now c.args.ssa.now) c.pack.ensures in
     let are = subst (AreNumbered (map description_of c.args.descriptions.now) c.args.table.now c.args.ssa.now c.args.self.now c.number_all.new.self c.as_slice.result.now)
     (sym c.from_vec.ensures) c.in_ok-numbers.ensures in
     open-new (map description_of c.args.descriptions.now) c.args.table.now c.args.ssa.now c.args.self.now c.number_all.new.self _ c.args.number c.as_slice.result.now c.from_vec.result
