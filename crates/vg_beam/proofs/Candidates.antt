@@ -163,17 +163,17 @@ module _ (ds : List Description) (matches : List Match) (ssa : Ssa) (deps : List
     )
 
     -- a candidate that is met
-    pub is-candidate : (parent pack cost : ℕ) (plan : List Packed) (r : Running) → parent < length level → pack < length packs
+    pub is-candidate : (parent pack cost : ℕ) (plan : List Packed) → parent < length level → pack < length packs
         → plan ≡ get_or (plans_of level) parent [] → IsPlanFor ds matches ssa deps (plan ++ pack_at packs pack ∷ [])
-        → r.packs.items ≡ plan ++ pack_at packs pack ∷ [] → StandsFor ds matches ssa r → cost ≡ r.cost
+        → cost ≡ cost_of ds matches ssa deps (plan ++ pack_at packs pack ∷ [])
         → IsCandidate ds matches ssa deps packs level (record { parent = parent; pack = pack; cost = cost })
-    is-candidate parent pack cost plan r l m e is q s price =
+    is-candidate parent pack cost plan l m e is price =
         let whole : plan ++ pack_at packs pack ∷ [] ≡ get_or (plans_of level) parent [] ++ pack_at packs pack ∷ [] = ap (λ l. l ++ pack_at packs pack ∷ []) e in
         record {
           parent = l;
           pack = m;
           plan = subst (IsPlanFor ds matches ssa deps) whole is;
-          cost = price ∙ s.cost deps ∙ ap (cost_of ds matches ssa deps) (q ∙ whole);
+          cost = price ∙ ap (cost_of ds matches ssa deps) whole;
         }
 
   -- ---- growing

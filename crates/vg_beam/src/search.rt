@@ -1,6 +1,7 @@
 //! Growing the plans of a level by one pack.
 
 ghost use Rattle.std.specs.Prelude.{◌≡◌, ◌<◌, ◌∷◌, [], IfOk, OnOk, get_or, length, map};
+ghost use Rattle.vg_cost.specs.Room.{IsRoomFor};
 ghost use Rattle.vg_packing.specs.Packing.{packing};
 ghost use Rattle.vg_packing.specs.Taken.{MatchesNear};
 ghost use Rattle.vg_packs.specs.PlanMarks.{MarksPlan};
@@ -21,6 +22,7 @@ use crate::kept::{Kept, kept_at};
 use crate::key::with_number;
 use crate::met::Met;
 use std::alloc::{AllocError, Global};
+use vg_cost::Room;
 use vg_packs::PlanMarks;
 use vg_shapes::{DepList, Description, MatchTable, Ssa};
 
@@ -33,6 +35,7 @@ fn meet(
     parent: usize,
     kept: &Kept,
     marks: &PlanMarks,
+    room: &mut Room,
     pack: u32,
     met: &mut Met,
     descriptions: &[Description],
@@ -50,14 +53,16 @@ fn meet(
     requires parent { parent < length _level.now }
     requires plan { plan_of kept.now ≡ get_or (plans_of _level.now) parent [] }
     requires marks { MarksPlan ssa.now (plan_of kept.now) marks.now }
+    requires room { IsRoomFor ssa.now (plan_of kept.now) room.old }
     requires pack { pack < length board.now.packs.items }
     requires tried { Has (pack_at board.now.packs.items pack) (tried (packing (map description_of
         descriptions.now) table.now ssa.now deps.now) (plan_of kept.now)) }
     requires met { IsMet (map description_of descriptions.now) table.now ssa.now deps.now
         board.now.packs.items _level.now met.old }
-    ensures { OnOk result (Meets (map description_of descriptions.now) table.now ssa.now deps.now
-        board.now.packs.items _level.now (plan_of kept.now) (pack_at board.now.packs.items pack ∷
-        []) met.old met.new) }
+    ensures room { OnOk result (IsRoomFor ssa.now (plan_of kept.now) room.new) }
+    ensures met { OnOk result (Meets (map description_of descriptions.now) table.now ssa.now
+        deps.now board.now.packs.items _level.now (plan_of kept.now) (pack_at
+        board.now.packs.items pack ∷ []) met.old met.new) }
 {
     let last = board.pack(pack);
     let packs = kept.running.packs();
@@ -74,8 +79,9 @@ fn meet(
     if !stays {
         return Ok(());
     }
-    let longer = kept.running.with(alloc, last, descriptions, table, ssa)?;
-    let cost = longer.cost();
+    let cost = kept
+        .running
+        .cost_with(alloc, room, last, descriptions, table, ssa)?;
     met.add(key, Candidate { parent, pack, cost })?;
     Ok(())
 }
@@ -110,6 +116,7 @@ fn meet_all(
 {
     let packs = kept.running.packs();
     let marks = PlanMarks::new(alloc, ssa, packs)?;
+    let mut room = Room::new(alloc, ssa, packs)?;
     let numbers = kept.tried.as_slice();
     'packs: for pack in numbers {
         meet(
@@ -119,6 +126,7 @@ fn meet_all(
             parent,
             kept,
             &marks,
+            &mut room,
             *pack,
             met,
             descriptions,

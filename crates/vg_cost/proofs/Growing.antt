@@ -1,10 +1,11 @@
 -- What a pack behind a plan changes of what is known of the plan.
-use Rattle.std.proofs.Common.{◌≡◌, ℕ, ◌+◌, Bool, true, false, List, [], ◌∷◌, ◌++◌, length, map, refl, sym, ◌∙◌, ap, arith, inl, inr, append-nil, subst}
-use Rattle.std.specs.Prelude.{nat_lt, if◌then◌else◌}
+use Rattle.std.proofs.Common.{◌≡◌, ℕ, ◌+◌, Bool, true, false, List, [], ◌∷◌, ◌++◌, length, map, refl, sym, ◌∙◌, ap, arith, inl, inr, append-nil, append_assoc, subst}
+use Rattle.std.specs.Prelude.{◌||◌, nat_lt, replicate, if◌then◌else◌}
 use Rattle.std.specs.List.{AllByRecursion, flat_map, list_any, sum_by}
 use Rattle.std.proofs.lemmas.Bool.{cases_Bool}
 use Rattle.std.proofs.lemmas.Bool.Decides.{nat_tests}
 use Rattle.std.proofs.lemmas.Grind.{flat_map-append}
+use Rattle.std.proofs.lemmas.List.Folds.{list_any-append}
 use Rattle.std.proofs.lemmas.List.Sums.{sum_by-cons, sum_by_push}
 use Rattle.vg_plans.specs.Levels.{distinct_onto}
 use Rattle.vg_plans.specs.World.{inserted, operands, plan_cost, recipe_cost, scalar_lines}
@@ -22,12 +23,19 @@ use Rattle.vg_packing.specs.Wants.{wanted_values}
 use Rattle.vg_cost.specs.declared.recipe_cost.RecipeCost.{RecipeCost}
 use Rattle.vg_cost.specs.declared.taken.Taken.{Taken}
 use Rattle.vg_cost.specs.declared.running.Running.{Running}
-use Rattle.vg_cost.specs.Running.{StandsFor}
+use Rattle.vg_cost.specs.Lines.{Costs}
+use Rattle.vg_cost.specs.Marks.{Has, Marked}
+use Rattle.vg_shapes.specs.Units.{arguments}
+use Rattle.vg_cost.specs.Running.{StandsFor, taken_by}
 use Rattle.vg_cost.specs.Shuffling.{AreShuffles}
-use Rattle.vg_cost.specs.Taken.{IsKnownBut, add_all, add_taken, inserted_for, is_touched, recipe_for, taken_for}
+use Rattle.vg_cost.specs.Taken.{add_all, add_taken, inserted_for, is_touched, kept_for, recipe_for, taken_for}
+use Rattle.vg_cost.specs.Touch.{IsKnownBy}
+use Rattle.vg_cost.proofs.Marking.{has_marked, marked_more}
 use Rattle.vg_cost.proofs.Own.{is-other, own-values}
 use Rattle.vg_cost.proofs.Steps.{all_push}
 use Rattle.vg_cost.proofs.Sums.{all_parts}
+use Rattle.vg_cost.proofs.MarkTests.{untouched}
+use Rattle.vg_shapes.specs.Pack.{units_of}
 
 abbrev of_two : ℕ → Bool → RecipeCost
 of_two lines flag = record { lines = lines; is_inserted = flag }
@@ -42,13 +50,15 @@ keeps ds ssa plan p o f =
     ap (λ c. of_two c (nat_lt 0 (length (inserted w (plan ++ p ∷ []) o)))) (recipe-keeps w own plan p o other)
     ∙ ap (λ l. of_two (recipe_cost w plan o) (nat_lt 0 (length l))) (inserted-keeps w own plan p o other)
 
-pub known-but : (ds : List Description) (ssa : Ssa) (plan : List Packed) (p : Packed) (os : List Operand)
-    → AllByRecursion (IsKnownBut ds ssa (plan ++ p ∷ []) p) (map (taken_for ds ssa plan) os)
-known-but ds ssa plan p [] = tt
-known-but ds ssa plan p (o ∷ os) = ((λ f. sym (keeps ds ssa plan p o f)), known-but ds ssa plan p os)
+pub known-by : (ds : List Description) (ssa : Ssa) (plan : List Packed) (p : Packed) (own : List Bool) (os : List Operand)
+    → Has (length own) (units_of p) own
+    → AllByRecursion (IsKnownBy ds ssa (plan ++ p ∷ []) own) (map (taken_for ds ssa plan) os)
+known-by ds ssa plan p own [] h = tt
+known-by ds ssa plan p own (o ∷ os) h =
+    ((λ f. sym (keeps ds ssa plan p o (untouched p own o h f))), known-by ds ssa plan p own os h)
 
 pub kept-map : (ds : List Description) (ssa : Ssa) (plan longer : List Packed) (os : List Operand)
-    → map (λ t. taken_for ds ssa longer t.operand) (map (taken_for ds ssa plan) os) ≡ map (taken_for ds ssa longer) os
+    → map (kept_for ds ssa longer) (map (taken_for ds ssa plan) os) ≡ map (taken_for ds ssa longer) os
 kept-map ds ssa plan longer [] = refl
 kept-map ds ssa plan longer (o ∷ os) = ap (λ l. taken_for ds ssa longer o ∷ l) (kept-map ds ssa plan longer os)
 
@@ -130,9 +140,109 @@ known-cost ds matches ssa deps plan price cost ts p t c =
     (ap (sum_by (λ t. t.recipe.lines)) t ∙ known-lines ds ssa plan os)
     (ap (flat_map inserted_for) t ∙ known-values ds ssa plan os) refl refl
 
+any-kept : (ds : List Description) (ssa : Ssa) (plan : List Packed) (x : Operand) (ts : List Taken)
+    → list_any (λ t. same_operand x t.operand) (map (kept_for ds ssa plan) ts) ≡ list_any (λ t. same_operand x t.operand) ts
+any-kept ds ssa plan x [] = refl
+any-kept ds ssa plan x (t ∷ ts) = ap (λ b. same_operand x t.operand || b) (any-kept ds ssa plan x ts)
+
+-- an operand is there where it is among those that are kept or the fresh ones
+pub there : (ds : List Description) (ssa : Ssa) (plan : List Packed) (x : Operand) (ts fresh : List Taken) (b : Bool)
+    → b ≡ (list_any (λ t. same_operand x t.operand) ts || list_any (λ t. same_operand x t.operand) fresh)
+    → list_any (λ t. same_operand x t.operand) (map (kept_for ds ssa plan) ts ++ fresh) ≡ b
+there ds ssa plan x ts fresh b e =
+    list_any-append (λ (t : Taken). same_operand x t.operand) (map (kept_for ds ssa plan) ts) fresh
+    ∙ ap (λ c. c || list_any (λ t. same_operand x t.operand) fresh) (any-kept ds ssa plan x ts) ∙ sym e
+
+pub added_fresh : (know : Operand → Taken) (kept fresh new : List Taken) (o : Operand) (t : Taken)
+    → list_any (λ t. same_operand o t.operand) (kept ++ fresh) ≡ false → t ≡ know o → new ≡ fresh ++ t ∷ []
+    → kept ++ new ≡ add_taken know (kept ++ fresh) o
+added_fresh know kept fresh new o t f e n =
+    rw f (ap (λ l. kept ++ l) n ∙ sym (append_assoc kept fresh (t ∷ [])) ∙ ap (λ z. (kept ++ fresh) ++ z ∷ []) e)
+
 pub not_added : (know : Operand → Taken) (ts : List Taken) (o : Operand) → list_any (λ t. same_operand o t.operand) ts ≡ true
     → ts ≡ add_taken know ts o
 not_added know ts o t = rw t refl
+
+-- what is kept of the operands of a plan, and those of the pack, are those of the longer plan
+pub taken-longer : (ds : List Description) (matches : List Match) (ssa : Ssa) (plan : List Packed) (p : Packed)
+    (old : List Taken) (os : List Operand) → old ≡ taken_by ds matches ssa plan → os ≡ operands_of ds matches ssa p
+    → add_all (taken_for ds ssa (plan ++ p ∷ [])) (map (kept_for ds ssa (plan ++ p ∷ [])) old) os
+    ≡ taken_by ds matches ssa (plan ++ p ∷ [])
+taken-longer ds matches ssa plan p old os e own =
+    let longer = plan ++ p ∷ [] in
+    let before = operands (packing ds matches ssa []) plan in
+    ap (λ l. add_all (taken_for ds ssa longer) l os) (ap (map (kept_for ds ssa longer)) e ∙ kept-map ds ssa plan longer before)
+    ∙ ap (add_all (taken_for ds ssa longer) (map (taken_for ds ssa longer) before)) own
+    ∙ onto-taken ds ssa longer before (operands_of ds matches ssa p)
+    ∙ ap (map (taken_for ds ssa longer)) (operands-push ds matches ssa plan p)
+
+sum-kept : (ds : List Description) (ssa : Ssa) (longer : List Packed) (ts : List Taken)
+    → sum_by (λ t. (kept_for ds ssa longer t).recipe.lines) ts ≡ sum_by (λ t. t.recipe.lines) (map (kept_for ds ssa longer) ts)
+sum-kept ds ssa longer [] = refl
+sum-kept ds ssa longer (t ∷ ts) =
+    sum_by-cons (λ t. (kept_for ds ssa longer t).recipe.lines) t ts
+    ∙ ap (λ n. (kept_for ds ssa longer t).recipe.lines + n) (sum-kept ds ssa longer ts)
+    ∙ sym (sum_by-cons (λ t. t.recipe.lines) (kept_for ds ssa longer t) (map (kept_for ds ssa longer) ts))
+
+values-kept : (ds : List Description) (ssa : Ssa) (longer : List Packed) (ts : List Taken)
+    → flat_map (λ t. inserted_for (kept_for ds ssa longer t)) ts ≡ flat_map inserted_for (map (kept_for ds ssa longer) ts)
+values-kept ds ssa longer [] = refl
+values-kept ds ssa longer (t ∷ ts) = ap (λ l. inserted_for (kept_for ds ssa longer t) ++ l) (values-kept ds ssa longer ts)
+
+sum-both : (xs ys : List Taken)
+    → sum_by (λ t. t.recipe.lines) xs + sum_by (λ t. t.recipe.lines) ys ≡ sum_by (λ t. t.recipe.lines) (xs ++ ys)
+sum-both [] ys = omega arith
+sum-both (x ∷ xs) ys =
+    let one = sum_by-cons (λ (t : Taken). t.recipe.lines) x xs in
+    let more = sum_by-cons (λ (t : Taken). t.recipe.lines) x (xs ++ ys) in
+    let rest = sum-both xs ys in
+    omega (arith, one, more, rest)
+
+pub price-longer : (ds : List Description) (matches : List Match) (ssa : Ssa) (old : Running) (p : Packed) (price : ℕ)
+    → StandsFor ds matches ssa old → price ≡ old.price + price_of ds p → price ≡ sum_by (price_of ds) (old.packs.items ++ p ∷ [])
+price-longer ds matches ssa old p price s e =
+    e ∙ ap (λ n. n + price_of ds p) s.price ∙ sym (sum_by_push (price_of ds) old.packs.items p)
+
+-- what is kept of the operands and the fresh ones are counted as those of the longer plan
+module _ (ds : List Description) (matches : List Match) (ssa : Ssa) (plan : List Packed) (p : Packed) (old fresh : List Taken)
+    (all : map (kept_for ds ssa (plan ++ p ∷ [])) old ++ fresh ≡ taken_by ds matches ssa (plan ++ p ∷ [])) where
+  pub sum-longer : (kept added sum : ℕ) → kept ≡ sum_by (λ t. (kept_for ds ssa (plan ++ p ∷ []) t).recipe.lines) old
+      → added ≡ sum_by (λ t. t.recipe.lines) fresh → sum ≡ kept + added
+      → sum ≡ sum_by (λ t. t.recipe.lines) (taken_by ds matches ssa (plan ++ p ∷ []))
+  sum-longer kept added sum k a s =
+      s ∙ ap (λ n. n + added) (k ∙ sum-kept ds ssa (plan ++ p ∷ []) old)
+      ∙ ap (λ n. sum_by (λ t. t.recipe.lines) (map (kept_for ds ssa (plan ++ p ∷ [])) old) + n) a
+      ∙ sum-both (map (kept_for ds ssa (plan ++ p ∷ [])) old) fresh ∙ ap (sum_by (λ t. t.recipe.lines)) all
+
+  pub values-longer : (a b c : List Bool)
+      → Marked (flat_map (λ t. inserted_for (kept_for ds ssa (plan ++ p ∷ []) t)) old) a b
+      → Marked (flat_map inserted_for fresh) b c
+      → Marked (flat_map inserted_for (taken_by ds matches ssa (plan ++ p ∷ []))) a c
+  values-longer a b c m n =
+      let kept = map (kept_for ds ssa (plan ++ p ∷ [])) old in
+      subst (λ l. Marked l a c)
+      (ap (λ l. l ++ flat_map inserted_for fresh) (values-kept ds ssa (plan ++ p ∷ []) old)
+      ∙ sym (flat_map-append inserted_for kept fresh) ∙ ap (flat_map inserted_for) all)
+      (marked_more _ _ a b c m n)
+
+-- the cost by the marks is that of the plan
+pub costs-longer : (ds : List Description) (matches : List Match) (ssa : Ssa) (deps : List (ℕ × ℕ)) (old : Running) (p : Packed)
+    (longer clear needed : List Bool) (price recipes cost count : ℕ)
+    → StandsFor ds matches ssa old → count ≡ arguments ssa + length ssa.units
+    → Has (arguments ssa + length ssa.units) (flat_map units_of (old.packs.items ++ p ∷ [])) longer
+    → clear ≡ replicate count false
+    → Marked (flat_map inserted_for (taken_by ds matches ssa (old.packs.items ++ p ∷ []))) clear needed
+    → price ≡ old.price + price_of ds p
+    → recipes ≡ sum_by (λ t. t.recipe.lines) (taken_by ds matches ssa (old.packs.items ++ p ∷ []))
+    → Costs ssa longer needed price recipes cost
+    → cost ≡ plan_cost (packing ds matches ssa deps) (old.packs.items ++ p ∷ [])
+costs-longer ds matches ssa deps old p longer clear needed price recipes cost count s e h c m paid r costs =
+    let plan = old.packs.items ++ p ∷ [] in
+    let ts = taken_by ds matches ssa plan in
+    let has = has_marked count (flat_map inserted_for ts) clear needed c m in
+    known-cost ds matches ssa deps plan price cost ts (price-longer ds matches ssa old p price s paid) refl
+    (costs plan (flat_map inserted_for ts) h (subst (λ n. Has n (flat_map inserted_for ts) needed) e has)
+    ∙ ap (λ n. price + n + scalar_lines (packing [] [] ssa []) plan (flat_map inserted_for ts) (falling_units ssa)) r)
 
 pub stands-empty : (ds : List Description) (matches : List Match) (ssa : Ssa) (r : Running)
     → r.packs.items ≡ [] → r.taken.items ≡ [] → AreShuffles ds r.shuffles → r.price ≡ 0
@@ -147,41 +257,19 @@ stands-empty ds matches ssa r e t known p c = record {
   price = p ∙ ap (sum_by (price_of ds)) (sym e);
 }
 
--- the longer plan: its packs, what is kept of the operands, those of the pack, and its cost
+-- the longer plan: its packs, what is known of its operands, and its cost
 pub stands-longer : (ds : List Description) (matches : List Match) (ssa : Ssa) (old : Running) (p : Packed) (r : Running)
     → StandsFor ds matches ssa old → IsShort p
     → r.shuffles.numbers.items ≡ old.shuffles.numbers.items → r.shuffles.are_tight ≡ old.shuffles.are_tight
     → r.packs.items ≡ old.packs.items ++ p ∷ []
-    → (ts : List Taken) (os : List Operand)
-    → ts ≡ map (λ t. taken_for ds ssa (old.packs.items ++ p ∷ []) t.operand) old.taken.items
-    → os ≡ operands_of ds matches ssa p
-    → r.taken.items ≡ add_all (taken_for ds ssa (old.packs.items ++ p ∷ [])) ts os
+    → r.taken.items ≡ taken_by ds matches ssa (old.packs.items ++ p ∷ [])
     → r.price ≡ old.price + price_of ds p
-    → r.cost ≡ r.price + sum_by (λ t. t.recipe.lines) r.taken.items
-    + scalar_lines (packing [] [] ssa []) (old.packs.items ++ p ∷ []) (flat_map inserted_for r.taken.items) (falling_units ssa)
+    → ((deps : List (ℕ × ℕ)) → r.cost ≡ plan_cost (packing ds matches ssa deps) (old.packs.items ++ p ∷ []))
     → StandsFor ds matches ssa r
-stands-longer ds matches ssa old p r s short same tight e ts os kept own all price cost =
-    let plan = old.packs.items in
-    let longer = plan ++ p ∷ [] in
-    let before = operands (packing ds matches ssa []) plan in
-    let known : ts ≡ map (taken_for ds ssa longer) before =
-    kept ∙ ap (map (λ t. taken_for ds ssa longer t.operand)) s.taken ∙ kept-map ds ssa plan longer before
-    in
-    let taken : r.taken.items ≡ map (taken_for ds ssa longer) (operands (packing ds matches ssa []) longer) =
-    all ∙ ap (λ l. add_all (taken_for ds ssa longer) l os) known
-    ∙ ap (add_all (taken_for ds ssa longer) (map (taken_for ds ssa longer) before)) own
-    ∙ onto-taken ds ssa longer before (operands_of ds matches ssa p)
-    ∙ ap (map (taken_for ds ssa longer)) (operands-push ds matches ssa plan p)
-    in
-    let paid : r.price ≡ sum_by (price_of ds) longer =
-    price ∙ ap (λ n. n + price_of ds p) s.price ∙ sym (sum_by_push (price_of ds) plan p)
-    in
-    record {
-      shuffles = record { numbers = same ∙ s.shuffles.numbers; tight = tight ∙ s.shuffles.tight };
-      short = subst (AllByRecursion IsShort) (sym e) (all_push IsShort plan p s.short short);
-      cost = λ deps.
-          known-cost ds matches ssa deps longer r.price r.cost r.taken.items paid taken cost
-          ∙ ap (plan_cost (packing ds matches ssa deps)) (sym e);
-      taken = taken ∙ ap (λ plan. map (taken_for ds ssa plan) (operands (packing ds matches ssa []) plan)) (sym e);
-      price = paid ∙ ap (sum_by (price_of ds)) (sym e);
-    }
+stands-longer ds matches ssa old p r s short same tight e taken price cost = record {
+  shuffles = record { numbers = same ∙ s.shuffles.numbers; tight = tight ∙ s.shuffles.tight };
+  short = subst (AllByRecursion IsShort) (sym e) (all_push IsShort old.packs.items p s.short short);
+  cost = λ deps. cost deps ∙ ap (plan_cost (packing ds matches ssa deps)) (sym e);
+  taken = taken ∙ ap (taken_by ds matches ssa) (sym e);
+  price = price-longer ds matches ssa old p r.price s price ∙ ap (sum_by (price_of ds)) (sym e);
+}

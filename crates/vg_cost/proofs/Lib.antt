@@ -3,6 +3,7 @@ pub mod Had
 pub mod Known
 pub mod LaneTrees
 pub mod LineSteps
+pub mod MarkTests
 pub mod Marking
 pub mod Own
 pub mod Scanned

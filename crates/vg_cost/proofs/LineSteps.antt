@@ -18,7 +18,7 @@ use Rattle.vg_shapes.specs.Layout.{access_of}
 use Rattle.vg_shapes.specs.Pack.{units_of}
 use Rattle.vg_shapes.specs.Units.{arguments, is_unit, unit_at}
 use Rattle.vg_packing.specs.Packing.{falling_units, packing, used_by}
-use Rattle.vg_cost.specs.Lines.{Lines, line_of, values_of}
+use Rattle.vg_cost.specs.Lines.{Costs, Lines, line_of, values_of}
 use Rattle.vg_cost.specs.Marks.{Has, Marked}
 
 -- a number is among the units of packs where a pack has it
@@ -134,3 +134,14 @@ pub by_marks : (ssa : Ssa) (plan : List Packed) (needed : List ℕ) (packed mark
 by_marks ssa plan needed packed marks end (Ok c) e p n lines =
     lines plan needed p n ∙ ap (λ k. scalar_lines (packing [] [] ssa []) plan needed (filter (is_unit ssa) (numbers_below k))) e
 by_marks ssa plan needed packed marks end (Err f) e p n lines = lines
+
+-- what a plan costs by the lines of its marks
+pub by_lines : (ssa : Ssa) (packed marks : List Bool) (price recipes before lines end : ℕ) (result : Result ℕ AllocError)
+    → end ≡ arguments ssa + length ssa.units → before ≡ price + recipes → Lines ssa packed marks end lines
+    → IfOk result (λ c. c ≡ before + lines) → IfOk result (Costs ssa packed marks price recipes)
+by_lines ssa packed marks price recipes before lines end (Ok c) e b l s = λ plan needed p n.
+    s ∙ ap (λ t. t + lines) b
+    ∙ ap (λ t. price + recipes + t) (l plan needed (subst (λ k. Has k (flat_map units_of plan) packed) (sym e) p)
+    (subst (λ k. Has k needed marks) (sym e) n)
+    ∙ ap (λ k. scalar_lines (packing [] [] ssa []) plan needed (filter (is_unit ssa) (numbers_below k))) e)
+by_lines ssa packed marks price recipes before lines end (Err f) e b l s = s

@@ -1,8 +1,10 @@
 -- Numbers marked one list after the other.
 use Rattle.std.proofs.Common.{◌≡◌, ℕ, zero, suc, ◌+◌, ◌<◌, ◌≤◌, Bool, true, false, List, [], ◌∷◌, ◌++◌, length, get_or, take, refl, sym, ◌∙◌, ap, subst, arith}
-use Rattle.std.specs.Prelude.{nat_eq, ◌||◌, replicate}
+use Rattle.std.specs.Prelude.{Option, nat_eq, ◌||◌, replicate}
 use Rattle.std.proofs.lemmas.List.{length-replicate, take_all, take_more}
 use Rattle.std.proofs.lemmas.List.Folds.{list_any-append}
+use Rattle.std.specs.List.{filter_map}
+use Rattle.std.proofs.lemmas.List.Elements.{filter_map-append}
 use Rattle.vg_plans.specs.World.{is_in}
 use Rattle.vg_cost.specs.Marks.{Has, Marked}
 
@@ -57,3 +59,13 @@ has_marked count list clear marks e m = record {
       let none : get_or clear v false ≡ false = ap (λ l. get_or l v false) e ∙ get_or_clear count v in
       m.each v inside ∙ ap (λ b. is_in v list || b) none ∙ or-false (is_in v list);
 }
+
+-- three numbers that lists of one may have
+pub marked_three : {X : Type 0} (f : X → Option ℕ) (x y z : X) (a b c d : List Bool)
+    → Marked (filter_map f (x ∷ [])) a b → Marked (filter_map f (y ∷ [])) b c → Marked (filter_map f (z ∷ [])) c d
+    → Marked (filter_map f (x ∷ y ∷ z ∷ [])) a d
+marked_three f x y z a b c d p q r =
+    subst (λ l. Marked l a d)
+    (sym (filter_map-append f (x ∷ []) (y ∷ z ∷ [])
+    ∙ ap (λ l. filter_map f (x ∷ []) ++ l) (filter_map-append f (y ∷ []) (z ∷ []))))
+    (marked_more _ _ a b d p (marked_more _ _ b c d q r))

@@ -1,5 +1,5 @@
 -- Shuffles are all there are among the descriptions of their numbers.
-use Rattle.std.proofs.Common.{◌≡◌, ℕ, zero, suc, ◌+◌, Bool, true, false, List, [], ◌∷◌, ◌++◌, length, map, refl, sym, ◌∙◌, ap, subst, inl, inr, arith, append_assoc, Some}
+use Rattle.std.proofs.Common.{◌≡◌, ℕ, zero, suc, ◌+◌, ◌≤◌, Bool, true, false, List, [], ◌∷◌, ◌++◌, length, map, refl, sym, ◌∙◌, ap, subst, inl, inr, arith, append_assoc, Some}
 use Rattle.std.specs.Prelude.{◌&&◌, ◌||◌, not, if◌then◌else◌, nat_eq, nat_le, slice_get}
 use Rattle.std.specs.List.{flat_map, list_all}
 use Rattle.std.specs.Option.{option_map_or}
@@ -8,8 +8,11 @@ use Rattle.std.proofs.lemmas.List.Folds.{list_all-map}
 use Rattle.vg_terms.specs.declared.term.Term.{Term}
 use Rattle.vg_terms.specs.Term.{tree}
 use Rattle.vg_shapes.specs.declared.operand.Operand.{Operand}
+use Rattle.vg_shapes.specs.declared.pack.Pack.{Pack as Packed}
+use Rattle.vg_shapes.specs.declared.ssa.Ssa.{Ssa}
 use Rattle.vg_shapes.specs.Description.{Description}
 use Rattle.vg_packing.specs.Shuffles.{is_shuffle, shuffle_of, shuffles}
+use Rattle.vg_cost.specs.Had.{costs_had}
 use Rattle.vg_cost.specs.Shuffling.{is_tight_lane, shuffle_at, shuffles_from}
 
 pub tight_lanes : (n : ℕ) (lanes : List Term) → list_all (λ t. is_tight_lane n (tree t)) lanes ≡ list_all (is_tight_lane n) (map tree lanes)
@@ -50,3 +53,8 @@ among o pre (e ∷ es) =
 pub all-shuffles : (ds : List Description) (o : Operand) (numbers : List ℕ) → numbers ≡ shuffles_from 0 ds
     → flat_map (shuffle_at ds o) numbers ≡ shuffles ds o
 all-shuffles ds o numbers e = ap (flat_map (shuffle_at ds o)) e ∙ among o [] ds
+
+pub none-scanned : (ds : List Description) (ssa : Ssa) (plan : List Packed) (o : Operand) (numbers : List ℕ)
+    → numbers ≡ shuffles_from 0 ds → length numbers ≤ 0 → [] ≡ costs_had ds ssa plan (shuffles ds o)
+none-scanned ds ssa plan o [] e z = ap (costs_had ds ssa plan) (all-shuffles ds o [] e)
+none-scanned ds ssa plan o (n ∷ numbers) e z = absurd (omega arith)

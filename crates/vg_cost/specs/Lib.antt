@@ -2,6 +2,8 @@ pub mod Had
 pub mod Lines
 pub mod Marks
 pub mod Places
+pub mod Room
 pub mod Running
 pub mod Shuffling
 pub mod Taken
+pub mod Touch

@@ -1,5 +1,5 @@
 -- The lines of units that are written as scalars, by marks.
-use Rattle.std.specs.Prelude.{◌≡◌, ℕ, ◌&&◌, ◌||◌, not, Bool, List, [], Option, Some, None, filter, flat_map, if◌then◌else◌}
+use Rattle.std.specs.Prelude.{◌≡◌, ℕ, ◌+◌, ◌&&◌, ◌||◌, not, Bool, List, [], Option, Some, None, filter, flat_map, length, if◌then◌else◌}
 use Rattle.std.specs.Option.{is_some}
 use Rattle.vg_plans.specs.World.{scalar_lines}
 use Rattle.vg_shapes.specs.declared.pack.Pack.{Pack as Packed}
@@ -8,8 +8,8 @@ use Rattle.vg_shapes.specs.declared.unit.Unit.{Unit as Work}
 use Rattle.vg_shapes.specs.Depends.{numbers_below}
 use Rattle.vg_shapes.specs.Layout.{access_of}
 use Rattle.vg_shapes.specs.Pack.{units_of}
-use Rattle.vg_shapes.specs.Units.{is_unit}
-use Rattle.vg_packing.specs.Packing.{packing, used_by}
+use Rattle.vg_shapes.specs.Units.{arguments, is_unit}
+use Rattle.vg_packing.specs.Packing.{falling_units, packing, used_by}
 use Rattle.vg_cost.specs.Marks.{Has}
 
 -- a unit is in no pack, and it is an access or its value is needed
@@ -33,3 +33,11 @@ Lines ssa packed marks end lines =
     (plan : List Packed) (needed : List ℕ) →
     Has end (flat_map units_of plan) packed → Has end needed marks →
     lines ≡ scalar_lines (packing [] [] ssa []) plan needed (filter (is_unit ssa) (numbers_below end))
+
+-- what a plan costs whose packs and recipes cost so much, for all packs and values that have these marks
+abbrev pub Costs : Ssa → List Bool → List Bool → ℕ → ℕ → ℕ → Type 0
+Costs ssa packed marks price recipes cost =
+    (plan : List Packed) (needed : List ℕ) →
+    Has (arguments ssa + length ssa.units) (flat_map units_of plan) packed →
+    Has (arguments ssa + length ssa.units) needed marks →
+    cost ≡ price + recipes + scalar_lines (packing [] [] ssa []) plan needed (falling_units ssa)

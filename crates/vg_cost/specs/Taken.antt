@@ -29,8 +29,15 @@ inserts_for o = record {
   is_inserted = nat_lt 0 (length (filter (λ s. wants_value s.wanted) o.slots));
 }
 
+abbrev pub taken_of : Operand → RecipeCost → Taken
+taken_of o recipe = record { operand = o; recipe = recipe }
+
 abbrev pub taken_for : List Description → Ssa → List Packed → Operand → Taken
 taken_for ds ssa plan o = record { operand = o; recipe = recipe_for ds ssa plan o }
+
+-- what is known of an operand that is taken, in another plan
+abbrev pub kept_for : List Description → Ssa → List Packed → Taken → Taken
+kept_for ds ssa plan t = taken_for ds ssa plan t.operand
 
 -- the values that the inserts of an operand take, by what is known of it
 abbrev pub inserted_for : Taken → List ℕ
@@ -45,11 +52,6 @@ is_one_of p Nothing = false
 -- the pack has one of the operand's values
 abbrev pub is_touched : Packed → Operand → Bool
 is_touched p o = list_any (λ s. is_one_of p s.wanted) o.slots
-
--- what is known of an operand is so for the plan, unless the pack has one of the operand's values
-abbrev pub IsKnownBut : List Description → Ssa → List Packed → Packed → Taken → Type 0
-IsKnownBut ds ssa plan p t =
-    is_touched p t.operand ≡ false → t.recipe ≡ recipe_for ds ssa plan t.operand
 
 -- an operand more, if it is not there
 abbrev pub add_taken : (Operand → Taken) → List Taken → Operand → List Taken

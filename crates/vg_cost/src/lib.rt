@@ -6,7 +6,9 @@
 //!
 //! A plan that grows keeps its cost (`specs/Running.antt`): what is known of each operand that its
 //! packs take (`specs/Taken.antt`), and which descriptions are shuffles (`specs/Shuffling.antt`). By
-//! the places where packs have values (`specs/Places.antt`) most shuffles need not be looked at.
+//! marks of the units of packs most operands need not be looked at again (`specs/Touch.antt`), and by
+//! the places where packs have values (`specs/Places.antt`) most shuffles need not. A pack behind a
+//! plan is priced in room that is made once for the plan (`specs/Room.antt`).
 #![tactic(auto)]
 
 mod copies;
@@ -17,6 +19,7 @@ mod places;
 mod price;
 mod recipe_cost;
 pub mod recipes;
+mod room;
 mod running;
 mod scan;
 pub mod shuffle;
@@ -25,4 +28,5 @@ mod taken;
 mod touch;
 
 pub use cost::plan_cost;
+pub use room::Room;
 pub use running::Running;

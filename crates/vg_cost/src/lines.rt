@@ -12,12 +12,11 @@ ghost use Rattle.vg_shapes.specs.Units.{arguments, unit_at};
 use crate::marks::{mark, packed_marks, value_marks};
 use crate::price::plus;
 use std::alloc::{AllocError, Global};
-use vg_packing::units::unit_at;
 use vg_packing::wants::value_of;
-use vg_shapes::{Pack, Ssa, Unit, Wanted};
+use vg_shapes::{Operands, Pack, Ssa, Unit, Wanted};
 
 /// Marks a value, if one is wanted.
-fn mark_wanted(needed: &mut [bool], wanted: Wanted)
+pub(crate) fn mark_wanted(needed: &mut [bool], wanted: Wanted)
     ensures { Marked (filter_map value_of (wanted ∷ [])) needed.old needed.new }
 {
     match value_of(wanted) {
@@ -26,49 +25,42 @@ fn mark_wanted(needed: &mut [bool], wanted: Wanted)
     }
 }
 
-/// Marks the values that are wanted.
-fn mark_wants(needed: &mut [bool], wanted: &[Wanted])
-    ensures { Marked (filter_map value_of wanted.now) needed.old needed.new }
+/// Marks the values among operands.
+fn mark_operands(needed: &mut [bool], operands: &Operands)
+    ensures { Marked (filter_map value_of (operands.now.first ∷ operands.now.second
+        ∷ operands.now.third ∷ [])) needed.old needed.new }
 {
-    'wanted: for x in wanted {
-        mark_wanted(needed, *x);
-    }
+    mark_wanted(needed, operands.first);
+    mark_wanted(needed, operands.second);
+    mark_wanted(needed, operands.third);
 }
 
 /// Marks the values that a unit uses.
-fn mark_used(needed: &mut [bool], unit: Unit)
-    ensures { Marked (used_by (Some unit)) needed.old needed.new }
+fn mark_used(needed: &mut [bool], unit: &Unit)
+    ensures { Marked (used_by (Some unit.now)) needed.old needed.new }
 {
     match unit {
         Unit::Load { .. } => {}
-        Unit::Store { value, .. } => mark_wants(needed, &[value]),
-        Unit::Operation { operands, .. } => {
-            mark_wants(needed, &[operands.first, operands.second, operands.third])
-        }
+        Unit::Store { value, .. } => mark_wanted(needed, *value),
+        Unit::Operation { operands, .. } => mark_operands(needed, operands),
     }
 }
 
 /// Whether a unit that is in no pack is emitted: it is an access, or its value is needed.
-fn is_written(unit: Unit, packed: bool, needed: bool) -> bool
-    ensures { result ≡ is_written unit packed needed }
+fn is_written(unit: &Unit, packed: bool, needed: bool) -> bool
+    ensures { result ≡ is_written unit.now packed needed }
 {
     !packed && (unit.access().is_some() || needed)
 }
 
-/// Marks what a unit uses where it is emitted.
-fn mark_written(marks: &mut [bool], unit: Unit, packed: bool, needed: bool)
-    ensures { Marked (values_of (Some unit) packed needed) marks.old marks.new }
+/// The lines of a unit: 1 where it is emitted or its value is extracted, else 0. Marks what it uses
+/// where it is emitted.
+fn visit(marks: &mut [bool], unit: &Unit, packed: bool, needed: bool) -> u64
+    ensures lines { result ≡ line_of (Some unit.now) packed needed }
+    ensures marks { Marked (values_of (Some unit.now) packed needed) marks.old marks.new }
 {
     if is_written(unit, packed, needed) {
         mark_used(marks, unit);
-    }
-}
-
-/// The lines of a unit: 1 where it is emitted or its value is extracted, else 0.
-fn line_of(unit: Unit, packed: bool, needed: bool) -> u64
-    ensures { result ≡ line_of (Some unit) packed needed }
-{
-    if is_written(unit, packed, needed) {
         1
     } else if packed && needed {
         1
@@ -77,33 +69,48 @@ fn line_of(unit: Unit, packed: bool, needed: bool) -> u64
     }
 }
 
-/// The lines of the unit of a number, if it is that of one. Marks what it uses where it is emitted.
-fn visit(marks: &mut [bool], unit: Option<Unit>, packed: bool, needed: bool) -> u64
-    ensures lines { result ≡ line_of unit packed needed }
-    ensures marks { Marked (values_of unit packed needed) marks.old marks.new }
+/// The lines of the unit of a number, if it is that of one: the units are numbered from `first` on.
+fn visit_number(
+    marks: &mut [bool],
+    ssa: &Ssa,
+    first: usize,
+    number: u32,
+    packed: bool,
+    needed: bool,
+) -> u64
+    requires { first ≡ arguments ssa.now }
+    ensures lines { result ≡ line_of (unit_at ssa.now number) packed needed }
+    ensures marks { Marked (values_of (unit_at ssa.now number) packed needed) marks.old marks.new }
 {
-    match unit {
+    let number = number as usize;
+    if number < first {
+        return 0;
+    }
+    match ssa.units.as_slice().get(number - first) {
         None => 0,
-        Some(unit) => {
-            mark_written(marks, unit, packed, needed);
-            line_of(unit, packed, needed)
-        }
+        Some(unit) => visit(marks, unit, packed, needed),
     }
 }
 
 /// The lines of the units below a number, from the last down. Marks the values that are needed.
-fn lines_below(ssa: &Ssa, packed: &[bool], marks: &mut [bool], end: u32) -> Result<u64, AllocError>
+pub(crate) fn lines_below(
+    ssa: &Ssa,
+    packed: &[bool],
+    marks: &mut [bool],
+    end: u32,
+) -> Result<u64, AllocError>
     requires packed_long { length packed.now ≡ end }
     requires marks_long { length marks.old ≡ end }
     ensures { IfOk result (λ c. Lines ssa.now packed.now marks.old end c) }
 {
+    let first = ssa.arguments();
     let mut lines = 0u64;
     let mut left = end;
     'units: while left > 0 {
         left -= 1;
         let is_packed = packed[left as usize];
         let is_needed = marks[left as usize];
-        let line = visit(marks, unit_at(ssa, left), is_packed, is_needed);
+        let line = visit_number(marks, ssa, first, left, is_packed, is_needed);
         lines = plus(lines, line)?;
     }
     Ok(lines)

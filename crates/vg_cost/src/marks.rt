@@ -1,6 +1,6 @@
 //! Which numbers are marked.
 
-ghost use Rattle.std.specs.Prelude.{◌≡◌, ◌∷◌, [], IfOk, false, filter_map, flat_map, replicate};
+ghost use Rattle.std.specs.Prelude.{◌≡◌, ◌∷◌, [], IfOk, false, filter_map, flat_map, get_or, length, replicate, true};
 ghost use Rattle.vg_cost.specs.Marks.{Has, Marked};
 ghost use Rattle.vg_shapes.specs.Pack.{units_of};
 
@@ -12,6 +12,20 @@ pub(crate) fn clear_marks(alloc: Global, count: usize) -> Result<Vec<bool>, Allo
     ensures { IfOk result (λ marks. marks.items ≡ replicate count false) }
 {
     vec![in alloc; false; count]
+}
+
+/// Clears all marks.
+pub(crate) fn clear(marks: &mut [bool])
+    ensures { marks.new ≡ replicate (length marks.old) false }
+{
+    marks.fill(false);
+}
+
+/// Whether a number is marked, or past all marks.
+pub(crate) fn is_marked(marks: &[bool], number: u32) -> bool
+    ensures { result ≡ get_or marks.now number true }
+{
+    marks.get(number as usize).copied().unwrap_or(true)
 }
 
 /// Marks a number, unless it is past all marks.
@@ -52,7 +66,7 @@ fn mark_lane(marks: &mut [bool], lane: Option<u32>)
 }
 
 /// Marks the units of a pack.
-fn mark_pack(marks: &mut [bool], pack: &Pack)
+pub(crate) fn mark_pack(marks: &mut [bool], pack: &Pack)
     ensures { Marked (units_of pack.now) marks.old marks.new }
 {
     match pack {

@@ -3,18 +3,15 @@
 ghost use Rattle.std.specs.Prelude.{◌≡◌, ◌<◌, ◌||◌, ◌∷◌, [], IfOk, Some, false, flat_map, get_or, length, map, nat_le, nat_lt, not, slice_get};
 ghost use Rattle.std.specs.List.{list_all, list_any};
 ghost use Rattle.vg_cost.specs.Marks.{Marked};
-ghost use Rattle.vg_cost.specs.Places.{ArePlaces, are_met, is_met, may_have, may_move, may_stand, place, places_at, places_from, places_of};
+ghost use Rattle.vg_cost.specs.Places.{ArePlaces, may_have, may_move, may_stand, place, places_at, places_from, places_of};
 ghost use Rattle.vg_packing.specs.Shuffles.{moved_leaf};
-ghost use Rattle.vg_plans.specs.World.{is_in};
 ghost use Rattle.vg_shapes.specs.Description.{description_of};
 ghost use Rattle.vg_shapes.specs.Leaves.{bit_number};
-ghost use Rattle.vg_shapes.specs.Pack.{units_of};
 ghost use Rattle.vg_terms.specs.Term.{tree};
 
 use crate::lines::end_of_units;
 use crate::marks::clear_marks;
 use crate::shuffle::lane_of;
-use crate::touch::has_unit;
 use std::alloc::{AllocError, Global};
 use vg_packing::held::lane_width_of;
 use vg_packing::wants::is_wanted;
@@ -205,35 +202,4 @@ pub(crate) fn may_have(marks: &[bool], operand: &Operand, description: &Descript
 {
     description.register == operand.register
         && may_move_all(marks, description, operand.slots.as_slice())
-}
-
-fn some_has_unit(packs: &[Pack], number: u32) -> bool
-    ensures { result ≡ list_any (λ p. is_in number (units_of p)) packs.now }
-{
-    packs.iter().any(|p| has_unit(p, number))
-}
-
-/// Whether a value that is wanted is a unit of one of these packs.
-fn is_met(packs: &[Pack], wanted: Wanted) -> bool
-    ensures { result ≡ is_met packs.now wanted }
-{
-    match wanted {
-        Wanted::Value(value) => some_has_unit(packs, value),
-        Wanted::Constant { .. } => true,
-        Wanted::Nothing => true,
-    }
-}
-
-fn all_met(packs: &[Pack], slots: &[Slot]) -> bool
-    ensures { result ≡ list_all (λ s. is_met packs.now s.wanted) slots.now }
-{
-    slots.iter().all(|s| is_met(packs, s.wanted))
-}
-
-/// Whether all values of an operand are units of these packs. Where they are not, it is neither
-/// held nor made by a shuffle.
-pub(crate) fn are_met(packs: &[Pack], operand: &Operand) -> bool
-    ensures { result ≡ are_met packs.now operand.now }
-{
-    all_met(packs, operand.slots.as_slice())
 }

@@ -1,15 +1,26 @@
 //! The cost of a plan that grows.
 
-ghost use Rattle.std.specs.Prelude.{◌≡◌, ◌++◌, ◌∷◌, [], ℕ, IfOk, List, map};
-ghost use Rattle.vg_cost.specs.Running.{StandsFor};
+ghost use Rattle.std.specs.Prelude.{◌≡◌, ◌+◌, ◌++◌, ◌∷◌, [], ℕ, IfOk, List, OnOk, flat_map, length, map, sum_by};
+ghost use Rattle.vg_cost.specs.Lines.{Costs};
+ghost use Rattle.vg_cost.specs.Marks.{Has, Marked};
+ghost use Rattle.vg_cost.specs.Room.{IsRoomFor};
+ghost use Rattle.vg_cost.specs.Running.{StandsFor, taken_by};
+ghost use Rattle.vg_cost.specs.Taken.{inserted_for};
+ghost use Rattle.vg_cost.specs.Touch.{MarkUnits};
 ghost use Rattle.vg_packing.specs.Laws.{IsPlanFor};
+ghost use Rattle.vg_packing.specs.Packing.{packing};
 ghost use Rattle.vg_packing.specs.Taken.{IsShort, MatchesNear};
+ghost use Rattle.vg_plans.specs.World.{plan_cost};
 ghost use Rattle.vg_shapes.specs.Description.{description_of};
+ghost use Rattle.vg_shapes.specs.Pack.{units_of};
+ghost use Rattle.vg_shapes.specs.Units.{arguments};
 
 use crate::copies::longer;
+use crate::lines::{end_of_units, lines_below, scalar_lines};
 use crate::price::{plus, price_of};
+use crate::room::Room;
 use crate::shuffles::Shuffles;
-use crate::taken::{Taken, add_all, keep_all, whole_cost};
+use crate::taken::{Taken, add_all, keep_all, kept_cost, recipes_cost};
 use std::alloc::{AllocError, Global};
 use vg_packing::taken::operands_of;
 use vg_shapes::{Description, MatchTable, Pack, Ssa};
@@ -23,6 +34,25 @@ pub struct Running {
     shuffles: Shuffles,
     price: u64,
     cost: u64,
+}
+
+/// What a plan costs whose packs and recipes cost so much, by the marks of its units and of the values
+/// that its inserts take.
+fn whole_cost(
+    ssa: &Ssa,
+    marks: &[bool],
+    needed: &mut [bool],
+    price: u64,
+    recipes: u64,
+) -> Result<u64, AllocError>
+    requires marks { length marks.now ≡ arguments ssa.now + length ssa.now.units }
+    requires needed { length needed.old ≡ arguments ssa.now + length ssa.now.units }
+    ensures { IfOk result (Costs ssa.now marks.now needed.old price recipes) }
+{
+    let end = end_of_units(ssa)?;
+    let lines = lines_below(ssa, marks, needed, end)?;
+    let packed = plus(price, recipes)?;
+    plus(packed, lines)
 }
 
 impl Running {
@@ -40,7 +70,7 @@ impl Running {
             ssa.now) }
     {
         let shuffles = Shuffles::new(alloc, descriptions)?;
-        let cost = whole_cost(alloc, ssa, &[], &[], 0)?;
+        let cost = scalar_lines(alloc, ssa, &[], &[])?;
         Ok(Running {
             packs: Vec::new(alloc),
             taken: Vec::new(alloc),
@@ -70,29 +100,156 @@ impl Running {
         ensures stands { IfOk result (StandsFor (map description_of descriptions.now) table.now
             ssa.now) }
     {
-        let packs = longer(alloc, self.packs.as_slice(), pack)?;
-        let known = &self.shuffles;
-        let old = self.taken.as_slice();
-        let mut taken = keep_all(alloc, descriptions, ssa, packs.as_slice(), pack, known, old)?;
-        let operands = operands_of(alloc, descriptions, table, ssa, pack)?;
-        add_all(
-            alloc,
-            &mut taken,
-            descriptions,
-            ssa,
-            packs.as_slice(),
-            known,
-            operands,
-        )?;
+        let plan = self.packs.as_slice();
+        let mut room = Room::new(alloc, ssa, plan)?;
+        room.enter(pack);
+        let marks = room.longer.as_slice();
+        let own = room.own.as_slice();
+        let taken = self.taken_with(alloc, marks, own, pack, descriptions, table, ssa)?;
         let price = plus(self.price, price_of(descriptions, pack))?;
-        let cost = whole_cost(alloc, ssa, packs.as_slice(), taken.as_slice(), price)?;
+        let needed = room.needed.as_mut_slice();
+        let recipes = recipes_cost(needed, taken.as_slice())?;
+        let cost = whole_cost(ssa, marks, needed, price, recipes)?;
         Ok(Running {
-            packs,
+            packs: longer(alloc, plan, pack)?,
             taken,
             shuffles: self.shuffles.copy(alloc)?,
             price,
             cost,
         })
+    }
+
+    /// What the plan with a pack behind it costs. Fails for want of memory, and where the cost has too
+    /// many bits to be counted.
+    pub fn cost_with(
+        &self,
+        alloc: Global,
+        room: &mut Room,
+        pack: &Pack,
+        descriptions: &[Description],
+        table: &MatchTable,
+        ssa: &Ssa,
+    ) -> Result<u64, AllocError>
+        requires near { MatchesNear table.now }
+        requires short { IsShort pack.now }
+        requires room { IsRoomFor ssa.now self.now.packs.items room.old }
+        requires stands { StandsFor (map description_of descriptions.now) table.now ssa.now
+            self.now }
+        requires plan { (deps : List (ℕ × ℕ)) × IsPlanFor (map description_of descriptions.now)
+            table.now ssa.now deps (self.now.packs.items ++ pack.now ∷ []) }
+        ensures room { OnOk result (IsRoomFor ssa.now self.now.packs.items room.new) }
+        ensures cost { IfOk result (λ c. (deps : List (ℕ × ℕ)) → c ≡ plan_cost
+            (packing (map description_of descriptions.now) table.now ssa.now deps)
+            (self.now.packs.items ++ pack.now ∷ [])) }
+    {
+        room.enter(pack);
+        let price = plus(self.price, price_of(descriptions, pack))?;
+        let marks = room.longer.as_slice();
+        let own = room.own.as_slice();
+        let needed = room.needed.as_mut_slice();
+        let recipes = self.recipes_with(alloc, marks, own, needed, pack, descriptions, table, ssa)?;
+        let cost = whole_cost(ssa, marks, needed, price, recipes)?;
+        Ok(cost)
+    }
+
+    /// The operands of the plan with a pack behind it.
+    fn taken_with(
+        &self,
+        alloc: Global,
+        marks: &[bool],
+        own: &[bool],
+        pack: &Pack,
+        descriptions: &[Description],
+        table: &MatchTable,
+        ssa: &Ssa,
+    ) -> Result<Vec<Taken>, AllocError>
+        requires near { MatchesNear table.now }
+        requires short { IsShort pack.now }
+        requires stands { StandsFor (map description_of descriptions.now) table.now ssa.now
+            self.now }
+        requires marks { MarkUnits (self.now.packs.items ++ pack.now ∷ []) marks.now }
+        requires own { Has (length own.now) (units_of pack.now) own.now }
+        ensures { IfOk result (λ taken. taken.items ≡ taken_by (map description_of
+            descriptions.now) table.now ssa.now (self.now.packs.items ++ pack.now ∷ [])) }
+    {
+        let plan = self.packs.as_slice();
+        let known = &self.shuffles;
+        let old = self.taken.as_slice();
+        let operands = operands_of(alloc, descriptions, table, ssa, pack)?;
+        let mut taken = keep_all(alloc, descriptions, ssa, plan, pack, marks, own, known, old)?;
+        add_all(
+            alloc,
+            &mut taken,
+            descriptions,
+            ssa,
+            plan,
+            pack,
+            marks,
+            known,
+            &[],
+            operands,
+        )?;
+        Ok(taken)
+    }
+
+    /// What the recipes of the operands of the plan with a pack behind it cost. Marks the values that
+    /// their inserts take.
+    fn recipes_with(
+        &self,
+        alloc: Global,
+        marks: &[bool],
+        own: &[bool],
+        needed: &mut [bool],
+        pack: &Pack,
+        descriptions: &[Description],
+        table: &MatchTable,
+        ssa: &Ssa,
+    ) -> Result<u64, AllocError>
+        requires near { MatchesNear table.now }
+        requires short { IsShort pack.now }
+        requires stands { StandsFor (map description_of descriptions.now) table.now ssa.now
+            self.now }
+        requires marks { MarkUnits (self.now.packs.items ++ pack.now ∷ []) marks.now }
+        requires own { Has (length own.now) (units_of pack.now) own.now }
+        ensures cost { IfOk result (λ c. c ≡ sum_by (λ t. t.recipe.lines) (taken_by
+            (map description_of descriptions.now) table.now ssa.now
+            (self.now.packs.items ++ pack.now ∷ []))) }
+        ensures marks { OnOk result (Marked (flat_map inserted_for (taken_by
+            (map description_of descriptions.now) table.now ssa.now
+            (self.now.packs.items ++ pack.now ∷ []))) needed.old needed.new) }
+    {
+        let plan = self.packs.as_slice();
+        let known = &self.shuffles;
+        let old = self.taken.as_slice();
+        let operands = operands_of(alloc, descriptions, table, ssa, pack)?;
+        let mut fresh = Vec::new(alloc);
+        add_all(
+            alloc,
+            &mut fresh,
+            descriptions,
+            ssa,
+            plan,
+            pack,
+            marks,
+            known,
+            old,
+            operands,
+        )?;
+        let kept = kept_cost(
+            alloc,
+            needed,
+            descriptions,
+            ssa,
+            plan,
+            pack,
+            marks,
+            own,
+            known,
+            old,
+        )?;
+        let added = recipes_cost(needed, fresh.as_slice())?;
+        let recipes = plus(kept, added)?;
+        Ok(recipes)
     }
 
     /// What the plan costs.

@@ -111,5 +111,8 @@ pub(crate) fn costs_among(
         ssa.now packs.now (shuffles (map description_of descriptions.now) operand.now)) }
 {
     let numbers = known.numbers.as_slice();
+    if numbers.is_empty() {
+        return Ok(Vec::new(alloc));
+    }
     costs_of(alloc, descriptions, ssa, packs, numbers, operand)
 }

@@ -1,25 +1,24 @@
 //! The operands that a plan takes.
 
-ghost use Rattle.std.specs.Prelude.{◌≡◌, ◌+◌, ◌++◌, ◌∷◌, [], IfOk, OnOk, filter_map, flat_map, map, sum_by};
+ghost use Rattle.std.specs.Prelude.{◌≡◌, ◌||◌, ◌++◌, ◌∷◌, [], IfOk, OnOk, filter_map, flat_map, map, sum_by};
 ghost use Rattle.std.specs.List.{list_any, AllByRecursion};
+ghost use Rattle.vg_cost.specs.Marks.{Marked};
 ghost use Rattle.vg_cost.specs.Shuffling.{AreShuffles};
-ghost use Rattle.vg_cost.specs.Taken.{IsKnownBut, add_all, add_taken, inserted_for, taken_for};
-ghost use Rattle.vg_packing.specs.Packing.{falling_units, packing};
+ghost use Rattle.vg_cost.specs.Taken.{add_all, add_taken, inserted_for, kept_for, recipe_for, taken_for, taken_of};
+ghost use Rattle.vg_cost.specs.Touch.{IsKnownBy, MarkUnits};
 ghost use Rattle.vg_packing.specs.SameAs.{same_operand};
 ghost use Rattle.vg_packing.specs.Wants.{value_of};
-ghost use Rattle.vg_plans.specs.World.{scalar_lines};
 ghost use Rattle.vg_shapes.specs.Description.{description_of};
 
 use crate::copies::copy_operand;
-use crate::lines::scalar_lines;
+use crate::lines::mark_wanted;
 use crate::price::plus;
 use crate::recipe_cost::{RecipeCost, recipe_cost};
 use crate::shuffles::Shuffles;
-use crate::touch::is_touched;
+use crate::touch::may_be_touched;
 use std::alloc::{AllocError, Global};
 use vg_packing::same::is_same_operand;
-use vg_packing::wants::value_of;
-use vg_shapes::{Description, Operand, Pack, Slot, Ssa, Wanted};
+use vg_shapes::{Description, Operand, Pack, Slot, Ssa};
 
 /// An operand that a plan takes, and what its recipe costs.
 #[derive(Drop)]
@@ -28,32 +27,66 @@ pub(crate) struct Taken {
     pub(crate) recipe: RecipeCost,
 }
 
-/// An operand in a longer plan. Its recipe is looked at again only if the pack behind the plan has
-/// one of its values.
+/// What the recipe of an operand of a plan costs in a longer one, of which the units are marked, and
+/// those of the pack behind the plan. It is looked at again only if the pack may have one of the
+/// operand's values.
+fn kept_recipe(
+    alloc: Global,
+    descriptions: &[Description],
+    ssa: &Ssa,
+    plan: &[Pack],
+    pack: &Pack,
+    marks: &[bool],
+    own: &[bool],
+    known: &Shuffles,
+    taken: &Taken,
+) -> Result<RecipeCost, AllocError>
+    requires shuffles { AreShuffles (map description_of descriptions.now) known.now }
+    requires marks { MarkUnits (plan.now ++ pack.now ∷ []) marks.now }
+    requires known { IsKnownBy (map description_of descriptions.now) ssa.now
+        (plan.now ++ pack.now ∷ []) own.now taken.now }
+    ensures { IfOk result (λ r. r ≡ recipe_for (map description_of descriptions.now) ssa.now
+        (plan.now ++ pack.now ∷ []) taken.now.operand) }
+{
+    if may_be_touched(own, &taken.operand) {
+        let operand = &taken.operand;
+        return recipe_cost(alloc, descriptions, ssa, plan, pack, marks, known, operand);
+    }
+    Ok(taken.recipe)
+}
+
+/// An operand of a plan in a longer one.
 fn keep(
     alloc: Global,
     descriptions: &[Description],
     ssa: &Ssa,
-    packs: &[Pack],
+    plan: &[Pack],
     pack: &Pack,
+    marks: &[bool],
+    own: &[bool],
     known: &Shuffles,
     taken: &Taken,
 ) -> Result<Taken, AllocError>
     requires shuffles { AreShuffles (map description_of descriptions.now) known.now }
-    requires known { IsKnownBut (map description_of descriptions.now) ssa.now packs.now pack.now
-        taken.now }
-    ensures { IfOk result (λ t. t ≡ taken_for (map description_of descriptions.now) ssa.now
-        packs.now taken.now.operand) }
+    requires marks { MarkUnits (plan.now ++ pack.now ∷ []) marks.now }
+    requires known { IsKnownBy (map description_of descriptions.now) ssa.now
+        (plan.now ++ pack.now ∷ []) own.now taken.now }
+    ensures { IfOk result (λ t. t ≡ kept_for (map description_of descriptions.now) ssa.now
+        (plan.now ++ pack.now ∷ []) taken.now) }
 {
     let operand = copy_operand(alloc, &taken.operand)?;
-    if is_touched(pack, &taken.operand) {
-        let recipe = recipe_cost(alloc, descriptions, ssa, packs, known, &taken.operand)?;
-        return Ok(Taken { operand, recipe });
-    }
-    Ok(Taken {
-        operand,
-        recipe: taken.recipe,
-    })
+    let recipe = kept_recipe(
+        alloc,
+        descriptions,
+        ssa,
+        plan,
+        pack,
+        marks,
+        own,
+        known,
+        taken,
+    )?;
+    Ok(Taken { operand, recipe })
 }
 
 /// The operands of a plan in a longer one.
@@ -61,20 +94,23 @@ pub(crate) fn keep_all(
     alloc: Global,
     descriptions: &[Description],
     ssa: &Ssa,
-    packs: &[Pack],
+    plan: &[Pack],
     pack: &Pack,
+    marks: &[bool],
+    own: &[bool],
     known: &Shuffles,
     taken: &[Taken],
 ) -> Result<Vec<Taken>, AllocError>
     requires shuffles { AreShuffles (map description_of descriptions.now) known.now }
-    requires known { AllByRecursion (IsKnownBut (map description_of descriptions.now) ssa.now
-        packs.now pack.now) taken.now }
-    ensures { IfOk result (λ kept. kept.items ≡ map (λ t. taken_for
-        (map description_of descriptions.now) ssa.now packs.now t.operand) taken.now) }
+    requires marks { MarkUnits (plan.now ++ pack.now ∷ []) marks.now }
+    requires known { AllByRecursion (IsKnownBy (map description_of descriptions.now) ssa.now
+        (plan.now ++ pack.now ∷ []) own.now) taken.now }
+    ensures { IfOk result (λ kept. kept.items ≡ map (kept_for
+        (map description_of descriptions.now) ssa.now (plan.now ++ pack.now ∷ [])) taken.now) }
 {
     let mut kept = Vec::new(alloc);
     'taken: for one in taken {
-        let longer = keep(alloc, descriptions, ssa, packs, pack, known, one)?;
+        let longer = keep(alloc, descriptions, ssa, plan, pack, marks, own, known, one)?;
         kept.push(longer)?;
     }
     Ok(kept)
@@ -86,122 +122,141 @@ fn has_operand(taken: &[Taken], operand: &Operand) -> bool
     taken.iter().any(|t| is_same_operand(operand, &t.operand))
 }
 
-/// Appends an operand, if it is not there.
+/// Whether an operand is among these or those.
+fn is_there(taken: &[Taken], fresh: &[Taken], operand: &Operand) -> bool
+    ensures { result ≡ (list_any (λ t. same_operand operand.now t.operand) taken.now
+        || list_any (λ t. same_operand operand.now t.operand) fresh.now) }
+{
+    has_operand(taken, operand) || has_operand(fresh, operand)
+}
+
+/// Appends an operand, if it is neither there nor among the operands of a plan.
 fn add_taken(
     alloc: Global,
-    taken: &mut Vec<Taken>,
+    fresh: &mut Vec<Taken>,
     descriptions: &[Description],
     ssa: &Ssa,
-    packs: &[Pack],
+    plan: &[Pack],
+    pack: &Pack,
+    marks: &[bool],
     known: &Shuffles,
+    taken: &[Taken],
     operand: Operand,
 ) -> Result<(), AllocError>
-    requires { AreShuffles (map description_of descriptions.now) known.now }
-    ensures { OnOk result (taken.new.items ≡ add_taken
-        (taken_for (map description_of descriptions.now) ssa.now packs.now) taken.old.items
-        operand) }
+    requires shuffles { AreShuffles (map description_of descriptions.now) known.now }
+    requires marks { MarkUnits (plan.now ++ pack.now ∷ []) marks.now }
+    ensures { OnOk result (map (kept_for (map description_of descriptions.now) ssa.now
+        (plan.now ++ pack.now ∷ [])) taken.now ++ fresh.new.items ≡ add_taken
+        (taken_for (map description_of descriptions.now) ssa.now (plan.now ++ pack.now ∷ []))
+        (map (kept_for (map description_of descriptions.now) ssa.now (plan.now ++ pack.now ∷ []))
+        taken.now ++ fresh.old.items) operand) }
 {
-    if has_operand(taken.as_slice(), &operand) {
+    if is_there(taken, fresh.as_slice(), &operand) {
         return Ok(());
     }
-    let recipe = recipe_cost(alloc, descriptions, ssa, packs, known, &operand)?;
-    taken.push(Taken { operand, recipe })?;
+    let recipe = recipe_cost(alloc, descriptions, ssa, plan, pack, marks, known, &operand)?;
+    fresh.push(Taken { operand, recipe })?;
     Ok(())
 }
 
-/// Appends operands, those that are not there.
+/// Appends operands, those that are neither there nor among the operands of a plan.
 pub(crate) fn add_all(
     alloc: Global,
-    taken: &mut Vec<Taken>,
+    fresh: &mut Vec<Taken>,
     descriptions: &[Description],
     ssa: &Ssa,
-    packs: &[Pack],
+    plan: &[Pack],
+    pack: &Pack,
+    marks: &[bool],
     known: &Shuffles,
+    taken: &[Taken],
     operands: Vec<Operand>,
 ) -> Result<(), AllocError>
-    requires { AreShuffles (map description_of descriptions.now) known.now }
-    ensures { OnOk result (taken.new.items ≡ add_all
-        (taken_for (map description_of descriptions.now) ssa.now packs.now) taken.old.items
-        operands.items) }
+    requires shuffles { AreShuffles (map description_of descriptions.now) known.now }
+    requires marks { MarkUnits (plan.now ++ pack.now ∷ []) marks.now }
+    ensures { OnOk result (map (kept_for (map description_of descriptions.now) ssa.now
+        (plan.now ++ pack.now ∷ [])) taken.now ++ fresh.new.items ≡ add_all
+        (taken_for (map description_of descriptions.now) ssa.now (plan.now ++ pack.now ∷ []))
+        (map (kept_for (map description_of descriptions.now) ssa.now (plan.now ++ pack.now ∷ []))
+        taken.now ++ fresh.old.items) operands.items) }
 {
     'operands: for operand in operands {
-        add_taken(alloc, taken, descriptions, ssa, packs, known, operand)?;
+        add_taken(
+            alloc,
+            fresh,
+            descriptions,
+            ssa,
+            plan,
+            pack,
+            marks,
+            known,
+            taken,
+            operand,
+        )?;
     }
     Ok(())
 }
 
-/// What the recipes of operands cost.
-fn recipes_cost(taken: &[Taken]) -> Result<u64, AllocError>
-    ensures { IfOk result (λ c. c ≡ sum_by (λ t. t.recipe.lines) taken.now) }
+/// Marks the values that slots want.
+fn mark_slots(needed: &mut [bool], slots: &[Slot])
+    ensures { Marked (filter_map (λ s. value_of s.wanted) slots.now) needed.old needed.new }
+{
+    'slots: for slot in slots {
+        mark_wanted(needed, slot.wanted);
+    }
+}
+
+/// Marks the values that the inserts of an operand take.
+fn mark_inserted(needed: &mut [bool], operand: &Operand, recipe: RecipeCost)
+    ensures { Marked (inserted_for (taken_of operand.now recipe)) needed.old needed.new }
+{
+    if recipe.is_inserted {
+        mark_slots(needed, operand.slots.as_slice());
+    }
+}
+
+/// What the recipes of operands cost. Marks the values that their inserts take.
+pub(crate) fn recipes_cost(needed: &mut [bool], taken: &[Taken]) -> Result<u64, AllocError>
+    ensures cost { IfOk result (λ c. c ≡ sum_by (λ t. t.recipe.lines) taken.now) }
+    ensures marks { OnOk result (Marked (flat_map inserted_for taken.now) needed.old needed.new) }
 {
     let mut sum = 0u64;
     'taken: for one in taken {
+        mark_inserted(needed, &one.operand, one.recipe);
         sum = plus(sum, one.recipe.lines)?;
     }
     Ok(sum)
 }
 
-/// Appends the value that is wanted, if it is one.
-fn push_value(values: &mut Vec<u32>, wanted: Wanted) -> Result<(), AllocError>
-    ensures { OnOk result (values.new.items ≡ values.old.items
-        ++ filter_map value_of (wanted ∷ [])) }
-{
-    match value_of(wanted) {
-        Some(value) => {
-            values.push(value)?;
-            Ok(())
-        }
-        None => Ok(()),
-    }
-}
-
-/// Appends the values that slots want.
-fn push_values(values: &mut Vec<u32>, slots: &[Slot]) -> Result<(), AllocError>
-    ensures { OnOk result (values.new.items ≡ values.old.items
-        ++ filter_map (λ s. value_of s.wanted) slots.now) }
-{
-    'slots: for slot in slots {
-        push_value(values, slot.wanted)?;
-    }
-    Ok(())
-}
-
-/// Appends the values that the inserts of an operand take.
-fn push_inserted(values: &mut Vec<u32>, taken: &Taken) -> Result<(), AllocError>
-    ensures { OnOk result (values.new.items ≡ values.old.items ++ inserted_for taken.now) }
-{
-    if taken.recipe.is_inserted {
-        push_values(values, taken.operand.slots.as_slice())?;
-    }
-    Ok(())
-}
-
-/// The values that the inserts of operands take.
-fn inserted_values(alloc: Global, taken: &[Taken]) -> Result<Vec<u32>, AllocError>
-    ensures { IfOk result (λ values. values.items ≡ flat_map inserted_for taken.now) }
-{
-    let mut values = Vec::new(alloc);
-    'taken: for one in taken {
-        push_inserted(&mut values, one)?;
-    }
-    Ok(values)
-}
-
-/// What a plan costs that takes these operands, and whose packs cost so much.
-pub(crate) fn whole_cost(
+/// What the recipes of the operands of a plan cost in a longer one. Marks the values that their inserts
+/// take.
+pub(crate) fn kept_cost(
     alloc: Global,
+    needed: &mut [bool],
+    descriptions: &[Description],
     ssa: &Ssa,
-    packs: &[Pack],
+    plan: &[Pack],
+    pack: &Pack,
+    marks: &[bool],
+    own: &[bool],
+    known: &Shuffles,
     taken: &[Taken],
-    price: u64,
 ) -> Result<u64, AllocError>
-    ensures { IfOk result (λ c. c ≡ price + sum_by (λ t. t.recipe.lines) taken.now + scalar_lines
-        (packing [] [] ssa.now []) packs.now (flat_map inserted_for taken.now)
-        (falling_units ssa.now)) }
+    requires shuffles { AreShuffles (map description_of descriptions.now) known.now }
+    requires marks { MarkUnits (plan.now ++ pack.now ∷ []) marks.now }
+    requires known { AllByRecursion (IsKnownBy (map description_of descriptions.now) ssa.now
+        (plan.now ++ pack.now ∷ []) own.now) taken.now }
+    ensures cost { IfOk result (λ c. c ≡ sum_by (λ t. (kept_for (map description_of
+        descriptions.now) ssa.now (plan.now ++ pack.now ∷ []) t).recipe.lines) taken.now) }
+    ensures marks { OnOk result (Marked (flat_map (λ t. inserted_for (kept_for (map description_of
+        descriptions.now) ssa.now (plan.now ++ pack.now ∷ []) t)) taken.now) needed.old
+        needed.new) }
 {
-    let recipes = recipes_cost(taken)?;
-    let values = inserted_values(alloc, taken)?;
-    let lines = scalar_lines(alloc, ssa, packs, values.as_slice())?;
-    let packed = plus(price, recipes)?;
-    plus(packed, lines)
+    let mut sum = 0u64;
+    'taken: for one in taken {
+        let recipe = kept_recipe(alloc, descriptions, ssa, plan, pack, marks, own, known, one)?;
+        mark_inserted(needed, &one.operand, recipe);
+        sum = plus(sum, recipe.lines)?;
+    }
+    Ok(sum)
 }

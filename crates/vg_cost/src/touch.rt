@@ -1,74 +1,55 @@
-//! Whether a pack has one of an operand's values.
+//! What marks of units tell of an operand's values.
 
-ghost use Rattle.std.specs.Prelude.{◌≡◌, Some, filter_map};
-ghost use Rattle.std.specs.List.{list_any};
-ghost use Rattle.vg_cost.specs.Taken.{is_one_of, is_touched};
-ghost use Rattle.vg_packing.specs.SameAs.{same_lane};
-ghost use Rattle.vg_plans.specs.World.{is_in};
-ghost use Rattle.vg_shapes.specs.Pack.{units_of};
+ghost use Rattle.std.specs.Prelude.{◌≡◌};
+ghost use Rattle.std.specs.List.{list_all, list_any};
+ghost use Rattle.vg_cost.specs.Touch.{may_be_had, may_be_met, may_be_one, may_be_touched};
 
+use crate::marks::is_marked;
 use vg_packing::wants::value_of;
-use vg_shapes::{Operand, Pack, Slot, Wanted};
+use vg_shapes::{Operand, Slot, Wanted};
 
-fn has_number(numbers: &[u32], number: u32) -> bool
-    ensures { result ≡ is_in number numbers.now }
-{
-    numbers.iter().any(|n| number == *n)
-}
-
-/// Whether a lane has the value of a number.
-fn is_lane(lane: Option<u32>, number: u32) -> bool
-    ensures { result ≡ same_lane (Some number) lane }
-{
-    match lane {
-        Some(value) => number == value,
-        None => false,
-    }
-}
-
-fn some_lane(lanes: &[Option<u32>], number: u32) -> bool
-    ensures { result ≡ list_any (same_lane (Some number)) lanes.now }
-{
-    lanes.iter().any(|lane| is_lane(*lane, number))
-}
-
-#[tactic(auto, using(crate::proofs::Own::in_lanes))]
-fn has_lane(lanes: &[Option<u32>], number: u32) -> bool
-    ensures { result ≡ is_in number (filter_map (λ v. v) lanes.now) }
-{
-    some_lane(lanes, number)
-}
-
-/// Whether a number is that of a unit of a pack.
-pub(crate) fn has_unit(pack: &Pack, number: u32) -> bool
-    ensures { result ≡ is_in number (units_of pack.now) }
-{
-    match pack {
-        Pack::Stores(units) => has_number(units.as_slice(), number),
-        Pack::Loads(units) => has_number(units.as_slice(), number),
-        Pack::Call { lanes, .. } => has_lane(lanes.as_slice(), number),
-    }
-}
-
-/// Whether a value that is wanted is a unit of a pack.
-fn is_one_of(pack: &Pack, wanted: Wanted) -> bool
-    ensures { result ≡ is_one_of pack.now wanted }
+/// Whether a value that is wanted may be one of the units that are marked.
+fn may_be_one(marks: &[bool], wanted: Wanted) -> bool
+    ensures { result ≡ may_be_one marks.now wanted }
 {
     match value_of(wanted) {
-        Some(value) => has_unit(pack, value),
+        Some(value) => is_marked(marks, value),
         None => false,
     }
 }
 
-fn some_is_one_of(pack: &Pack, slots: &[Slot]) -> bool
-    ensures { result ≡ list_any (λ s. is_one_of pack.now s.wanted) slots.now }
+fn some_may_be_one(marks: &[bool], slots: &[Slot]) -> bool
+    ensures { result ≡ list_any (λ s. may_be_one marks.now s.wanted) slots.now }
 {
-    slots.iter().any(|s| is_one_of(pack, s.wanted))
+    slots.iter().any(|s| may_be_one(marks, s.wanted))
 }
 
-/// Whether a pack has one of an operand's values.
-pub(crate) fn is_touched(pack: &Pack, operand: &Operand) -> bool
-    ensures { result ≡ is_touched pack.now operand.now }
+/// Whether one of an operand's values may be a unit that is marked. Where it may not, none is.
+pub(crate) fn may_be_touched(marks: &[bool], operand: &Operand) -> bool
+    ensures { result ≡ may_be_touched marks.now operand.now }
 {
-    some_is_one_of(pack, operand.slots.as_slice())
+    some_may_be_one(marks, operand.slots.as_slice())
+}
+
+/// Whether what is wanted is no value, or may be one of the units that are marked.
+fn may_be_had(marks: &[bool], wanted: Wanted) -> bool
+    ensures { result ≡ may_be_had marks.now wanted }
+{
+    match value_of(wanted) {
+        Some(value) => is_marked(marks, value),
+        None => true,
+    }
+}
+
+fn all_may_be_had(marks: &[bool], slots: &[Slot]) -> bool
+    ensures { result ≡ list_all (λ s. may_be_had marks.now s.wanted) slots.now }
+{
+    slots.iter().all(|s| may_be_had(marks, s.wanted))
+}
+
+/// Whether all of an operand's values may be units that are marked. Where they may not, one is not.
+pub(crate) fn may_be_met(marks: &[bool], operand: &Operand) -> bool
+    ensures { result ≡ may_be_met marks.now operand.now }
+{
+    all_may_be_had(marks, operand.slots.as_slice())
 }

@@ -1,8 +1,9 @@
-use Rattle.std.proofs.Common.{◌∙◌, ◌++◌, ◌∷◌, [], ap, map, subst, sym}
+use Rattle.std.proofs.Common.{◌∙◌, ◌++◌, ◌∷◌, [], ap, map, refl, subst, sym}
 use Rattle.std.specs.List.{list_any}
-use Rattle.vg_packing.specs.Laws.{IsPlanFor}
+use Rattle.vg_packing.specs.Laws.{IsPlanFor, cost_of}
 use Rattle.vg_packing.specs.Packing.{packing}
 use Rattle.vg_packing.specs.Taken.{IsShort}
+use Rattle.vg_cost.specs.Room.{IsRoomFor}
 use Rattle.vg_packs.specs.PlanMarks.{MarksPlan}
 use Rattle.vg_packs.specs.Walk.{IsFree, is_in_plan}
 use Rattle.vg_plans.specs.World.{stays_plan}
@@ -22,9 +23,11 @@ returns-then-overlap c =
     let p = pack_at c.args.board.now.packs.items c.args.pack in
     let t = ap (λ q. list_any (is_in_plan plan) (units_of q)) (sym c.pack-last.ensures)
     ∙ ap (λ l. list_any (is_in_plan l) (units_of c.pack-last.result.now)) (sym c.packs-packs.ensures)
-    ∙ sym c.overlaps-overlap.ensures ∙ c.if-overlap.true in
-    meets-refused (map description_of c.args.descriptions.now) c.args.table.now c.args.ssa.now c.args.deps.now c.args.board.now.packs.items c.args._level.now plan p c.args.met.now c.requires.met
-    (overlap-stays (map description_of c.args.descriptions.now) c.args.table.now c.args.ssa.now c.args.deps.now plan p t)
+    ∙ sym c.overlaps-overlap.ensures ∙ c.if-overlap.true in record {
+      room = c.requires.room;
+      met = meets-refused (map description_of c.args.descriptions.now) c.args.table.now c.args.ssa.now c.args.deps.now c.args.board.now.packs.items c.args._level.now plan p c.args.met.now c.requires.met
+          (overlap-stays (map description_of c.args.descriptions.now) c.args.table.now c.args.ssa.now c.args.deps.now plan p t);
+    }
 
 pub stays_plan-requires-clause-marks : goal.stays_plan-requires-clause-marks
 stays_plan-requires-clause-marks c =
@@ -35,8 +38,8 @@ stays_plan-requires-clause-free c =
     subst (IsFree c.args.table.now c.args.ssa.now c.args.deps.now) (sym c.packs-packs.ensures)
     (plan-free (map description_of c.args.descriptions.now) c.args.table.now c.args.ssa.now c.args.deps.now c.requires.earlier (plan_of c.args.kept.now) c.requires.kept.plan)
 
-pub with-requires-clause-short : goal.with-requires-clause-short
-with-requires-clause-short c =
+pub cost_with-requires-clause-short : goal.cost_with-requires-clause-short
+cost_with-requires-clause-short c =
     let bare = packing [] c.args.table.now c.args.ssa.now c.args.deps.now in
     let plan = plan_of c.args.kept.now in
     let p = pack_at c.args.board.now.packs.items c.args.pack in
@@ -45,8 +48,8 @@ with-requires-clause-short c =
     subst IsShort (sym c.pack-last.ensures)
     (last-short (map description_of c.args.descriptions.now) c.args.table.now c.args.ssa.now c.args.deps.now c.requires.short plan p (longer-plan (map description_of c.args.descriptions.now) c.args.table.now c.args.ssa.now c.args.deps.now plan p c.requires.kept.plan c.requires.tried t))
 
-pub with-requires-clause-plan : goal.with-requires-clause-plan
-with-requires-clause-plan c =
+pub cost_with-requires-clause-plan : goal.cost_with-requires-clause-plan
+cost_with-requires-clause-plan c =
     let bare = packing [] c.args.table.now c.args.ssa.now c.args.deps.now in
     let plan = plan_of c.args.kept.now in
     let p = pack_at c.args.board.now.packs.items c.args.pack in
@@ -63,9 +66,11 @@ returns-then-known c =
     let plan = plan_of c.args.kept.now in
     let p = pack_at packs c.args.pack in
     let k = subst (λ q. IsKey no_pack packs q (plan ++ p ∷ [])) (sym (c.in_ok-key.ensures ∙ ap (with_number c.args.pack) c.as_slice.ensures))
-    (key-longer no_pack packs c.args.kept.now.key plan c.args.pack c.requires.kept.key c.requires.pack) in
-    meets-known (map description_of c.args.descriptions.now) c.args.table.now c.args.ssa.now c.args.deps.now packs c.args._level.now plan p c.args.met.now c.in_ok-key.key.items c.requires.met k
-    (ap (is_known c.args.met.now) (sym c.as_slice-2.ensures.value) ∙ sym c.has-known.ensures ∙ c.if-known.true)
+    (key-longer no_pack packs c.args.kept.now.key plan c.args.pack c.requires.kept.key c.requires.pack) in record {
+      room = c.requires.room;
+      met = meets-known (map description_of c.args.descriptions.now) c.args.table.now c.args.ssa.now c.args.deps.now packs c.args._level.now plan p c.args.met.now c.in_ok-key.key.items c.requires.met k
+          (ap (is_known c.args.met.now) (sym c.as_slice-2.ensures.value) ∙ sym c.has-known.ensures ∙ c.if-known.true);
+    }
 
 pub returns-then-not-stays : goal.returns-then-not-stays
 returns-then-not-stays c =
@@ -73,8 +78,10 @@ returns-then-not-stays c =
     let plan = plan_of c.args.kept.now in
     let p = pack_at c.args.board.now.packs.items c.args.pack in
     let f = ap (stays_plan bare plan) (sym c.pack-last.ensures) ∙ ap (λ l. stays_plan bare l c.pack-last.result.now) (sym c.packs-packs.ensures)
-    ∙ sym c.in_ok-stays.ensures ∙ c.if-not-stays.true in
-    meets-refused (map description_of c.args.descriptions.now) c.args.table.now c.args.ssa.now c.args.deps.now c.args.board.now.packs.items c.args._level.now plan p c.args.met.now c.requires.met f
+    ∙ sym c.in_ok-stays.ensures ∙ c.if-not-stays.true in record {
+      room = c.requires.room;
+      met = meets-refused (map description_of c.args.descriptions.now) c.args.table.now c.args.ssa.now c.args.deps.now c.args.board.now.packs.items c.args._level.now plan p c.args.met.now c.requires.met f;
+    }
 
 pub returns : goal.returns
 returns c =
@@ -87,9 +94,11 @@ returns c =
     let f = ap (is_known c.args.met.now) (sym c.as_slice-2.ensures.value) ∙ sym c.has-known.ensures ∙ c.if-known.false in
     let t = ap (stays_plan bare plan) (sym c.pack-last.ensures) ∙ ap (λ l. stays_plan bare l c.pack-last.result.now) (sym c.packs-packs.ensures)
     ∙ sym c.in_ok-stays.ensures ∙ c.if-not-stays.false in
-    let is = longer-plan (map description_of c.args.descriptions.now) c.args.table.now c.args.ssa.now c.args.deps.now plan p c.requires.kept.plan c.requires.tried t in
-    meets-new (map description_of c.args.descriptions.now) c.args.table.now c.args.ssa.now c.args.deps.now packs c.args._level.now plan p c.args.met.now _ c.in_ok-key.key.items _ c.requires.board.apart c.requires.met k f t
-    c.in_ok-add.ensures.candidates c.in_ok-add.ensures.known (ap (λ l. l ++ p ∷ []) (sym c.requires.plan))
-    (is-candidate (map description_of c.args.descriptions.now) c.args.table.now c.args.ssa.now c.args.deps.now packs c.args._level.now c.args.parent c.args.pack c.cost-cost.result plan c.in_ok-longer.longer
-    c.requires.parent c.requires.pack c.requires.plan is
-    (c.in_ok-longer.ensures.packs ∙ ap (λ q. plan ++ q ∷ []) c.pack-last.ensures) c.in_ok-longer.ensures.stands c.cost-cost.ensures)
+    let is = longer-plan (map description_of c.args.descriptions.now) c.args.table.now c.args.ssa.now c.args.deps.now plan p c.requires.kept.plan c.requires.tried t in record {
+      room = c.in_ok-cost.ensures.room;
+      met = meets-new (map description_of c.args.descriptions.now) c.args.table.now c.args.ssa.now c.args.deps.now packs c.args._level.now plan p c.args.met.now _ c.in_ok-key.key.items _ c.requires.board.apart c.requires.met k f t
+          c.in_ok-add.ensures.candidates c.in_ok-add.ensures.known (ap (λ l. l ++ p ∷ []) (sym c.requires.plan))
+          (is-candidate (map description_of c.args.descriptions.now) c.args.table.now c.args.ssa.now c.args.deps.now packs c.args._level.now c.args.parent c.args.pack c.in_ok-cost.cost plan
+          c.requires.parent c.requires.pack c.requires.plan is
+          (c.in_ok-cost.ensures.cost c.args.deps.now ∙ ap (λ q. cost_of (map description_of c.args.descriptions.now) c.args.table.now c.args.ssa.now c.args.deps.now (plan ++ q ∷ [])) c.pack-last.ensures));
+    }

@@ -1,14 +1,33 @@
-use Rattle.std.proofs.Common.{◌∙◌, ap, map, sym}
+use Rattle.std.proofs.Common.{◌≡◌, ◌∙◌, ◌++◌, ◌∷◌, [], ap, map, sym, false, Bool}
 use Rattle.std.specs.List.{list_any}
+use Rattle.std.specs.Prelude.{◌||◌}
 use Rattle.vg_shapes.specs.Description.{description_of}
 use Rattle.vg_packing.specs.SameAs.{same_operand}
-use Rattle.vg_cost.specs.Taken.{taken_for}
-use Rattle.vg_cost.proofs.Growing.{not_added}
+use Rattle.vg_cost.specs.Taken.{kept_for, taken_for, taken_of}
+use Rattle.vg_cost.proofs.Growing.{added_fresh, not_added, there}
 use Rattle.vg_cost.proofs.taken.add_taken.Goals as goal
 
-pub returns-then-has_operand : goal.returns-then-has_operand
-returns-then-has_operand c =
-    not_added (taken_for (map description_of c.args.descriptions.now) c.args.ssa.now c.args.packs.now)
-    c.args.taken.now.items c.args.operand
-    (ap (list_any (λ t. same_operand c.args.operand t.operand)) (sym c.as_slice.ensures.value)
-    ∙ sym c.has_operand.ensures ∙ c.if-has_operand.true)
+pub returns-then-is_there : goal.returns-then-is_there
+returns-then-is_there c =
+    let ds = map description_of c.args.descriptions.now in
+    let longer = c.args.plan.now ++ c.args.pack.now ∷ [] in
+    let old = c.args.taken.now in
+    not_added (taken_for ds c.args.ssa.now longer)
+    (map (kept_for ds c.args.ssa.now longer) old ++ c.args.fresh.now.items) c.args.operand
+    (there ds c.args.ssa.now longer c.args.operand old c.args.fresh.now.items c.is_there.result
+    (c.is_there.ensures ∙ ap (λ f. list_any (λ t. same_operand c.args.operand t.operand) old
+    || list_any (λ t. same_operand c.args.operand t.operand) f) c.as_slice.ensures.value)
+    ∙ c.if-is_there.true)
+
+pub returns : goal.returns
+returns c =
+    let ds = map description_of c.args.descriptions.now in
+    let longer = c.args.plan.now ++ c.args.pack.now ∷ [] in
+    let old = c.args.taken.now in
+    added_fresh (taken_for ds c.args.ssa.now longer) (map (kept_for ds c.args.ssa.now longer) old)
+    c.args.fresh.now.items _ c.args.operand (taken_of c.args.operand c.in_ok-recipe.recipe)
+    (there ds c.args.ssa.now longer c.args.operand old c.args.fresh.now.items c.is_there.result
+    (c.is_there.ensures ∙ ap (λ f. list_any (λ t. same_operand c.args.operand t.operand) old
+    || list_any (λ t. same_operand c.args.operand t.operand) f) c.as_slice.ensures.value)
+    ∙ c.if-is_there.false)
+    (ap (taken_of c.args.operand) c.in_ok-recipe.ensures) c.in_ok-push.ensures.items

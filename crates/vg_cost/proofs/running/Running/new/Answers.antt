@@ -1,4 +1,4 @@
-use Rattle.std.proofs.Common.{map, subst, sym, refl, []}
+use Rattle.std.proofs.Common.{arith, map, subst, sym, refl, []}
 use Rattle.std.specs.List.{AllByRecursion}
 use Rattle.vg_packing.specs.Taken.{IsShort}
 use Rattle.vg_shapes.specs.Description.{description_of}
@@ -10,4 +10,4 @@ pub returns-clause-stands : goal.returns-clause-stands
 returns-clause-stands c =
     stands-empty (map description_of c.args.descriptions.now) c.args.table.now c.args.ssa.now
     record { packs = c.new-2.result; taken = c.new-3.result; shuffles = c.in_ok-shuffles.shuffles; price = 0; cost = c.in_ok-cost.cost }
-    c.new-2.ensures.items c.new-3.ensures.items c.in_ok-shuffles.ensures refl c.in_ok-cost.ensures
+    c.new-2.ensures.items c.new-3.ensures.items c.in_ok-shuffles.ensures refl (let e = c.in_ok-cost.ensures in omega (arith, e))

@@ -1,8 +1,0 @@
-use Rattle.std.proofs.Common.{◌≡◌, ◌++◌, take}
-use Rattle.std.specs.Prelude.{filter_map}
-use Rattle.vg_packing.specs.Wants.{value_of}
-use Rattle.vg_cost.proofs.taken.push_values.Given as goal
-
-abbrev pub invariant-slots : goal.invariant-slots
-invariant-slots l =
-    l.values.items ≡ l.initial.values.items ++ filter_map (λ s. value_of s.wanted) (take l.slot-index l.slots)
