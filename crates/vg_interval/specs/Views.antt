@@ -55,7 +55,7 @@ abbrev pub found_view : in_memory.Found → Found
 found_view (f.Known n) = known (number_of n) None
 found_view (f.KnownSlice is_signed n w) = known (slice_number is_signed w (n % 2 ^ w)) (Some w)
 found_view (f.Read is_signed r l w) = read is_signed r (low_of l) w
-found_view (f.Handed g r l w) = handed (frame_of g) r (low_of l) w
+found_view (f.Handed g r l w) = handed (frame_of g.value) r (low_of l) w
 found_view (f.Bit x) = bit (word_of x)
 found_view (f.Within j x) = within j (word_of x)
 found_view (f.Wide x) = wide (word_of x)

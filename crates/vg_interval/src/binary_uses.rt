@@ -100,18 +100,9 @@ pub fn joined(
 ) -> Result<Found, RangeFault>
     ensures { Gives found_view result (joined spot op (operand_view first) (operand_view second)) }
 {
-    match (first, second) {
-        (Operand::Fixed(y), Operand::Fixed(z)) => known(spot, binary_result(op, y, z)),
-        (Operand::Fixed(y), Operand::Moving { span, word }) => mixed(
-            alloc,
-            spot,
-            op,
-            Operand::Fixed(y),
-            Operand::Moving { span, word },
-        ),
-        (Operand::Moving { span, word }, second) => {
-            mixed(alloc, spot, op, Operand::Moving { span, word }, second)
-        }
+    match (&first, &second) {
+        (Operand::Fixed(y), Operand::Fixed(z)) => known(spot, binary_result(op, *y, *z)),
+        _ => mixed(alloc, spot, op, first, second),
     }
 }
 

@@ -45,7 +45,7 @@ pub fn passed(alloc: Global, spot: Spot, found: Found) -> Result<Passed, RangeFa
             low,
             width,
         } => Ok(Passed::Computed {
-            word: handed_word(alloc, frame, register, low, width)?,
+            word: handed_word(alloc, Box::into_inner(frame), register, low, width)?,
         }),
         Found::Bit { word } => Ok(Passed::Computed {
             word: extended(alloc, false, 1, word)?,
@@ -96,7 +96,7 @@ pub fn answered(alloc: Global, spot: Spot, frame: Frame, found: Found) -> Result
             low,
             width,
         } => Ok(Found::Handed {
-            frame,
+            frame: Box::new(alloc, frame)?,
             register,
             low,
             width,
@@ -106,7 +106,10 @@ pub fn answered(alloc: Global, spot: Spot, frame: Frame, found: Found) -> Result
             register,
             low,
             width,
-        } => handed_on(alloc, spot, frame, inner, register, low, width),
+        } => {
+            let inner = Box::into_inner(inner);
+            handed_on(alloc, spot, frame, inner, register, low, width)
+        }
         Found::Bit { word } => {
             let answer = extended(alloc, false, 1, word)?;
             Ok(Found::Within {

@@ -25,7 +25,7 @@ pub enum Found {
     },
     /// A slice of a register that a call leaves.
     Handed {
-        frame: Frame,
+        frame: Box<Frame>,
         register: usize,
         low: Low,
         width: u128,

@@ -178,7 +178,10 @@ pub fn operand(alloc: Global, spot: Spot, found: Found) -> Result<Operand, Range
             register,
             low,
             width,
-        } => handed(alloc, spot.outer, frame, register, low, width),
+        } => {
+            let frame = Box::into_inner(frame);
+            handed(alloc, spot.outer, frame, register, low, width)
+        }
         Found::Bit { word } => {
             let word = extended(alloc, false, 1, word)?;
             Ok(Operand::Moving {

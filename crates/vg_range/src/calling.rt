@@ -16,6 +16,7 @@ use crate::judging::judge;
 use crate::spots::spot_of;
 use crate::stand::Stand;
 use std::alloc::{AllocError, Global};
+use std::cell::Cell;
 use vg_base::Items;
 use vg_interval::calls::answered;
 use vg_interval::{Count, Found, Passed, RangeFault};
@@ -64,6 +65,7 @@ fn answered_by(
 pub fn called(
     alloc: Global,
     is_kept: bool,
+    written: &Cell<u32>,
     functions: &[Function],
     function: &Function,
     spot: Spot,
@@ -83,6 +85,7 @@ pub fn called(
         turns: &[],
         functions,
         is_kept,
+        written,
     };
     let first = begun(alloc, function.body.numbers, count)?;
     let stand = walk(alloc, &course, &function.body.code, first)?;
@@ -102,6 +105,7 @@ pub fn called(
 pub fn called_at(
     alloc: Global,
     is_kept: bool,
+    written: &Cell<u32>,
     functions: &[Function],
     number: usize,
     spot: Spot,
@@ -116,6 +120,7 @@ pub fn called_at(
         called(
             alloc,
             is_kept,
+            written,
             &functions[..number],
             function,
             spot,

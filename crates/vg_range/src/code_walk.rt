@@ -212,6 +212,7 @@ fn turn_at(
         turns: turns.as_slice(),
         functions: course.functions,
         is_kept: course.is_kept,
+        written: course.written,
     };
     walk(alloc, &inner, body, at_count(stand, count))
 }

@@ -7,7 +7,8 @@ ghost use Rattle.vg_interval.specs.Views.{Gives, count_view, found_view, index_v
 ghost use Rattle.vg_script.specs.Views.{number_of};
 ghost use Rattle.vg_range.specs.Seen.{leaf, sight_view};
 
-use std::alloc::Global;
+use std::alloc::{AllocError, Global};
+use std::cell::Cell;
 use vg_interval::calls::variable_found;
 use vg_interval::moving::{element_at, slice_at};
 use vg_interval::{Count, Found, Index, Kept, RangeFault};
@@ -16,8 +17,12 @@ use vg_pseudo::Spot;
 use vg_script::WholeNumber;
 use vg_text::Place;
 
+/// The most expressions that are written out for an instance.
+const MOST_WRITTEN: u32 = 1 << 22;
+
 /// What a body sees: the widths of its registers, the numbers of those that are constant, the turns
-/// of the FORs around a place, innermost first, the DEFINEs before it, and whether scripts are kept.
+/// of the FORs around a place, innermost first, the DEFINEs before it, whether scripts are kept, and
+/// how many expressions were written out for them.
 #[derive(Clone, Copy)]
 pub struct Course<'a> {
     pub widths: &'a [u128],
@@ -25,6 +30,7 @@ pub struct Course<'a> {
     pub turns: &'a [WholeNumber],
     pub functions: &'a [Function],
     pub is_kept: bool,
+    pub written: &'a Cell<u32>,
 }
 
 /// What is known of the variable of a FOR.
@@ -60,6 +66,33 @@ pub fn boxed(alloc: Global, found: Found, count: Count) -> Result<(Box<Found>, C
     Ok((found, count))
 }
 
+/// One expression more is written out, where a script is kept. Past 2^22 of them in an instance
+/// there is no memory.
+fn write(course: &Course) -> Result<(), AllocError> {
+    if course.is_kept {
+        let before = course.written.get();
+        if before >= MOST_WRITTEN {
+            return Err(AllocError);
+        }
+        course.written.set(before + 1);
+    }
+    Ok(())
+}
+
+/// What is known of an expression that is written out, on the heap.
+#[inline(never)]
+pub fn written(
+    alloc: Global,
+    course: &Course,
+    found: Found,
+    count: Count,
+) -> Result<(Box<Found>, Count), RangeFault>
+    ensures { Gives (λ f. (found_view f.0.value, count_view f.1)) result (leaf (found_view found) (count_view count)) }
+{
+    write(course)?;
+    boxed(alloc, found, count)
+}
+
 /// A slice by its two indices.
 #[inline(never)]
 #[tactic(auto, using(crate::proofs::Lists::seen_slice))]
@@ -89,7 +122,7 @@ pub fn slice(
         low,
         count,
     )?;
-    boxed(alloc, found, count)
+    written(alloc, course, found, count)
 }
 
 /// An element by its size and its index.
@@ -119,5 +152,5 @@ pub fn element(
         index,
         count,
     )?;
-    boxed(alloc, found, count)
+    written(alloc, course, found, count)
 }

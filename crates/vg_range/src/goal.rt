@@ -142,6 +142,7 @@ pub fn stored(alloc: Global, spot: Spot, goal: Goal, found: Found) -> Result<Scr
             low,
             width,
         } => {
+            let frame = Box::into_inner(frame);
             if goal.bits.width <= width {
                 Ok(make_copy_from(
                     alloc,

@@ -12,6 +12,7 @@ use crate::code_walk::walk;
 use crate::course::Course;
 use crate::stand::Stand;
 use std::alloc::{AllocError, Global};
+use std::cell::Cell;
 use vg_interval::{Count, RangeFault};
 use vg_names::Resolved;
 
@@ -58,12 +59,14 @@ pub fn instance_at(
 {
     let body = &resolved.body;
     let constants = imm_constant(alloc, resolved.result, imm, body.widths.as_slice())?;
+    let written = Cell::new(0);
     let course = Course {
         widths: body.widths.as_slice(),
         constants: &constants,
         turns: &[],
         functions: resolved.functions.as_slice(),
         is_kept,
+        written: &written,
     };
     let count = Count {
         steps: 0,

@@ -11,11 +11,12 @@ ghost use Rattle.vg_range.specs.Seen.{argument_of, chosen_by, decision_view, eit
 ghost use Rattle.vg_range.specs.Walk.{walks_from};
 
 use crate::calling::called_at;
-use crate::course::{Course, boxed};
+use crate::course::{Course, boxed, written};
 use crate::decision::Decision;
 use crate::uses::{
-    binary_behind, condition_in, either_behind, element_behind, give, index_in, operand_of,
-    passed_in, plain_behind, slice_behind, turn_of, unary_behind, variable_of,
+    binary_behind, condition_in, either_behind, element_at_number, element_behind, give, index_in,
+    operand_of, passed_in, plain_behind, slice_at_numbers, slice_behind, turn_of, unary_behind,
+    variable_of,
 };
 use std::alloc::Global;
 use vg_interval::moving::{constant_at, width_at};
@@ -120,12 +121,28 @@ fn slice_of(
         (judge (sight_view course.now) (map kept_view numbers.now)
         (node.slice spot.now is_signed register spread.now (expr_of high.now) (expr_of low.now)) (count_view count)) }
 {
-    let (found, count) = judge(alloc, course, numbers, high, count)?;
-    let last = index_in(alloc, high, found)?;
-    let (found, count) = judge(alloc, course, numbers, low, count)?;
-    slice_behind(
-        alloc, course, spot, is_signed, register, spread, last, low, found, count,
-    )
+    match (high, low) {
+        (
+            ResolvedExpr::Literal {
+                spot: _,
+                value: last,
+            },
+            ResolvedExpr::Literal {
+                spot: _,
+                value: first,
+            },
+        ) => slice_at_numbers(
+            alloc, course, spot, is_signed, register, spread, *last, *first, count,
+        ),
+        _ => {
+            let (found, count) = judge(alloc, course, numbers, high, count)?;
+            let last = index_in(alloc, high, found)?;
+            let (found, count) = judge(alloc, course, numbers, low, count)?;
+            slice_behind(
+                alloc, course, spot, is_signed, register, spread, last, low, found, count,
+            )
+        }
+    }
 }
 
 /// `name.elem[index]` or `name[index]`
@@ -146,10 +163,17 @@ fn element_of(
         (judge (sight_view course.now) (map kept_view numbers.now)
         (node.element spot.now is_signed register size (expr_of index.now)) (count_view count)) }
 {
-    let (found, count) = judge(alloc, course, numbers, index, count)?;
-    element_behind(
-        alloc, course, spot, is_signed, register, size, index, found, count,
-    )
+    match index {
+        ResolvedExpr::Literal { spot: _, value } => element_at_number(
+            alloc, course, spot, is_signed, register, size, *value, count,
+        ),
+        _ => {
+            let (found, count) = judge(alloc, course, numbers, index, count)?;
+            element_behind(
+                alloc, course, spot, is_signed, register, size, index, found, count,
+            )
+        }
+    }
 }
 
 /// The bits of a register from bit 0 on.
@@ -169,11 +193,8 @@ fn front(
     let all = width_at(course.widths, register);
     let bits = bits_of_element(spot.inner, all, size, WholeNumber::Natural(0))?;
     let constant = constant_at(course.constants, register);
-    boxed(
-        alloc,
-        slice_found(is_signed, constant, register, bits),
-        count,
-    )
+    let found = slice_found(is_signed, constant, register, bits);
+    written(alloc, course, found, count)
 }
 
 /// An operator or a function of one operand.
@@ -192,7 +213,7 @@ fn unary(
         (judge (sight_view course.now) (map kept_view numbers.now) (node.unary spot.now op (expr_of expr.now)) (count_view count)) }
 {
     let (found, count) = judge(alloc, course, numbers, expr, count)?;
-    unary_behind(alloc, spot, op, expr, found, count)
+    unary_behind(alloc, course, spot, op, expr, found, count)
 }
 
 /// An operator or a function of two operands.
@@ -214,7 +235,7 @@ fn binary(
     let (found, count) = judge(alloc, course, numbers, left, count)?;
     let first = operand_of(alloc, left, found)?;
     let (found, count) = judge(alloc, course, numbers, right, count)?;
-    binary_behind(alloc, spot, op, first, right, found, count)
+    binary_behind(alloc, course, spot, op, first, right, found, count)
 }
 
 /// One branch of a choice whose condition is constant.
@@ -253,7 +274,7 @@ fn both_of(
     let (found, count) = judge(alloc, course, numbers, first, count)?;
     let one = operand_of(alloc, first, found)?;
     let (found, count) = judge(alloc, course, numbers, second, count)?;
-    either_behind(alloc, condition, one, second, found, count)
+    either_behind(alloc, course, condition, one, second, found, count)
 }
 
 /// What a condition says, and the counts behind it.
@@ -374,6 +395,7 @@ fn call(
     called_at(
         alloc,
         course.is_kept,
+        course.written,
         course.functions,
         function,
         *spot,

@@ -3,14 +3,14 @@
 
 ghost use Rattle.std.specs.Prelude.{◌≡◌, IfOk, get_or, map, pos, ◌++◌, ◌∷◌, [], None};
 ghost use Rattle.vg_interval.specs.Found.{known, operand, passed};
-ghost use Rattle.vg_interval.specs.Judge.{constant, index_of, spot_of, variable_found};
+ghost use Rattle.vg_interval.specs.Judge.{constant, element_at, index_of, settled, slice_at, spot_of, variable_found};
 ghost use Rattle.vg_interval.specs.Views.{Gives, condition_at, count_view, found_view, index_view, kept_view, operand_view, passed_view};
 ghost use Rattle.vg_names.specs.Views.{expr_of};
 ghost use Rattle.vg_script.specs.Views.{word_of};
 ghost use Rattle.vg_range.specs.Met.{selector_view};
 ghost use Rattle.vg_range.specs.Seen.{binary_behind, decision_view, either_behind, element_behind, leaf, plain_behind, sight_view, slice_behind, unary_behind};
 
-use crate::course::{Course, boxed, counter, element, slice, variable};
+use crate::course::{Course, boxed, counter, element, slice, variable, written};
 use crate::decision::{Decision, decision_of};
 use crate::selector::{Selector, selector_of};
 use crate::spots::spot_of;
@@ -23,7 +23,7 @@ use vg_interval::unary_uses::unary_at;
 use vg_interval::{Count, Found, Index, Kept, Operand, Passed, RangeFault};
 use vg_names::ResolvedExpr;
 use vg_pseudo::{BinaryOp, Spot, UnaryOp};
-use vg_script::Word;
+use vg_script::{WholeNumber, Word};
 
 /// The variable of a FOR.
 #[inline(never)]
@@ -129,6 +129,50 @@ pub fn give(given: &mut Vec<Passed>, passed: Box<Passed>) -> Result<(), AllocErr
     Ok(())
 }
 
+/// A slice by two indices that are written numbers.
+#[inline(never)]
+pub fn slice_at_numbers(
+    alloc: Global,
+    course: &Course,
+    spot: &Spot,
+    is_signed: bool,
+    register: usize,
+    spread: &Option<u128>,
+    high: u128,
+    low: u128,
+    count: Count,
+) -> Result<(Box<Found>, Count), RangeFault>
+    ensures { Gives (λ f. (found_view f.0.value, count_view f.1)) result
+        (slice_at (sight_view course.now) spot.now.inner is_signed register spread.now (settled (pos high)) (settled (pos low)) (count_view count)) }
+{
+    let high = Index::Settled(WholeNumber::Natural(high));
+    let low = Index::Settled(WholeNumber::Natural(low));
+    slice(
+        alloc, course, spot.inner, is_signed, register, *spread, high, low, count,
+    )
+}
+
+/// An element by an index that is a written number.
+#[inline(never)]
+pub fn element_at_number(
+    alloc: Global,
+    course: &Course,
+    spot: &Spot,
+    is_signed: bool,
+    register: usize,
+    size: u32,
+    index: u128,
+    count: Count,
+) -> Result<(Box<Found>, Count), RangeFault>
+    ensures { Gives (λ f. (found_view f.0.value, count_view f.1)) result
+        (element_at (sight_view course.now) spot.now.inner is_signed register size (settled (pos index)) (count_view count)) }
+{
+    let index = Index::Settled(WholeNumber::Natural(index));
+    element(
+        alloc, course, spot.inner, is_signed, register, size, index, count,
+    )
+}
+
 /// A slice by its high index, and what is known of its low one.
 #[inline(never)]
 pub fn slice_behind(
@@ -179,6 +223,7 @@ pub fn element_behind(
 #[inline(never)]
 pub fn unary_behind(
     alloc: Global,
+    course: &Course,
     spot: &Spot,
     op: UnaryOp,
     inner: &ResolvedExpr,
@@ -189,13 +234,14 @@ pub fn unary_behind(
         (unary_behind spot.now op (spot_of (expr_of inner.now)) (found_view found.value) (count_view count)) }
 {
     let found = unary_at(alloc, *spot, op, spot_of(inner), Box::into_inner(found))?;
-    boxed(alloc, found, count)
+    written(alloc, course, found, count)
 }
 
 /// An operator or a function of two operands, by its first, and what is known of the second.
 #[inline(never)]
 pub fn binary_behind(
     alloc: Global,
+    course: &Course,
     spot: &Spot,
     op: BinaryOp,
     first: Box<Operand>,
@@ -209,7 +255,7 @@ pub fn binary_behind(
     let first = Box::into_inner(first);
     let second = operand(alloc, spot_of(inner), Box::into_inner(found))?;
     let (found, count) = binary_at(alloc, *spot, op, spot_of(inner), first, second, count)?;
-    boxed(alloc, found, count)
+    written(alloc, course, found, count)
 }
 
 /// The branch that a choice takes, by what is known of it.
@@ -231,6 +277,7 @@ pub fn plain_behind(
 #[inline(never)]
 pub fn either_behind(
     alloc: Global,
+    course: &Course,
     condition: Box<Word>,
     first: Box<Operand>,
     inner: &ResolvedExpr,
@@ -243,5 +290,5 @@ pub fn either_behind(
     let first = Box::into_inner(first);
     let second = operand(alloc, spot_of(inner), Box::into_inner(found))?;
     let found = either(alloc, Box::into_inner(condition), first, second)?;
-    boxed(alloc, found, count)
+    written(alloc, course, found, count)
 }
