@@ -122,7 +122,7 @@ pub fn passed_in(
 
 /// One argument more.
 #[inline(never)]
-pub fn give(given: &mut Vec<Passed>, passed: Box<Passed>) -> Result<(), AllocError>
+pub(crate) fn give(given: &mut Vec<Passed>, passed: Box<Passed>) -> Result<(), AllocError>
     ensures { IfOk result (λ u. given.new.items ≡ given.old.items ++ passed.value ∷ []) }
 {
     given.push(Box::into_inner(passed))?;
