@@ -1,7 +1,7 @@
 -- Registers and variables as a body begins.
-use Rattle.std.proofs.Common.{◌≡◌, ℕ, zero, suc, add-one, append_assoc, append-nil, ◌++◌, ◌+◌, ◌-◌, ◌<◌, ◌≤◌, refl, sym, ap, ◌∙◌, subst, arith, List, [], ◌∷◌, length, get_or, take, drop, replicate}
+use Rattle.std.proofs.Common.{◌≡◌, ℕ, zero, suc, add-one, append_assoc, append-nil, ◌++◌, ◌+◌, ◌-◌, ◌<◌, ◌≤◌, refl, sym, ap, ◌∙◌, subst, arith, List, [], ◌∷◌, length, get_or, take, drop, min, replicate}
 use Rattle.std.specs.Prelude.{map}
-use Rattle.std.proofs.lemmas.List.{map-append}
+use Rattle.std.proofs.lemmas.List.{map-append, replicate-append-replicate, take-replicate, take_min}
 use Rattle.vg_terms.specs.Term.{constant}
 use Rattle.vg_pool.specs.declared.content.Content.{Content}
 use Rattle.vg_pool.specs.Pool.{Keeps, StandsFor, tree_at}
@@ -33,6 +33,29 @@ clears_fit pool (suc n) = (tt, clears_fit pool n)
 
 pub cleared_fit : (pool : List Content) (n : ℕ) (bs : List Bit) → bs ≡ replicate n Clear → BitsFit pool bs
 cleared_fit pool n bs e = subst (BitsFit pool) (sym e) (clears_fit pool n)
+
+-- so many zero bits more
+pub clears_next : (k m : ℕ) (old all new : List Bit) → all ≡ old ++ replicate k Clear
+    → new ≡ all ++ replicate m Clear → new ≡ old ++ replicate (k + m) Clear
+clears_next k m old all new e f =
+    f ∙ ap (λ l. l ++ replicate m Clear) e ∙ append_assoc old (replicate k Clear) (replicate m Clear)
+    ∙ ap (λ l. old ++ l) (replicate-append-replicate k m Clear)
+
+-- the last zero bits are appended
+pub clears_end : (k m count : ℕ) (old all new : List Bit) → m ≤ 64 → k + m ≡ count → all ≡ old ++ replicate k Clear
+    → new ≡ all ++ take m (replicate 64 Clear) → new ≡ old ++ replicate count Clear
+clears_end k m count old all new h w e f =
+    clears_next k m old all new e (f ∙ ap (λ l. all ++ l) (take-replicate m 64 Clear h))
+    ∙ ap (λ n. old ++ replicate n Clear) w
+
+-- bits cut to a width, and zeros above them
+pub padded_is : (width : ℕ) (bits : List Bit)
+    → take (min width (length bits)) bits ++ replicate (width - min width (length bits)) Clear
+    ≡ take width bits ++ replicate (width - length bits) Clear
+padded_is width bits =
+    let left : width - min width (length bits) ≡ width - length bits = omega arith in
+    ap (λ l. l ++ replicate (width - min width (length bits)) Clear) (take_min width bits)
+    ∙ ap (λ n. take width bits ++ replicate n Clear) left
 
 pub zeros_are : (pool : List Content) (n count : ℕ) → StandsFor pool n (constant 128 0) → map (tree_at pool) (replicate count n) ≡ replicate count (constant 128 0)
 zeros_are pool n zero s = refl

@@ -4,15 +4,17 @@ use Rattle.std.specs.Prelude.{pos, negsuc, min}
 use Rattle.std.proofs.lemmas.Nat.{pow_pos, mod_below, field_of, div-mul-add, mod-mul-add, shr_below, div-add-mod', pow-add}
 use Rattle.vg_base.specs.Number.{residue}
 use Rattle.vg_base.proofs.LowBits.{low-low, pow-le}
-use Rattle.vg_terms.specs.Term.{Tree, constant, width_of}
+use Rattle.vg_terms.specs.Term.{Tree, constant}
 use Rattle.vg_pool.specs.declared.content.Content.{Content}
-use Rattle.vg_pool.specs.Pool.{Keeps, StandsFor}
+use Rattle.vg_pool.specs.Pool.{Keeps, StandsFor, tree_at}
 use Rattle.vg_lift.specs.Gather.{of_term, bits_from}
 use Rattle.vg_lift.specs.Gather as pure
 use Rattle.vg_lift.specs.LaneTerm.{piece, pieces}
 use Rattle.vg_lift.specs.declared.bit.Bit.{Bit}
-use Rattle.vg_lift.specs.Views.{BitsFit, bits_of, node_bits}
-use Rattle.vg_lift.proofs.Nodes.{append_of, append_fit, bits_kept, bits_fit, node_bits-of, node_bits-fit, length_bits_of}
+use Rattle.vg_lift.specs.declared.constant.Piece.{Piece}
+use Rattle.vg_lift.specs.Pieces.{IsPiece}
+use Rattle.vg_lift.specs.Views.{BitsFit, bits_of}
+use Rattle.vg_lift.proofs.Nodes.{append_of, append_fit, bits_kept, bits_fit, length_bits_of}
 use Rattle.vg_lift.proofs.Holding.{length-pieces}
 
 -- ---- the bits of a number and of its complement
@@ -150,23 +152,32 @@ pieces-residue w n k (suc m) h =
     ap (λ (v : ℕ). of_term (constant (min 64 (w - first)) v) (k % 64) ∷ pieces w (n % 2 ^ w) (suc k) m) e
     ∙ ap (λ (l : List pure.Bit). of_term (piece w n k) (k % 64) ∷ l) (pieces-residue w n (suc k) m (omega arith))
 
+-- a piece that is built
+pub built_is : (pool : List Content) (p : Piece) (node count value : ℕ)
+    → StandsFor pool node (constant count value) → p.count ≡ count → p.value ≡ value
+    → bits_of pool p.bits ≡ bits_from (tree_at pool node) 0 count → BitsFit pool p.bits → IsPiece pool p
+built_is pool p node count value s e v b f = record {
+  is = b ∙ ap (λ t. bits_from t 0 count) s.is ∙ ap (λ n. bits_from (constant n value) 0 n) (sym e)
+      ∙ ap (λ n. bits_from (constant p.count n) 0 p.count) (sym v);
+  fit = f;
+}
+
 -- a piece appended to bits over a pool that has grown
-pub pushed_is : (old new : List Content) (node count : ℕ) (l m : List Bit) (t : Tree) → Keeps old new → BitsFit old l → StandsFor new node t
-    → m ≡ l ++ node_bits node count 0 count → bits_of new m ≡ bits_of old l ++ bits_from t 0 count
-pushed_is old new node count l m t k h s e =
-    ap (bits_of new) e ∙ append_of new l (node_bits node count 0 count)
-    ∙ ap (λ bs. bs ++ bits_of new (node_bits node count 0 count)) (bits_kept old new l k h)
-    ∙ ap (λ bs. bits_of old l ++ bs) (node_bits-of new node count 0 count ∙ ap (λ u. bits_from u 0 count) s.is)
+pub piece_appended : (old new : List Content) (p : Piece) (count value : ℕ) (l m : List Bit) (t : Tree)
+    → Keeps old new → BitsFit old l → IsPiece new p → p.count ≡ count → p.value ≡ value
+    → constant count value ≡ t → m ≡ l ++ p.bits
+    → bits_of new m ≡ bits_of old l ++ bits_from t 0 count
+piece_appended old new p count value l m t k h i c v u e =
+    ap (bits_of new) e ∙ append_of new l p.bits
+    ∙ ap (λ bs. bs ++ bits_of new p.bits) (bits_kept old new l k h)
+    ∙ ap (λ bs. bits_of old l ++ bs) (
+    i.is ∙ ap (λ n. bits_from (constant n p.value) 0 n) c
+    ∙ ap (λ n. bits_from (constant count n) 0 count) v ∙ ap (λ z. bits_from z 0 count) u)
 
-pub pushed_fit : (old new : List Content) (node count : ℕ) (l m : List Bit) (t : Tree) → Keeps old new → BitsFit old l → StandsFor new node t → width_of t ≡ count
-    → m ≡ l ++ node_bits node count 0 count → BitsFit new m
-pushed_fit old new node count l m t k h s w e =
-    subst (BitsFit new) (sym e)
-    (append_fit new l _ (bits_fit old new l k h) (node_bits-fit new node count 0 count (record { within = s.within; wide = ap width_of s.is ∙ w }) (omega arith)))
-
-pub pushed_piece : (old new : List Content) (node count number : ℕ) (l m : List Bit) → Keeps old new → BitsFit old l → StandsFor new node (constant count number)
-    → m ≡ l ++ node_bits node count 0 count → BitsFit new m
-pushed_piece old new node count number l m k h s e = pushed_fit old new node count l m (constant count number) k h s refl e
+pub piece_fit : (old new : List Content) (p : Piece) (l m : List Bit)
+    → Keeps old new → BitsFit old l → IsPiece new p → m ≡ l ++ p.bits → BitsFit new m
+piece_fit old new p l m k h i e =
+    subst (BitsFit new) (sym e) (append_fit new l p.bits (bits_fit old new l k h) i.fit)
 
 -- the next piece of a constant is pushed
 pub piece_pushed : (new : List Content) (more : List Bit) (w v q : ℕ) (done : List pure.Bit) → q * 64 < w

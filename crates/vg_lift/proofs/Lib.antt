@@ -8,6 +8,7 @@ pub mod Lanes
 pub mod Inside
 pub mod Nodes
 pub mod JoinSteps
+pub mod Longer
 pub mod StateSteps
 pub mod Constants
 pub mod Puts

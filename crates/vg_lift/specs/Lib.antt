@@ -7,6 +7,7 @@ pub mod Steps
 pub mod States
 pub mod Lanes
 pub mod Passed
+pub mod Pieces
 pub mod Turns
 pub mod Instances
 pub mod Lifts

@@ -10,7 +10,7 @@ ghost use Rattle.vg_lift.specs.States.{AllFit, AreNodes, Begins, StateFits, stat
 ghost use Rattle.vg_lift.specs.Views.{BitsFit, IsNode, bits_of};
 
 use crate::bit::Bit;
-use crate::passed::{Passed, bits_passed};
+use crate::passed::{Passed, bits_passed, push_clears};
 use crate::putting::width_of;
 use crate::state::State;
 use std::alloc::{AllocError, Global};
@@ -39,8 +39,8 @@ fn cleared(_pool: &Pool, alloc: Global, width: u32) -> Result<Items<Bit>, AllocE
     ensures is { IfOk result (λ v. bits_of _pool.now v ≡ replicate width clear) }
     ensures fit { IfOk result (λ v. BitsFit _pool.now v) }
 {
-    let mut all = Vec::new(alloc);
-    all.resize(width as usize, Bit::Clear)?;
+    let mut all = Vec::with_capacity(alloc, width as usize)?;
+    push_clears(&mut all, width as usize)?;
     Ok(Items::from_vec(all))
 }
 

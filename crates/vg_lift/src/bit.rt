@@ -8,5 +8,5 @@ pub enum Bit {
     /// A bit of a parameter.
     Input { parameter: u32, bit: u32 },
     /// A bit of the term of a node, which has so many.
-    OfTerm { node: usize, width: u32, bit: u32 },
+    OfTerm { node: u32, width: u32, bit: u32 },
 }

@@ -21,6 +21,17 @@ pub enum Open {
     Differ { first: Run, second: Run },
 }
 
+/// The number of a node as a bit names it, or want of memory where it is too great.
+fn node_name(node: usize) -> Result<u32, AllocError>
+    ensures { IfOk result (λ n. n ≡ node) }
+{
+    if node > u32::MAX as usize {
+        Err(AllocError)
+    } else {
+        Ok(node as u32)
+    }
+}
+
 /// Appends so many bits of a node from a bit on.
 #[tactic(auto, using(crate::proofs::Nodes::push_step, crate::proofs::Nodes::push_end, crate::proofs::Nodes::push_begin))]
 pub(crate) fn push_bits(
@@ -33,10 +44,12 @@ pub(crate) fn push_bits(
     requires { from + count ≤ width }
     ensures { OnOk result (bits.new.items ≡ bits.old.items ++ node_bits node width from count) }
 {
+    let node = node_name(node)?;
+    bits.reserve(count as usize)?;
     let end = from + count;
     let mut bit = from;
     'bits: while bit < end {
-        bits.push(Bit::OfTerm { node, width, bit })?;
+        bits.push_reserved(Bit::OfTerm { node, width, bit });
         bit += 1;
     }
     Ok(())

@@ -26,14 +26,27 @@ pub enum Passed {
     Parameter { parameter: u32 },
 }
 
+/// Appends so many bits that are 0.
+pub(crate) fn push_clears(bits: &mut Vec<Bit>, count: usize) -> Result<(), AllocError>
+    ensures { OnOk result (bits.new.items ≡ bits.old.items ++ replicate count Clear) }
+{
+    let clears = [Bit::Clear; 64];
+    'clears: for _place in 0..count / 64 {
+        bits.extend_from_slice(&clears)?;
+    }
+    bits.extend_from_slice(&clears[..count % 64])?;
+    Ok(())
+}
+
 /// Bits cut to a width, or zeros above them.
+#[tactic(auto, using(crate::proofs::Begins::padded_is))]
 fn padded_bits(alloc: Global, bits: &[Bit], width: usize) -> Result<Items<Bit>, AllocError>
     ensures { IfOk result (λ v. v ≡ take width bits.now ++ replicate (width - length bits.now) Clear) }
 {
     let count = width.min(bits.len());
     let mut all = Vec::with_capacity(alloc, width)?;
     all.extend_from_slice(&bits[..count])?;
-    all.resize(width, Bit::Clear)?;
+    push_clears(&mut all, width - count)?;
     Ok(Items::from_vec(all))
 }
 

@@ -112,7 +112,8 @@ pub(crate) fn put_bits(
         (with_bits register first (bits_of pool.now new.now) (state_of pool.now state.old))) }
 {
     let first = bit_of(first)?;
-    state.put(alloc, register, first, new)
+    state.put(alloc, register, first, new);
+    Ok(())
 }
 
 /// The bits of a node of a width.

@@ -46,7 +46,7 @@ pub(crate) fn start_run(_pool: &Pool, bit: Bit) -> Run
             count: 1,
         },
         Bit::OfTerm { node, width, bit } => Run::Terms {
-            node,
+            node: node as usize,
             width,
             low: bit,
             count: 1,
@@ -93,7 +93,7 @@ pub(crate) fn continues(pool: &Pool, run: Run, bit: Bit) -> bool
                 bit,
                 ..
             },
-        ) => node == next && is_behind(low, count, bit),
+        ) => node == next as usize && is_behind(low, count, bit),
         _ => false,
     }
 }

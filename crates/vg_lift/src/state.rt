@@ -11,6 +11,7 @@ ghost use Rattle.vg_lift.specs.Views.{BitsFit, IsNode, bits_of};
 use crate::bit::Bit;
 use crate::join::join;
 use std::alloc::{AllocError, Global};
+use std::mem;
 use vg_base::Items;
 use vg_pool::{Pool, pool_is_shared};
 
@@ -21,21 +22,22 @@ pub struct State {
     pub(crate) variables: Vec<usize>,
 }
 
-/// A list with these bits in the place of as many from a bit on.
-fn replace_bits(
-    alloc: Global,
-    bits: &[Bit],
-    low: usize,
-    new: &[Bit],
-) -> Result<Items<Bit>, AllocError>
-    requires { low + length new.now ≤ length bits.now }
-    ensures { IfOk result (λ v. v ≡ replaced low new.now bits.now) }
+/// So many bits from a bit on become these.
+fn replace_bits(bits: &mut [Bit], low: usize, new: &[Bit])
+    requires { low + length new.now ≤ length bits.old }
+    ensures { bits.new ≡ replaced low new.now bits.old }
 {
-    let mut all = Vec::with_capacity(alloc, bits.len())?;
-    all.extend_from_slice(&bits[..low])?;
-    all.extend_from_slice(new)?;
-    all.extend_from_slice(&bits[low + new.len()..])?;
-    Ok(Items::from_vec(all))
+    bits[low..low + new.len()].copy_from_slice(new);
+}
+
+/// A list in which so many bits from a bit on are these.
+fn with_bits(bits: Items<Bit>, low: usize, new: &[Bit]) -> Items<Bit>
+    requires { low + length new.now ≤ length bits }
+    ensures { result ≡ replaced low new.now bits }
+{
+    let mut all = bits.into_vec();
+    replace_bits(all.as_mut_slice(), low, new);
+    Items::from_vec(all)
 }
 
 /// A copy of a list.
@@ -60,23 +62,16 @@ impl State {
     }
 
     /// So many bits of a register from a bit on become these.
-    pub(crate) fn put(
-        &mut self,
-        alloc: Global,
-        register: usize,
-        low: usize,
-        new: &[Bit],
-    ) -> Result<(), AllocError>
+    pub(crate) fn put(&mut self, alloc: Global, register: usize, low: usize, new: &[Bit])
         requires { low + length new.now ≤ length (get_or self.old.registers.items register []) }
-        ensures registers { OnOk result (self.new.registers.items ≡ set self.old.registers.items register
-            (replaced low new.now (get_or self.old.registers.items register []))) }
+        ensures registers { self.new.registers.items ≡ set self.old.registers.items register
+            (replaced low new.now (get_or self.old.registers.items register [])) }
         ensures variables { self.new.variables.items ≡ self.old.variables.items }
     {
         if let Some(bits) = self.registers.get_mut(register) {
-            let all = replace_bits(alloc, bits.as_slice(), low, new)?;
-            *bits = all;
+            let all = mem::replace(bits, Items::from_vec(Vec::new(alloc)));
+            *bits = with_bits(all, low, new);
         }
-        Ok(())
     }
 
     /// A copy.

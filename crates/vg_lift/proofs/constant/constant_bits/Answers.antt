@@ -15,7 +15,8 @@ pieces-preserved c =
     let v = residue w (number_of c.args.number) in
     let inv = c.pieces.invariant in
     record {
-      is = piece_pushed new c.push_piece.new.bits.items w v q (bits_of now c.pieces.all.items) (omega (arith, c.pieces-test.true)) c.in_ok-push_piece.ensures.is ∙ inv.is;
-      fit = c.in_ok-push_piece.ensures.fit;
+      is = piece_pushed new c.push_piece.new.bits.items w v q (bits_of now c.pieces.all.items) (omega (arith, c.pieces-test.true)) c.in_ok-last.ensures.is ∙ inv.is;
+      fit = c.in_ok-last.ensures.fit;
+      last = c.in_ok-last.ensures.last;
       keeps = kept_twice c.args.pool.now now new inv.keeps c.push_piece.ensures.keeps;
     }
