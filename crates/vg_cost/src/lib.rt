@@ -26,6 +26,7 @@ pub mod shuffle;
 mod shuffles;
 mod taken;
 mod touch;
+mod uses;
 
 pub use cost::plan_cost;
 pub use room::Room;
