@@ -1,6 +1,6 @@
 -- One unit after the other, from the last down.
 use Rattle.std.proofs.Common.{◌≡◌, ℕ, zero, suc, ◌+◌, ◌<◌, ◌≤◌, Bool, false, List, [], ◌∷◌, ◌++◌, length, get_or, refl, sym, ◌∙◌, ap, subst, inl, inr, arith, add_assoc, Some, None}
-use Rattle.std.specs.Prelude.{◌&&◌, ◌||◌, not, filter, flat_map, nat_eq, nat_lt, ◌-◌, map, if◌then◌else◌, Option}
+use Rattle.std.specs.Prelude.{◌&&◌, ◌||◌, not, filter, flat_map, nat_eq, if◌then◌else◌, Option}
 use Rattle.std.specs.Option.{is_some}
 use Rattle.std.specs.Result.{IfOk}
 use Rattle.std.specs.declared.result.Result.{Result}
@@ -20,11 +20,6 @@ use Rattle.vg_shapes.specs.Units.{arguments, is_unit, unit_at}
 use Rattle.vg_packing.specs.Packing.{falling_units, packing, used_by}
 use Rattle.vg_cost.specs.Lines.{Costs, Lines, line_of, values_of}
 use Rattle.vg_cost.specs.Marks.{Has, Marked}
-use Rattle.vg_cost.specs.declared.uses.UnitUses.{UnitUses}
-use Rattle.vg_cost.specs.Uses.{line_by, uses_at, uses_of, values_by}
-use Rattle.vg_shapes.specs.declared.unit.Unit.TheVariants.{Load, Store, Operation}
-use Rattle.std.specs.Option.{option_map}
-use Rattle.std.proofs.lemmas.Option.{slice_get-map}
 
 -- a number is among the units of packs where a pack has it
 pub packed_by : (v : ℕ) (plan : List Packed) → is_in v (flat_map units_of plan) ≡ list_any (λ p. is_in v (units_of p)) plan
@@ -150,38 +145,3 @@ by_lines ssa packed marks price recipes before lines end (Ok c) e b l s = λ pla
     (subst (λ k. Has k needed marks) (sym e) n)
     ∙ ap (λ k. scalar_lines (packing [] [] ssa []) plan needed (filter (is_unit ssa) (numbers_below k))) e)
 by_lines ssa packed marks price recipes before lines end (Err f) e b l s = s
-
-at-uses : (ssa : Ssa) (first v : ℕ) (uses : List UnitUses) → first ≡ arguments ssa → uses ≡ map uses_of ssa.units
-    → uses_at first uses v ≡ option_map uses_of (unit_at ssa v)
-at-uses ssa first v uses f e =
-    ap (λ k. uses_at k uses v) f ∙ ap (λ l. uses_at (arguments ssa) l v) e
-    ∙ elim (cases_Bool (nat_lt v (arguments ssa))) [
-      | inl t ↦ rw t refl
-      | inr g ↦ rw g (slice_get-map uses_of ssa.units (v - arguments ssa))
-    ]
-
-line-same : (unit : Option Work) (packed needed : Bool) → line_by (option_map uses_of unit) packed needed ≡ line_of unit packed needed
-line-same None packed needed = refl
-line-same (Some (Load a w)) packed needed = refl
-line-same (Some (Store a w x)) packed needed = refl
-line-same (Some (Operation op w k xs)) packed needed = refl
-
-values-same : (unit : Option Work) (packed needed : Bool)
-    → values_by (option_map uses_of unit) packed needed ≡ values_of unit packed needed
-values-same None packed needed = refl
-values-same (Some (Load a w)) packed needed = refl
-values-same (Some (Store a w x)) packed needed = refl
-values-same (Some (Operation op w k xs)) packed needed = refl
-
--- by what is noted of units their lines and values are theirs
-pub line_noted : (ssa : Ssa) (first v line : ℕ) (uses : List UnitUses) (packed needed : Bool) → first ≡ arguments ssa
-    → uses ≡ map uses_of ssa.units → line ≡ line_by (uses_at first uses v) packed needed → line ≡ line_of (unit_at ssa v) packed needed
-line_noted ssa first v line uses packed needed f e l =
-    l ∙ ap (λ u. line_by u packed needed) (at-uses ssa first v uses f e) ∙ line-same (unit_at ssa v) packed needed
-
-pub values_noted : (ssa : Ssa) (first v : ℕ) (uses : List UnitUses) (packed needed : Bool) (old new : List Bool) → first ≡ arguments ssa
-    → uses ≡ map uses_of ssa.units → Marked (values_by (uses_at first uses v) packed needed) old new
-    → Marked (values_of (unit_at ssa v) packed needed) old new
-values_noted ssa first v uses packed needed old new f e m =
-    subst (λ l. Marked l old new)
-    (ap (λ u. values_by u packed needed) (at-uses ssa first v uses f e) ∙ values-same (unit_at ssa v) packed needed) m

@@ -7,4 +7,3 @@ pub mod Running
 pub mod Shuffling
 pub mod Taken
 pub mod Touch
-pub mod Uses

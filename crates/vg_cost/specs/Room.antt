@@ -1,5 +1,5 @@
 -- Marks by which packs are tried behind a plan.
-use Rattle.std.specs.Prelude.{◌≡◌, ◌+◌, length, List, map}
+use Rattle.std.specs.Prelude.{◌≡◌, ◌+◌, length, List}
 use Rattle.std.specs.List.{flat_map}
 use Rattle.vg_shapes.specs.declared.pack.Pack.{Pack as Packed}
 use Rattle.vg_shapes.specs.declared.ssa.Ssa.{Ssa}
@@ -7,7 +7,6 @@ use Rattle.vg_shapes.specs.Pack.{units_of}
 use Rattle.vg_shapes.specs.Units.{arguments}
 use Rattle.vg_cost.specs.declared.room.Room.{Room}
 use Rattle.vg_cost.specs.Marks.{Has}
-use Rattle.vg_cost.specs.Uses.{uses_of}
 
 -- the units of the plan are marked, and there are as many marks of each kind as numbers
 pub record IsRoomFor (ssa : Ssa) (packs : List Packed) (room : Room) : Type 0 where
@@ -15,4 +14,3 @@ pub record IsRoomFor (ssa : Ssa) (packs : List Packed) (room : Room) : Type 0 wh
   pub longer : length room.longer.items ≡ arguments ssa + length ssa.units
   pub own : length room.own.items ≡ arguments ssa + length ssa.units
   pub needed : length room.needed.items ≡ arguments ssa + length ssa.units
-  pub uses : room.uses.items ≡ map uses_of ssa.units

@@ -26,7 +26,6 @@ pub mod shuffle;
 mod shuffles;
 mod taken;
 mod touch;
-mod uses;
 
 pub use cost::plan_cost;
 pub use room::Room;

@@ -1,20 +1,19 @@
 //! The units and extracts that are written as scalars.
 
-ghost use Rattle.std.specs.Prelude.{◌≡◌, ◌+◌, [], ◌∷◌, IfOk, Some, filter_map, length, map};
-ghost use Rattle.vg_cost.specs.Lines.{Lines};
-ghost use Rattle.vg_cost.specs.Marks.{Marked};
-ghost use Rattle.vg_cost.specs.Uses.{is_written_by, line_by, uses_at, uses_of, values_by};
-ghost use Rattle.vg_packing.specs.Packing.{falling_units, packing};
+ghost use Rattle.std.specs.Prelude.{◌≡◌, ◌+◌, ◌<◌, ℕ, [], ◌∷◌, IfOk, filter, filter_map, flat_map, get_or, false, is_some, length};
+ghost use Rattle.vg_cost.specs.Lines.{Lines, is_written, line_of, values_of};
+ghost use Rattle.vg_cost.specs.Marks.{Has, Marked};
+ghost use Rattle.vg_packing.specs.Packing.{falling_units, packing, used_by};
 ghost use Rattle.vg_packing.specs.Wants.{value_of};
 ghost use Rattle.vg_plans.specs.World.{scalar_lines};
-ghost use Rattle.vg_shapes.specs.Units.{arguments};
+ghost use Rattle.vg_shapes.specs.Pack.{units_of};
+ghost use Rattle.vg_shapes.specs.Units.{arguments, unit_at};
 
-use crate::marks::{mark, mark_lane, packed_marks, value_marks};
+use crate::marks::{mark, packed_marks, value_marks};
 use crate::price::plus;
-use crate::uses::{UnitUses, all_uses};
 use std::alloc::{AllocError, Global};
 use vg_packing::wants::value_of;
-use vg_shapes::{Pack, Ssa, Wanted};
+use vg_shapes::{Operands, Pack, Ssa, Unit, Wanted};
 
 /// Marks a value, if one is wanted.
 pub(crate) fn mark_wanted(needed: &mut [bool], wanted: Wanted)
@@ -26,31 +25,42 @@ pub(crate) fn mark_wanted(needed: &mut [bool], wanted: Wanted)
     }
 }
 
-/// Marks the values that a unit uses.
-fn mark_used(needed: &mut [bool], uses: &UnitUses)
-    ensures { Marked (filter_map (λ v. v) (uses.now.first ∷ uses.now.second ∷ uses.now.third ∷ []))
-        needed.old needed.new }
+/// Marks the values among operands.
+fn mark_operands(needed: &mut [bool], operands: &Operands)
+    ensures { Marked (filter_map value_of (operands.now.first ∷ operands.now.second
+        ∷ operands.now.third ∷ [])) needed.old needed.new }
 {
-    mark_lane(needed, uses.first);
-    mark_lane(needed, uses.second);
-    mark_lane(needed, uses.third);
+    mark_wanted(needed, operands.first);
+    mark_wanted(needed, operands.second);
+    mark_wanted(needed, operands.third);
+}
+
+/// Marks the values that a unit uses.
+fn mark_used(needed: &mut [bool], unit: &Unit)
+    ensures { Marked (used_by (Some unit.now)) needed.old needed.new }
+{
+    match unit {
+        Unit::Load { .. } => {}
+        Unit::Store { value, .. } => mark_wanted(needed, *value),
+        Unit::Operation { operands, .. } => mark_operands(needed, operands),
+    }
 }
 
 /// Whether a unit that is in no pack is emitted: it is an access, or its value is needed.
-fn is_written(uses: &UnitUses, packed: bool, needed: bool) -> bool
-    ensures { result ≡ is_written_by uses.now packed needed }
+fn is_written(unit: &Unit, packed: bool, needed: bool) -> bool
+    ensures { result ≡ is_written unit.now packed needed }
 {
-    !packed && (uses.is_access || needed)
+    !packed && (unit.access().is_some() || needed)
 }
 
 /// The lines of a unit: 1 where it is emitted or its value is extracted, else 0. Marks what it uses
 /// where it is emitted.
-fn visit(marks: &mut [bool], uses: &UnitUses, packed: bool, needed: bool) -> u64
-    ensures lines { result ≡ line_by (Some uses.now) packed needed }
-    ensures marks { Marked (values_by (Some uses.now) packed needed) marks.old marks.new }
+fn visit(marks: &mut [bool], unit: &Unit, packed: bool, needed: bool) -> u64
+    ensures lines { result ≡ line_of (Some unit.now) packed needed }
+    ensures marks { Marked (values_of (Some unit.now) packed needed) marks.old marks.new }
 {
-    if is_written(uses, packed, needed) {
-        mark_used(marks, uses);
+    if is_written(unit, packed, needed) {
+        mark_used(marks, unit);
         1
     } else if packed && needed {
         1
@@ -62,35 +72,33 @@ fn visit(marks: &mut [bool], uses: &UnitUses, packed: bool, needed: bool) -> u64
 /// The lines of the unit of a number, if it is that of one: the units are numbered from `first` on.
 fn visit_number(
     marks: &mut [bool],
-    uses: &[UnitUses],
+    ssa: &Ssa,
     first: usize,
     number: u32,
     packed: bool,
     needed: bool,
 ) -> u64
-    ensures lines { result ≡ line_by (uses_at first uses.now number) packed needed }
-    ensures marks { Marked (values_by (uses_at first uses.now number) packed needed) marks.old
-        marks.new }
+    requires { first ≡ arguments ssa.now }
+    ensures lines { result ≡ line_of (unit_at ssa.now number) packed needed }
+    ensures marks { Marked (values_of (unit_at ssa.now number) packed needed) marks.old marks.new }
 {
     let number = number as usize;
     if number < first {
         return 0;
     }
-    match uses.get(number - first) {
+    match ssa.units.as_slice().get(number - first) {
         None => 0,
-        Some(found) => visit(marks, found, packed, needed),
+        Some(unit) => visit(marks, unit, packed, needed),
     }
 }
 
 /// The lines of the units below a number, from the last down. Marks the values that are needed.
 pub(crate) fn lines_below(
     ssa: &Ssa,
-    uses: &[UnitUses],
     packed: &[bool],
     marks: &mut [bool],
     end: u32,
 ) -> Result<u64, AllocError>
-    requires uses { uses.now ≡ map uses_of ssa.now.units }
     requires packed_long { length packed.now ≡ end }
     requires marks_long { length marks.old ≡ end }
     ensures { IfOk result (λ c. Lines ssa.now packed.now marks.old end c) }
@@ -102,7 +110,7 @@ pub(crate) fn lines_below(
         left -= 1;
         let is_packed = packed[left as usize];
         let is_needed = marks[left as usize];
-        let line = visit_number(marks, uses, first, left, is_packed, is_needed);
+        let line = visit_number(marks, ssa, first, left, is_packed, is_needed);
         lines = plus(lines, line)?;
     }
     Ok(lines)
@@ -133,12 +141,5 @@ pub(crate) fn scalar_lines(
     let end = end_of_units(ssa)?;
     let packed = packed_marks(alloc, end as usize, packs)?;
     let mut needed = value_marks(alloc, end as usize, inserted)?;
-    let uses = all_uses(alloc, ssa)?;
-    lines_below(
-        ssa,
-        uses.as_slice(),
-        packed.as_slice(),
-        needed.as_mut_slice(),
-        end,
-    )
+    lines_below(ssa, packed.as_slice(), needed.as_mut_slice(), end)
 }

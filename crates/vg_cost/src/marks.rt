@@ -56,8 +56,7 @@ fn mark_lanes(marks: &mut [bool], lanes: &[Option<u32>])
     }
 }
 
-/// Marks a number, if there is one.
-pub(crate) fn mark_lane(marks: &mut [bool], lane: Option<u32>)
+fn mark_lane(marks: &mut [bool], lane: Option<u32>)
     ensures { Marked (filter_map (λ v. v) (lane ∷ [])) marks.old marks.new }
 {
     match lane {

@@ -7,15 +7,12 @@ ghost use Rattle.vg_shapes.specs.Pack.{units_of};
 
 use crate::lines::end_of_units;
 use crate::marks::{clear, clear_marks, mark_pack, packed_marks};
-use crate::uses::{UnitUses, all_uses};
 use std::alloc::{AllocError, Global};
 use vg_shapes::{Pack, Ssa};
 
 /// Marks by which packs are tried behind a plan, one after the other.
 #[derive(Drop)]
 pub struct Room {
-    /// What each unit of the kernel uses.
-    pub(crate) uses: Vec<UnitUses>,
     /// Those of the units of the plan.
     plan: Vec<bool>,
     /// Those of the units of the plan and of the pack that is tried.
@@ -34,7 +31,6 @@ impl Room {
     {
         let count = end_of_units(ssa)? as usize;
         Ok(Room {
-            uses: all_uses(alloc, ssa)?,
             plan: packed_marks(alloc, count, plan)?,
             longer: clear_marks(alloc, count)?,
             own: clear_marks(alloc, count)?,
@@ -45,7 +41,6 @@ impl Room {
     /// Marks a pack as the one that is tried. No value is needed yet.
     pub(crate) fn enter(&mut self, pack: &Pack)
         requires { length self.old.longer.items ≡ length self.old.plan.items }
-        ensures uses { self.new.uses.items ≡ self.old.uses.items }
         ensures plan { self.new.plan.items ≡ self.old.plan.items }
         ensures longer { Marked (units_of pack.now) self.old.plan.items self.new.longer.items }
         ensures own { Has (length self.old.own.items) (units_of pack.now) self.new.own.items }

@@ -7,7 +7,6 @@ ghost use Rattle.vg_cost.specs.Room.{IsRoomFor};
 ghost use Rattle.vg_cost.specs.Running.{StandsFor, taken_by};
 ghost use Rattle.vg_cost.specs.Taken.{inserted_for};
 ghost use Rattle.vg_cost.specs.Touch.{MarkUnits};
-ghost use Rattle.vg_cost.specs.Uses.{uses_of};
 ghost use Rattle.vg_packing.specs.Laws.{IsPlanFor};
 ghost use Rattle.vg_packing.specs.Packing.{packing};
 ghost use Rattle.vg_packing.specs.Taken.{IsShort, MatchesNear};
@@ -22,7 +21,6 @@ use crate::price::{plus, price_of};
 use crate::room::Room;
 use crate::shuffles::Shuffles;
 use crate::taken::{Taken, add_all, keep_all, kept_cost, recipes_cost};
-use crate::uses::UnitUses;
 use std::alloc::{AllocError, Global};
 use vg_packing::taken::operands_of;
 use vg_shapes::{Description, MatchTable, Pack, Ssa};
@@ -42,19 +40,17 @@ pub struct Running {
 /// that its inserts take.
 fn whole_cost(
     ssa: &Ssa,
-    uses: &[UnitUses],
     marks: &[bool],
     needed: &mut [bool],
     price: u64,
     recipes: u64,
 ) -> Result<u64, AllocError>
-    requires uses { uses.now ≡ map uses_of ssa.now.units }
     requires marks { length marks.now ≡ arguments ssa.now + length ssa.now.units }
     requires needed { length needed.old ≡ arguments ssa.now + length ssa.now.units }
     ensures { IfOk result (Costs ssa.now marks.now needed.old price recipes) }
 {
     let end = end_of_units(ssa)?;
-    let lines = lines_below(ssa, uses, marks, needed, end)?;
+    let lines = lines_below(ssa, marks, needed, end)?;
     let packed = plus(price, recipes)?;
     plus(packed, lines)
 }
@@ -109,12 +105,11 @@ impl Running {
         room.enter(pack);
         let marks = room.longer.as_slice();
         let own = room.own.as_slice();
-        let uses = room.uses.as_slice();
         let taken = self.taken_with(alloc, marks, own, pack, descriptions, table, ssa)?;
         let price = plus(self.price, price_of(descriptions, pack))?;
         let needed = room.needed.as_mut_slice();
         let recipes = recipes_cost(needed, taken.as_slice())?;
-        let cost = whole_cost(ssa, uses, marks, needed, price, recipes)?;
+        let cost = whole_cost(ssa, marks, needed, price, recipes)?;
         Ok(Running {
             packs: longer(alloc, plan, pack)?,
             taken,
@@ -151,10 +146,9 @@ impl Running {
         let price = plus(self.price, price_of(descriptions, pack))?;
         let marks = room.longer.as_slice();
         let own = room.own.as_slice();
-        let uses = room.uses.as_slice();
         let needed = room.needed.as_mut_slice();
         let recipes = self.recipes_with(alloc, marks, own, needed, pack, descriptions, table, ssa)?;
-        let cost = whole_cost(ssa, uses, marks, needed, price, recipes)?;
+        let cost = whole_cost(ssa, marks, needed, price, recipes)?;
         Ok(cost)
     }
 

@@ -30,7 +30,6 @@ recipes_with-requires c =
 
 pub whole_cost-requires : goal.whole_cost-requires
 whole_cost-requires c = record {
-  uses = c.as_slice-uses.ensures.value ∙ c.enter.ensures.uses ∙ c.requires.room.uses;
   marks = ap length c.as_slice-marks.ensures.value ∙ c.enter.ensures.longer.long ∙ c.requires.room.plan.long;
   needed = c.in_ok-recipes.ensures.marks.long ∙ ap length (c.as_mut_slice-needed.ensures.value ∙ c.enter.ensures.needed)
       ∙ length-replicate (length c.args.room.now.needed.items) false ∙ c.requires.room.needed;
@@ -44,7 +43,6 @@ returns c =
     let plan = c.args.self.now.packs.items in
     record {
       room = record {
-        uses = c.enter.ensures.uses ∙ c.requires.room.uses;
         plan = subst (λ l. Has (arguments ssa + length ssa.units) (flat_map units_of plan) l) (sym c.enter.ensures.plan) c.requires.room.plan;
         longer = c.enter.ensures.longer.long ∙ c.requires.room.plan.long;
         own = c.enter.ensures.own.long ∙ c.requires.room.own;
