@@ -137,7 +137,7 @@ impl Running {
             self.now }
         requires plan { (deps : List (ℕ × ℕ)) × IsPlanFor (map description_of descriptions.now)
             table.now ssa.now deps (self.now.packs.items ++ pack.now ∷ []) }
-        ensures room { OnOk result (IsRoomFor ssa.now self.now.packs.items room.new) }
+        ensures room { IsRoomFor ssa.now self.now.packs.items room.new }
         ensures cost { IfOk result (λ c. (deps : List (ℕ × ℕ)) → c ≡ plan_cost
             (packing (map description_of descriptions.now) table.now ssa.now deps)
             (self.now.packs.items ++ pack.now ∷ [])) }
