@@ -1,3 +1,4 @@
+pub mod Beginning
 pub mod Chains
 pub mod Counts
 pub mod Cycles

@@ -1,6 +1,6 @@
 -- Units of packs, and on what packs and units depend.
-use Rattle.std.proofs.Common.{◌≡◌, ℕ, true, List, [], ◌∷◌, refl, ap, inl, inr}
-use Rattle.std.specs.Prelude.{◌||◌, nat_eq, Option, Some, None, flat_map}
+use Rattle.std.proofs.Common.{◌≡◌, ℕ, Bool, true, false, List, [], ◌∷◌, refl, sym, ◌∙◌, ap, inl, inr}
+use Rattle.std.specs.Prelude.{◌||◌, nat_eq, Option, Some, None, flat_map, if◌then◌else◌}
 use Rattle.std.specs.List.{filter_map, list_any}
 use Rattle.std.proofs.lemmas.Bool.{cases_Bool}
 use Rattle.vg_plans.specs.Members.{Has}
@@ -22,6 +22,15 @@ pub lanes_any : (v : ℕ) (lanes : List (Option ℕ)) → list_any (is_lane_of v
 lanes_any v [] = refl
 lanes_any v (None ∷ lanes) = lanes_any v lanes
 lanes_any v (Some u ∷ lanes) = ap (λ b. nat_eq v u || b) (lanes_any v lanes)
+
+-- the needs of a node, chosen by whether its unit is packed
+pub node-is : (matches : List Match) (ssa : Ssa) (deps : List (ℕ × ℕ)) (plan : List Packed) (v : ℕ) (packed : Bool)
+    (of_packs chosen : List ℕ) → packed ≡ is_in_plan plan v
+    → of_packs ≡ (if packed then flat_map (needs_for matches ssa deps v) plan else [])
+    → chosen ≡ (if packed then of_packs else row_of deps v)
+    → chosen ≡ node_needs matches ssa deps plan v
+node-is matches ssa deps plan v true of_packs chosen t g e = rw (sym t) (e ∙ g)
+node-is matches ssa deps plan v false of_packs chosen t g e = rw (sym t) e
 
 module _ (matches : List Match) (ssa : Ssa) (deps : List (ℕ × ℕ)) (names : NameUnits ssa deps) where
   row-units : (v x : ℕ) → Has x (row_of deps v) → is_unit ssa x ≡ true

@@ -1,7 +1,7 @@
 -- Lanes beside the slots that an operand wants.
-use Rattle.std.specs.Prelude.{ℕ, Bool, true, false, List, [], ◌∷◌, Option, Some, None, is_some}
+use Rattle.std.specs.Prelude.{ℕ, ◌/◌, ◌&&◌, nat_eq, Bool, true, false, List, [], ◌∷◌, Option, Some, None, is_some}
 use Rattle.vg_packing.specs.SameAs.{same_slot}
-use Rattle.vg_packing.specs.Wants.{slot}
+use Rattle.vg_packing.specs.Wants.{slot, value_of}
 use Rattle.vg_shapes.specs.declared.match_table.Match.{Match}
 use Rattle.vg_shapes.specs.declared.operand.Slot.{Slot}
 use Rattle.vg_shapes.specs.declared.wanted.Wanted.TheVariants.{Value}
@@ -23,3 +23,13 @@ rest_behind (s ∷ ss) (Some v) = ss
 abbrev pub is_matched : List Match → ℕ → ℕ → Option ℕ → Bool
 is_matched matches d lane None = true
 is_matched matches d lane (Some v) = is_some (match_at matches d lane v)
+
+-- a slot is a lane of this width of a description, and matches what it wants
+abbrev pub fits_lane : List Match → Slot → ℕ → ℕ → Bool
+fits_lane matches s d width =
+    nat_eq s.width width && is_matched matches d (s.low / width) (value_of s.wanted)
+
+-- the first of these slots, if any, fits a lane of a description
+abbrev pub can_begin : List Match → List Slot → ℕ → ℕ → Bool
+can_begin matches [] d width = true
+can_begin matches (s ∷ ss) d width = fits_lane matches s d width

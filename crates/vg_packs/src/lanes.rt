@@ -1,6 +1,6 @@
 //! The lanes of packs that are to produce operands.
 
-ghost use Rattle.std.specs.Prelude.{◌≡◌, ◌<◌, ◌≤◌, ◌&&◌, ◌^◌, ◌∷◌, ◌++◌, [], IfOk, OnOk, drop, find, is_some, length, map, nat_eq, Option, Some};
+ghost use Rattle.std.specs.Prelude.{◌≡◌, ◌<◌, ◌≤◌, ◌&&◌, ◌^◌, ◌/◌, ◌∷◌, ◌++◌, [], IfOk, OnOk, drop, find, is_some, length, map, nat_eq, Option, Some};
 ghost use Rattle.std.specs.Cmp.Lexicographic.{pointwise};
 ghost use Rattle.std.specs.List.{list_any, list_all};
 ghost use Rattle.std.specs.Option.{option_copied};
@@ -9,7 +9,7 @@ ghost use Rattle.vg_packing.specs.Producers.{agree, all_differ, are_matched, lan
 ghost use Rattle.vg_packing.specs.SameAs.{same_slot};
 ghost use Rattle.vg_packing.specs.Wants.{slot};
 ghost use Rattle.vg_shapes.specs.declared.wanted.Wanted.TheVariants.{Value};
-ghost use Rattle.vg_packs.specs.Lanes.{begins_with, is_matched, rest_behind};
+ghost use Rattle.vg_packs.specs.Lanes.{begins_with, can_begin, fits_lane, is_matched, rest_behind};
 
 use std::alloc::{AllocError, Global};
 use vg_packing::same::is_same_wanted;
@@ -176,4 +176,34 @@ pub(crate) fn are_matched(table: &MatchTable, description: u32, lanes: &[Option<
         lane += 1;
     }
     true
+}
+
+/// In which lane of a width a bit stands.
+fn lane_of(low: u32, width: u32) -> u32
+    ensures { result ≡ low / width }
+{
+    if width == 0 { 0 } else { low / width }
+}
+
+/// Whether a slot is a lane of this width of a description, and matches what it wants.
+fn fits_lane(table: &MatchTable, slot: &Slot, description: u32, width: u32) -> bool
+    ensures { result ≡ fits_lane table.now slot.now description width }
+{
+    slot.width == width
+        && is_matched(
+            table,
+            description,
+            lane_of(slot.low, width),
+            value_of(slot.wanted),
+        )
+}
+
+/// Whether the first of these slots, if any, fits a lane of a description.
+pub(crate) fn can_begin(table: &MatchTable, slots: &[Slot], description: u32, width: u32) -> bool
+    ensures { result ≡ can_begin table.now slots.now description width }
+{
+    match slots.first() {
+        None => true,
+        Some(slot) => fits_lane(table, slot, description, width),
+    }
 }

@@ -1,6 +1,6 @@
 //! On which units packs depend.
 
-ghost use Rattle.std.specs.Prelude.{◌≡◌, ◌++◌, IfOk, OnOk, filter, flat_map, nat_eq, take};
+ghost use Rattle.std.specs.Prelude.{◌≡◌, ◌++◌, IfOk, OnOk, filter, flat_map, nat_eq, take, [], if◌then◌else◌};
 ghost use Rattle.std.specs.List.{filter_map, list_any};
 ghost use Rattle.vg_packing.specs.Packing.{needs_of};
 ghost use Rattle.vg_packing.specs.Wants.{value_of};
@@ -8,7 +8,7 @@ ghost use Rattle.vg_plans.specs.World.{is_in};
 ghost use Rattle.vg_shapes.specs.DepList.{row_of};
 ghost use Rattle.vg_shapes.specs.Pack.{units_of};
 ghost use Rattle.vg_shapes.specs.Units.{is_unit};
-ghost use Rattle.vg_packs.specs.Walk.{is_in_plan, is_lane_of, needs_for, node_needs};
+ghost use Rattle.vg_packs.specs.Walk.{is_in_plan, is_lane_of, needs_for};
 
 use std::alloc::{AllocError, Global};
 use vg_packing::taken::bounds_of;
@@ -162,8 +162,8 @@ fn packed_needs(
     Ok(needs)
 }
 
-/// The units on which the node of a unit depends: its pack, if it is packed, or the unit itself.
-pub(crate) fn node_needs(
+/// The same where the unit is packed, or none.
+pub(crate) fn needs_of_packs(
     alloc: Global,
     table: &MatchTable,
     ssa: &Ssa,
@@ -172,12 +172,23 @@ pub(crate) fn node_needs(
     packed: bool,
     unit: u32,
 ) -> Result<Vec<u32>, AllocError>
-    requires { packed ≡ is_in_plan plan.now unit }
-    ensures { IfOk result (λ needs. needs.items ≡ node_needs table.now ssa.now deps.now plan.now unit) }
+    ensures { IfOk result (λ needs. needs.items ≡ (if packed then flat_map (needs_for table.now ssa.now deps.now unit) plan.now else [])) }
 {
     if packed {
         packed_needs(alloc, table, ssa, deps, plan, unit)
     } else {
-        rows_of(alloc, deps, &[unit])
+        Ok(Vec::new(alloc))
     }
+}
+
+/// The units on which the node of a unit depends: those of its packs, if it is packed, or its own.
+pub(crate) fn node_needs<'a>(
+    deps: &'a DepList,
+    of_packs: &'a [u32],
+    packed: bool,
+    unit: u32,
+) -> &'a [u32]
+    ensures { result.now ≡ (if packed then of_packs.now else row_of deps.now unit) }
+{
+    if packed { of_packs } else { deps.row(unit) }
 }

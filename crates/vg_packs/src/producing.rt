@@ -7,9 +7,10 @@ ghost use Rattle.vg_packing.specs.Taken.{MatchesNear};
 ghost use Rattle.vg_packing.specs.Wants.{wanted_slots, wanted_values, wants_value};
 ghost use Rattle.vg_shapes.specs.declared.pack.Pack.TheVariants.{Call};
 ghost use Rattle.vg_shapes.specs.Description.{description_of};
+ghost use Rattle.vg_packs.specs.Lanes.{can_begin};
 ghost use Rattle.vg_packs.specs.Making.{is_wanted_call, may_be_lanes};
 
-use crate::lanes::{all_agree, all_differ, are_lanes, are_matched, lanes_for};
+use crate::lanes::{all_agree, all_differ, are_lanes, are_matched, can_begin, lanes_for};
 use crate::loads::are_wanted_loads;
 use std::alloc::{AllocError, Global};
 use vg_packing::taken::operands_of;
@@ -124,6 +125,10 @@ fn push_call(
         return Ok(());
     }
     let width = description.lane_width;
+    let begun = can_begin(table, slots, number, width);
+    if !begun {
+        return Ok(());
+    }
     let count = count_lanes(description);
     let lanes = lanes_for(alloc, operand.slots.as_slice(), count, width)?;
     let lanes = lanes.as_slice();

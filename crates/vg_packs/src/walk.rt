@@ -10,7 +10,7 @@ ghost use Rattle.vg_packs.specs.Marks.{AreMarks, is_packed_by};
 ghost use Rattle.vg_packs.specs.Walk.{HasWay, IsApart, IsFree, IsSettled, LeadsApart, NameUnits, Pushed, is_in_plan, is_lane_in, node_needs};
 
 use crate::marks::{clear_marks, is_marked, mark_pack, some_marked};
-use crate::needs::{is_in_plan, node_needs, pack_needs};
+use crate::needs::{is_in_plan, needs_of_packs, node_needs, pack_needs};
 use crate::plan_marks::PlanMarks;
 use std::alloc::{AllocError, Global};
 use vg_shapes::{DepList, MatchTable, Pack, Ssa};
@@ -61,12 +61,13 @@ fn walk_down(
             return Ok(true);
         }
         let there = is_marked(packed, v);
-        let needs = node_needs(alloc, table, ssa, deps, plan, there, v)?;
-        let met = some_marked(own, needs.as_slice());
+        let of_packs = needs_of_packs(alloc, table, ssa, deps, plan, there, v)?;
+        let needs = node_needs(deps, of_packs.as_slice(), there, v);
+        let met = some_marked(own, needs);
         if met {
             return Ok(true);
         }
-        push_new(needs.as_slice(), marks, &mut stack)?;
+        push_new(needs, marks, &mut stack)?;
     }
     Ok(false)
 }
