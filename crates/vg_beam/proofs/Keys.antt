@@ -1,10 +1,8 @@
 -- Keys of plans: two plans have the same packs where they have the same key.
 use Rattle.std.proofs.Common.{◌≡◌, ℕ, ◌<◌, ◌≤◌, ◌⊎◌, Bool, true, false, List, [], ◌∷◌, ◌++◌, map, length, get_or, refl, sym, ◌∙◌, ap, subst, inl, inr, arith}
-use Rattle.std.proofs.Common.{Ordering, Less, Equal, Greater}
 use Rattle.std.specs.Prelude.{◌||◌, ◌&&◌, nat_eq, nat_lt, bytes_eq}
-use Rattle.std.specs.Ordering.{nat_cmp, is_eq, match_ordering, ordering_then}
-use Rattle.std.specs.Cmp.Lexicographic.{slice_cmp}
-use Rattle.std.specs.BTreeSet.{insert_key}
+use Rattle.std.specs.List.{list_any}
+use Rattle.indexmap.specs.IndexSet.{insert_key}
 use Rattle.std.proofs.lemmas.Bool.{cases_Bool}
 use Rattle.std.proofs.lemmas.Bool.Decides.{nat_tests}
 use Rattle.vg_plans.specs.Members.{Every, Has}
@@ -181,42 +179,23 @@ same-key w is none packs apart key other plan longer a b =
 
 -- ---- the set of keys
 
-then-eq : (o p : Ordering) → is_eq (ordering_then o p) ≡ (is_eq o && is_eq p)
-then-eq Less p = refl
-then-eq Equal p = refl
-then-eq Greater p = refl
-
-one-eq : (x y : ℕ) → is_eq (nat_cmp x y) ≡ nat_eq x y
-one-eq x y = elim (cases_Bool (nat_lt x y)) [
-  | inl t ↦ let e : nat_eq x y ≡ false = grind (arith, nat_tests, t) in rw (t, e) refl
-  | inr f ↦ rw f (elim (cases_Bool (nat_eq x y)) [ inl e ↦ rw e refl | inr g ↦ rw g refl ])
-]
-
-pub eq-cmp : (a b : List ℕ) → is_eq (slice_cmp nat_cmp a b) ≡ bytes_eq a b
-eq-cmp [] [] = refl
-eq-cmp [] (y ∷ b) = refl
-eq-cmp (x ∷ a) [] = refl
-eq-cmp (x ∷ a) (y ∷ b) = then-eq (nat_cmp x y) (slice_cmp nat_cmp a b) ∙ rw (one-eq x y, eq-cmp a b) refl
-
 or-turn : (a b c : Bool) → (a || (b || c)) ≡ (b || (a || c))
 or-turn true true c = refl
 or-turn true false c = refl
 or-turn false b c = refl
 
-or-twice : (a b : Bool) → (a || b) ≡ (a || (a || b))
-or-twice true b = refl
-or-twice false b = refl
+any-last : {V : Type 0} (test : V → Bool) (keys : List V) (key : V)
+    → list_any test (keys ++ key ∷ []) ≡ (test key || list_any test keys)
+any-last test [] key = refl
+any-last test (x ∷ keys) key = ap (λ b. test x || b) (any-last test keys key) ∙ or-turn (test x) (test key) (list_any test keys)
 
--- a key behind an insertion, where keys that compare equal hold the same numbers
-pub inserted : {V : Type 0} (numbers : V → List ℕ) (cmp : V → V → Ordering) → ((k x : V) → cmp k x ≡ Equal → numbers k ≡ numbers x)
-    → (keys : List V) (key : V) (q : List ℕ) → has_key numbers (insert_key cmp keys key) q ≡ (bytes_eq q (numbers key) || has_key numbers keys q)
-inserted numbers cmp same [] key q = refl
-inserted numbers cmp same (x ∷ keys) key q = by_order (inserted numbers cmp same keys key q) (cmp key x) refl
-  where
-    by_order : has_key numbers (insert_key cmp keys key) q ≡ (bytes_eq q (numbers key) || has_key numbers keys q) → (o : Ordering) → cmp key x ≡ o → has_key numbers (match_ordering o (key ∷ x ∷ keys) (x ∷ keys) (x ∷ insert_key cmp keys key)) q ≡ (bytes_eq q (numbers key) || (bytes_eq q (numbers x) || has_key numbers keys q))
-    by_order r Less e = refl
-    by_order r Equal e = let n = same key x e in rw n (or-twice (bytes_eq q (numbers x)) (has_key numbers keys q))
-    by_order r Greater e = ap (λ b. bytes_eq q (numbers x) || b) r ∙ or-turn (bytes_eq q (numbers x)) (bytes_eq q (numbers key)) (has_key numbers keys q)
-
-pub cmp-same : (a b : List ℕ) → slice_cmp nat_cmp a b ≡ Equal → a ≡ b
-cmp-same a b e = bytes-same a b (sym (eq-cmp a b) ∙ ap is_eq e)
+-- a key behind an insertion
+pub inserted : {V : Type 0} (numbers : V → List ℕ) (keys : List V) (key : V) (q : List ℕ)
+    → has_key numbers (insert_key (λ k x. bytes_eq (numbers k) (numbers x)) keys key) q ≡ (bytes_eq q (numbers key) || has_key numbers keys q)
+inserted numbers keys key q = elim (cases_Bool (has_key numbers keys (numbers key))) [
+  | inl t ↦ rw t (elim (cases_Bool (bytes_eq q (numbers key))) [
+    | inl e ↦ rw e (let same = bytes-same q (numbers key) e in ap (has_key numbers keys) same ∙ t)
+    | inr g ↦ rw g refl
+  ])
+  | inr f ↦ rw f (any-last (λ k. bytes_eq q (numbers k)) keys key)
+]

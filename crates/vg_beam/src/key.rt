@@ -35,11 +35,14 @@ pub(crate) fn with_number(alloc: Global, key: &[u32], number: u32) -> Result<Vec
     ensures { IfOk result (λ longer. longer.items ≡ with_number number key.now) }
 {
     let place = place_of(key, number);
-    let mut longer = key.to_vec(alloc)?;
-    let there = is_at(key, place, number);
-    if there {
-        return Ok(longer);
+    if is_at(key, place, number) {
+        let same = key.to_vec(alloc)?;
+        return Ok(same);
     }
-    longer.insert(place, number)?;
+    let (below, above) = key.split_at(place);
+    let mut longer = Vec::with_capacity(alloc, key.len() + 1)?;
+    longer.extend_from_slice(below)?;
+    longer.push(number)?;
+    longer.extend_from_slice(above)?;
     Ok(longer)
 }

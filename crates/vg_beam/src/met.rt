@@ -5,18 +5,18 @@ ghost use Rattle.vg_beam.specs.Key.{has_key};
 ghost use Rattle.vg_beam.specs.Met.{is_known};
 
 use crate::candidate::Candidate;
+use indexmap::IndexSet;
 use std::alloc::{AllocError, Global};
-use std::collections::BTreeSet;
 
 /// Plans of one size that were met, no two of the same packs, and the keys of all of them.
 #[derive(Drop)]
 pub(crate) struct Met {
-    keys: BTreeSet<Vec<u32>>,
+    keys: IndexSet<Vec<u32>>,
     pub(crate) candidates: Vec<Candidate>,
 }
 
 /// Adds a key to those that are known.
-fn note(keys: &mut BTreeSet<Vec<u32>>, key: Vec<u32>) -> Result<(), AllocError>
+fn note(keys: &mut IndexSet<Vec<u32>>, key: Vec<u32>) -> Result<(), AllocError>
     ensures { OnOk result ((q : List ℕ) → has_key (λ k. k.items) keys.new.keys q ≡ (bytes_eq q
         key.items || has_key (λ k. k.items) keys.old.keys q)) }
 {
@@ -33,7 +33,7 @@ impl Met {
         ensures keys { result.keys.keys ≡ [] }
     {
         Met {
-            keys: BTreeSet::new(alloc),
+            keys: IndexSet::new(alloc),
             candidates: Vec::new(alloc),
         }
     }
