@@ -14,7 +14,7 @@ returns c =
     let counted : length c.as_slice-3.result.now ≡ length k.statements = ap length c.as_slice-3.ensures ∙ sym (length-map c.in_ok-kernel.kernel.statements statement_of) in
     let summed : c.sum_of.result ≡ sum left % 2 ^ 32 = c.sum_of.ensures ∙ ap (λ bytes. sum bytes % 2 ^ 32) c.as_slice-4.ensures.value in
     IfOk-weaker c.print_line.result _ _
-    (λ bytes line. told (entries_in c.args.catalog.now) c.args.number (bits_in c.every.result) k c.in_ok-program.program left bytes.items
-    (length c.as_slice-3.result.now) c.scalar_cost.result c.sum_of.result c.in_ok-kernel.ensures.spelled c.in_ok-kernel.ensures.known c.every.ensures c.in_ok-program.ensures
+    (λ bytes line. told (entries_in c.args.catalog.now) c.args.number (bits_in c.every-every.result) k c.in_ok-program.program left bytes.items
+    (length c.as_slice-3.result.now) c.scalar_cost.result c.sum_of.result c.in_ok-kernel.ensures.spelled c.in_ok-kernel.ensures.known c.every-every.ensures c.in_ok-program.ensures
     c.in_ok-left.ensures.by_kernel c.in_ok-left.ensures.by_program counted c.scalar_cost.ensures summed line)
     c.print_line.ensures
