@@ -1,6 +1,5 @@
-//! Reads an expression. A level says how loose the operators may bind that stand outside of calls, parentheses and
-//! brackets: 0 for none, 1 for `*` alone, and so on up to 7 for all, and 8 for a choice by `?` too. The room says how
-//! many nodes may stand one below the other.
+//! Reads an expression. The level tells how loose the operators outside of calls, parentheses and brackets may bind: 0
+//! for none, 1 for `*` alone, up to 7 for all, 8 for `?` too. The room tells how many nodes may stand one below the other.
 
 ghost use Rattle.std.specs.Prelude.{◌≡◌, ◌≤◌, ◌+◌, [], ◌∷◌, map, Ok, OnOk, IfOk, codes};
 ghost use Rattle.std.specs.List.{All};
