@@ -26,6 +26,7 @@ impl<R> Drop for FileShelf<'_, R> {
 }
 
 impl<'a, R: Files> FileShelf<'a, R> {
+    /// The files that this runtime opens, with no absence and no fault counted.
     pub fn new(rt: &'a R) -> FileShelf<'a, R> {
         FileShelf {
             rt,

@@ -13,6 +13,7 @@ pub struct StreamSink<W> {
 }
 
 impl<W: Write> StreamSink<W> {
+    /// The sink that writes to this stream, with no fault counted.
     pub fn new(to: W) -> StreamSink<W> {
         StreamSink { to, faults: 0 }
     }

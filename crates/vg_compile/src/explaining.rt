@@ -19,8 +19,10 @@ use vg_kernel::{Kernel, scalar_cost};
 use vg_plan_text::{Costs, print_plan};
 use vg_ssa::number_values;
 
-/// The lines on the chosen plan of a kernel, the plan of the program that `compile` gives: a line for each
-/// pack, and one on what the plan, the plain plan and the kernel cost. Fails for want of memory alone.
+/// The lines on the chosen plan of a kernel, where the search keeps `width` plans of each size, as for
+/// `compile`: a line for each pack, in the order of the plan, and one on what the plan, the plain plan and the
+/// kernel cost. The code of `compile` emits this plan, of which its contract tells the cost alone. Fails for
+/// want of memory, also at the bounds of `compile`.
 pub fn explain(
     alloc: Global,
     catalog: &Catalog,

@@ -26,7 +26,7 @@ fn param_of(alloc: Global, param: &KParam) -> Result<Param, AllocError>
     })
 }
 
-/// The parameters of a kernel as programs write them.
+/// The parameters of a kernel as programs write them, in their order. Fails for want of memory alone.
 pub fn params_of(alloc: Global, params: &[KParam]) -> Result<Vec<Param>, AllocError>
     ensures { IfOk result (λ ps. ps.items ≡ map param_of params.now) }
 {

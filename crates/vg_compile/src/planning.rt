@@ -64,8 +64,9 @@ pub(crate) fn plan_units(
 /// The plan of a kernel, with the descriptions by which its packs name the instances that they call.
 #[derive(Drop)]
 pub struct Chosen {
+    /// The packs of the plan, in the order in which it grew, their units numbered as by `number_values`.
     pub plan: Plan,
-    /// The instances of the catalogue that packs may call.
+    /// The instances of the catalogue that packs may call: a pack names one by its index here.
     pub descriptions: Vec<Description>,
     /// What the plan costs.
     pub cost: u64,
@@ -76,9 +77,12 @@ pub struct Chosen {
 }
 
 /// The chosen plan of a kernel, which may call the instructions of a catalogue whose extension is in the
-/// set; the search keeps `width` plans of each size, and kernels of more than 256 loads, operations and
-/// stores are not searched. It is the plan of the program that `compile` gives. Fails for want of memory
-/// alone.
+/// set. The search keeps `width` plans of each size, 1 to 4,096 on the command line and any number here; a
+/// kernel of more than 256 loads, operations and stores is not searched, and gets the cheaper of the plain
+/// and the empty plan.
+///
+/// The code of `compile` emits this plan, of which its contract tells the cost alone. Fails for want of
+/// memory, also at the bounds of `compile`.
 pub fn plan_of(
     alloc: Global,
     catalog: &Catalog,

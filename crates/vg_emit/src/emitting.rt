@@ -66,7 +66,8 @@ fn job_for<'a>(
 /// order. It states its own cost, and as the cost of the kernel as written the number of its units.
 ///
 /// Looks at all operands for each operand that a pack takes, else at each line, lane and unit a
-/// fixed number of times. Fails for want of memory, or where the cost is 2 to the 32 or more.
+/// fixed number of times. Fails for want of memory, also where the lines define 2^32 scalars or
+/// registers, or the cost is 2^32 or more.
 pub fn emit_program(
     alloc: Global,
     ssa: &Ssa,
@@ -127,7 +128,8 @@ fn planned_program(
 /// Where the plan, its recipes and the order are right for the kernel, the program leaves the memory
 /// that the units leave one after the other, or traps where they do, in each layout that respects
 /// noalias; it costs what the plan costs, keeps the rules on programs, whatever the length of its text
-/// is, and calls described instances alone. Fails as `emit_program` does.
+/// is, and calls described instances alone. Fails as `emit_program` does, and
+/// where an index of a recipe has more than 32 bits.
 pub fn emit(
     alloc: Global,
     ssa: &Ssa,

@@ -3,7 +3,7 @@
 //! `vg_emission`'s `specs/Program.antt` says which program that is. Here `specs/Views.antt` says
 //! what the types of the code stand for, `specs/Marks.antt` how values that are needed are marked,
 //! and `specs/Placing.antt` and `specs/Packing.antt` which lines parts of the code add.
-//! `specs/Planned.antt` names the program of a plan whose operands take the recipes of `vg_gather`.
+//! `vg_gather`'s `specs/Recipes.antt` names the program of a plan whose operands take its recipes.
 #![tactic(auto)]
 
 mod draft;

@@ -154,7 +154,7 @@ fn add_entry(alloc: Global, entry: &Checked, to: &mut Found) -> Result<(), Alloc
 /// The descriptions of the instances that packs may call, of entries whose extension is in the set: in
 /// the order of the entries, and by rising immediate. Each is true of what the text of its entry
 /// means. Fails for want of memory, also where the terms of all descriptions have more than 2^24
-/// nodes, or as lifting an entry does.
+/// nodes, or at the bounds of `vg_lift::lift_entry`, over one pool for each entry.
 pub fn descriptions_of(
     alloc: Global,
     entries: &[Checked],

@@ -81,7 +81,7 @@ fn description(
 
 /// What packs may make of an instance of this entry, whose immediate is `imm` if it has one, by its
 /// lanes as they were lifted: their canonical terms, or the first cause why packs cannot call it,
-/// with the lanes, whose terms are canonical too.
+/// with the lanes, whose terms are canonical too. Fails for want of memory alone.
 pub fn describe(
     alloc: Global,
     header: &Header,

@@ -158,8 +158,8 @@ fn write_instance(
 /// Appends the lines on an instance of this entry, whose immediate is `imm` if it has one, by its
 /// lanes as they were lifted: `instruction NAME`, with ` imm N` behind it; for each lane
 /// `lane N TERM`, with the canonical form of its term, `lane N too large` or `lane N dynamic`; and
-/// `not packable CAUSE` where packs cannot call it. Each line ends with a line feed. Where memory is
-/// short nothing is appended.
+/// `not packable CAUSE` where packs cannot call it. Each line ends with a line feed. Fails for want of
+/// memory alone, and then nothing is appended.
 pub fn list_instance(
     alloc: Global,
     header: &Header,

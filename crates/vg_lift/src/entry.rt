@@ -44,8 +44,10 @@ pub fn has_lanes(header: &Header) -> bool
 
 /// Runs the instance of an accepted entry for a number of its range once, for any number where it
 /// has no immediate. All its lanes are gathered of what this answers; None where a slice or a shift
-/// of the instance depends on data. Fails for want of memory, also past 2^24 nodes of the script or
-/// of the pool.
+/// of the instance depends on data.
+///
+/// Fails for want of memory, also past 2^22 expressions judged while the script is written out, 2^24
+/// nodes of the script or of the pool, or 2^21 bits of all registers of a body.
 pub fn lift_entry(
     pool: &mut Pool,
     alloc: Global,
@@ -76,7 +78,7 @@ pub fn lift_entry(
 
 /// The node of the term of a lane, of whatever size, of an instance of which no slice and no shift
 /// depends on data. Old nodes keep their terms. Who asks for more than one lane of an instance calls
-/// [`lift_entry`] once. Fails as it does.
+/// [`lift_entry`] once. Fails for want of memory, also at the bounds of [`lift_entry`].
 pub fn lane_node(
     pool: &mut Pool,
     alloc: Global,
@@ -101,8 +103,8 @@ pub fn lane_node(
 }
 
 /// What an instance computes in a lane: its term; `Big` exactly where that has more than 1,024
-/// nodes; `Dynamic` exactly where a slice or a shift of the instance depends on data. Fails as
-/// [`lift_entry`] does.
+/// nodes; `Dynamic` exactly where a slice or a shift of the instance depends on data. Fails for want
+/// of memory, also at the bounds of [`lift_entry`], over a pool of its own.
 pub fn lane_term(alloc: Global, checked: &Checked, imm: u8, lane: u32) -> Result<Lane, AllocError>
     requires written { IsWritten (header_in checked.now) (operation_in checked.now) }
     requires range { HasInstance (header_in checked.now) imm }
@@ -120,7 +122,8 @@ pub fn lane_term(alloc: Global, checked: &Checked, imm: u8, lane: u32) -> Result
 }
 
 /// All lanes of an instance by one run, lane 0 first. Old nodes of the pool keep their terms, and
-/// instances that are lifted over one pool share theirs. Fails as [`lift_entry`] does.
+/// instances that are lifted over one pool share theirs, and its 2^24 nodes. Fails for want of
+/// memory, also at the bounds of [`lift_entry`].
 pub fn lanes_of(
     pool: &mut Pool,
     alloc: Global,

@@ -16,6 +16,7 @@ use vg_pool::{Pool, pool_is_shared};
 /// What is open while the bits of two ways are joined.
 #[derive(Clone, Copy, Debug)]
 pub enum Open {
+    /// Nothing is open.
     Shut,
     /// A range in which they differ, one run on each side.
     Differ { first: Run, second: Run },

@@ -12,7 +12,8 @@ use vg_shapes::Lane;
 /// The greatest number of nodes of a lane's term.
 const MAX_LANE: u32 = 1024;
 
-/// The lane whose term is that of a node.
+/// The lane whose term is that of a node: `Big` exactly where that has more than 1,024 nodes. Fails
+/// for want of memory alone.
 #[tactic(auto, using(crate::proofs::Lining::is_big, crate::proofs::Lining::is_known))]
 pub fn lane_at(pool: &Pool, alloc: Global, node: usize) -> Result<Lane, AllocError>
     requires { node < length pool.now }

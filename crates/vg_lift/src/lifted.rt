@@ -76,7 +76,8 @@ fn register_bits(alloc: Global, state: &State, register: usize) -> Result<Items<
 }
 
 /// Runs an instance once, whose entry has so many parameters, with this immediate. All its lanes are
-/// gathered of what this answers. Fails for want of memory, also past what a pool may hold.
+/// gathered of what this answers. Fails for want of memory, also past 2^24 nodes of the pool or 2^21
+/// bits of all registers of a body.
 #[tactic(auto, using(crate::proofs::Starting::left_in_dst, crate::proofs::Starting::dst_fits, crate::proofs::Starting::dst_width))]
 pub fn lift_instance(
     pool: &mut Pool,

@@ -15,14 +15,17 @@ use vg_terms::{LeafKey, OneOp, make_const, make_leaf};
 /// Consecutive bits, as many as `count`.
 #[derive(Clone, Copy, Debug)]
 pub enum Run {
+    /// Bits that are 0.
     Zeros {
         count: u32,
     },
+    /// Bits of a parameter from bit `low` on.
     Inputs {
         parameter: u32,
         low: u32,
         count: u32,
     },
+    /// Bits of the term of a node, which has `width` bits, from bit `low` on.
     Terms {
         node: usize,
         width: u32,

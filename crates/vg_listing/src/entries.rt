@@ -78,8 +78,11 @@ fn list_entry(alloc: Global, entry: &Checked, to: &mut Vec<u8>) -> Result<(), Al
 /// The lines on all instances of entries, one entry behind the other. Each instance has the line
 /// `instruction NAME`, with ` imm N` behind it where it has an immediate; for each lane `lane N TERM`
 /// with its canonical term, `lane N too large` or `lane N dynamic`; and `not packable CAUSE` where
-/// packs cannot call it. Want of memory is answered, too, where the script of an instance or the terms
-/// of an entry have more than 2^24 nodes.
+/// packs cannot call it.
+///
+/// Fails for want of memory, also past 2^22 expressions judged while the script of an instance is
+/// written out, 2^24 nodes of the script of an instance or of the terms of an entry, or 2^21 bits of
+/// all registers of a body.
 pub fn list_entries(alloc: Global, entries: &[Checked]) -> Result<Vec<u8>, AllocError>
     requires written { AllWritten (map entry_of entries.now) }
     requires lanes { HaveLanes (map entry_of entries.now) }

@@ -55,8 +55,10 @@ impl<'a> Machine<'a> {
     /// registers of each run: a line defines at most one. The entries are of a text, as
     /// `parse_file` reads it.
     ///
-    /// Fails for want of memory, also past 2^24 nodes of all scripts that are called, and where a
-    /// call passes more than four registers or gives one of more than 512 bits.
+    /// Fails for want of memory, also past 2^24 nodes of all scripts that are called, 2^28 bytes of the
+    /// frames of all instances that are called, or 2^22 expressions judged while a script is written
+    /// out, and where a call passes more than four registers or gives one of more than 512 bits or of
+    /// no whole bytes.
     pub fn new(
         alloc: Global,
         entries: &'a [Checked],
@@ -82,8 +84,9 @@ impl<'a> Machine<'a> {
 
     /// Runs the program on a memory. The places are those of its pointers, in bytes from the start
     /// of the memory, and the args the numbers of its integer parameters, each kind in the order of
-    /// the first line; one that is missing is 0. A call gives what its entry means. After a trap the
-    /// memory may hold any bytes. Takes no memory, and the next run begins anew.
+    /// the first line; one that is missing is 0. A call gives what its entry means. `Trap` exactly where
+    /// a line reads or writes outside the memory, which then may hold any bytes. Takes no memory, and
+    /// the next run begins anew.
     #[tactic(auto, unfolding(vg_program::specs::Meaning::meaning), using(crate::proofs::Runnable::runnable_all))]
     pub fn run(&mut self, memory: &mut [u8], places: &[u64], args: &[u64]) -> Outcome
         ensures outcome { Leaves result memory.new

@@ -55,8 +55,8 @@ fn instance_at(instances: &[Instance], place: usize) -> Option<&Instance>
 }
 
 impl Prepared {
-    /// An entry by its instances and its least immediate, if it has immediates. Fails for want of
-    /// memory, also past 2^24 nodes of all scripts or 2^28 bytes of frames.
+    /// An entry by its instances, by rising immediates, and its least immediate, if it has immediates.
+    /// Fails for want of memory, also past 2^24 nodes of all scripts or 2^28 bytes of frames.
     pub fn from_instances(
         alloc: Global,
         least: Option<u8>,
@@ -86,8 +86,9 @@ impl Prepared {
         frame_bytes(room_of(&self.instances))
     }
 
-    /// What the entry answers to these parameters and this immediate, with zeros above it. Where the
-    /// entry has no immediate any number may stand there. Takes no memory.
+    /// What the entry answers to these parameters, as many as it has, and an immediate for which it was
+    /// made ready: the low bits of the result in B bytes, with zeros above them. Where the entry has no
+    /// immediate any number may stand there. Takes no memory.
     pub fn apply<const B: usize>(&mut self, params: &[Reg<B>], imm: u8) -> Reg<B>
         ensures bits { bits_of_bytes result.bytes ≡
             bits (8 * B) (num (answer (ready_of self.old) imm (given params.now imm))) }

@@ -115,7 +115,8 @@ impl Prepared {
     /// An accepted entry with all its instances. For each immediate of the entry, and for any number where it has none,
     /// `apply` answers what the entry means.
     ///
-    /// Fails for want of memory, also past 2^24 nodes of all scripts or 2^28 bytes of frames.
+    /// Fails for want of memory, also past 2^22 expressions judged while a script is written out, 2^24 nodes of all
+    /// scripts or 2^28 bytes of frames.
     pub fn new(alloc: Global, checked: &Checked) -> Result<Prepared, AllocError>
         requires written { IsWritten (header_in checked.now) (operation_in checked.now) }
         ensures means { IfOk result (λ p. AnswersAll (header_in checked.now) (operation_in checked.now) (ready_of p)) }
@@ -127,7 +128,8 @@ impl Prepared {
     /// An accepted entry with its instance for one immediate, for which `apply` answers what the entry means; any number
     /// may stand there where the entry has no immediate. None where the immediate is not one of the entry.
     ///
-    /// Fails for want of memory, also past 2^24 nodes of the script or 2^28 bytes of frames.
+    /// Fails for want of memory, also past 2^22 expressions judged while the script is written out, 2^24 nodes of it or
+    /// 2^28 bytes of frames.
     pub fn for_one(
         alloc: Global,
         checked: &Checked,
@@ -151,7 +153,7 @@ impl Prepared {
 /// number may stand there where it has no immediate; None where the immediate is not one of the entry. Who asks more than
 /// once keeps a [`Prepared`].
 ///
-/// Fails for want of memory, also past 2^24 nodes of the script or 2^28 bytes of frames.
+/// Fails for want of memory, also at the bounds of [`Prepared::for_one`].
 pub fn answer_once<const B: usize>(
     alloc: Global,
     checked: &Checked,

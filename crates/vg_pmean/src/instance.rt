@@ -21,7 +21,9 @@ use vg_script::Whole;
 /// An instance, with the room that it needs.
 #[derive(Drop)]
 pub struct Instance {
+    /// Its script, with the widths of its registers.
     pub whole: Whole,
+    /// Room for its own frame and those of the calls inside it.
     pub room: Room,
     ghost ready: { IsReady room (whole_of whole) } by { Prim.hlevel (props, script_formed_once) },
 }

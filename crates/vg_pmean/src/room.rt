@@ -9,10 +9,11 @@ use std::alloc::AllocError;
 /// How many frames are in use at once, and how much the greatest ones hold.
 #[derive(Clone, Copy, Debug)]
 pub struct Room {
+    /// How many frames are in use at once.
     pub frames: usize,
-    /// How many registers.
+    /// How many registers of a frame.
     pub registers: usize,
-    /// How many variables.
+    /// How many variables of a frame.
     pub variables: usize,
     /// The bits of all registers of a frame.
     pub bits: usize,

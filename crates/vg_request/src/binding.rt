@@ -12,14 +12,18 @@ use vg_text::decimal;
 /// A number with its sign, of at most 20 digits.
 #[derive(Clone, Copy, Debug, PartialEq, Eq)]
 pub struct SignedNumber {
+    /// Whether a `-` stands before the digits, as in `-0` too.
     pub negative: bool,
+    /// How far it is from 0, below 10^20.
     pub distance: u128,
 }
 
 /// A name and the number that it is given.
 #[derive(Clone, Copy, Debug)]
 pub struct Bound<'a> {
+    /// Of 1 to 64 bytes.
     pub name: &'a [u8],
+    /// Whether a parameter has it in its range is not judged.
     pub number: SignedNumber,
 }
 
@@ -59,7 +63,8 @@ fn name_len(word: &[u8]) -> usize
     word.iter().take_while(|byte| **byte != b'=').count()
 }
 
-/// The binding that a word is. None where it has no `=`, or another form on a side of it.
+/// The binding that a word is: a name, `=`, and one to twenty digits, which may have a `-` before them.
+/// None for any other word. Takes no memory.
 #[tactic(auto, unfolding(crate::specs::Binding::binding_of))]
 pub fn binding_of(word: &[u8]) -> Option<Bound<'_>>
     ensures { option_map binding_seen result ≡ binding_of word.now }
@@ -94,7 +99,8 @@ pub fn are_bindings(words: &[Bytes]) -> bool
     words.iter().all(|word| is_binding(word.as_slice()))
 }
 
-/// The bindings among the words.
+/// The bindings among the words, in their order; other words are left out. Fails for want of memory
+/// alone.
 pub fn bindings_of(alloc: Global, words: &[Bytes]) -> Result<Vec<Bound<'_>>, AllocError>
     ensures { IfOk result (λ bound. map binding_seen bound.items ≡ bindings_in words.now) }
 {

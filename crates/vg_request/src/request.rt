@@ -36,13 +36,13 @@ pub enum Request<'a> {
     Lift {
         instructions: &'a str,
     },
-    /// The lines on the packs of a kernel's program.
+    /// The lines on the chosen plan of a kernel.
     Explain {
         instructions: &'a str,
         kernel: &'a str,
         options: Options,
     },
-    /// The line on the trial of a number, with the entries in a file.
+    /// The line on the trial of a number, 0 to 4294967295, with the entries in a file.
     Trial {
         instructions: &'a str,
         number: u32,

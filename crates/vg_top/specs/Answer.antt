@@ -26,6 +26,7 @@ pub record Answer (s : Source) (bytes : List ℕ) : Type 0 where
   pub text : bytes ≡ text_of program
   pub compiled : IsCompiled s.entries s.choices.allowed s.kernel s.choices.width program
 
--- the lines on the plan of that program
+-- the lines on the chosen plan of the kernel, which the code emits for it: `Answer` tells that a
+-- program costs what this plan does, not that it has these packs
 abbrev pub Explanation : Source → List ℕ → Type 0
 Explanation s bytes = IsExplained s.entries s.choices.allowed s.kernel s.choices.width bytes

@@ -35,7 +35,7 @@ pub enum Ending {
     Trap,
     /// The answer could not be written.
     WriteFault,
-    /// There was no memory.
+    /// There was no memory, or a bound of the code was reached (docs/limits.md).
     Memory,
 }
 

@@ -62,6 +62,10 @@ fn evaluate_on(
 
 /// The memory that the kernel in a file leaves of the memory in another, its parameters bound by
 /// the words.
+///
+/// The files are read and judged one after the other. The first that is refused gives the ending of
+/// `fetch` or `Kernel` (status 4); then come `Bindings` (9) and `Trap` (10). `Memory` (12) comes for
+/// want of memory alone.
 pub fn eval<S: Shelf>(
     alloc: Global,
     shelf: &mut S,

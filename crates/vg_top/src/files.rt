@@ -21,7 +21,8 @@ pub const PROGRAM_LIMIT: u64 = 4_194_304;
 pub const MEMORY_LIMIT: u64 = 16_777_216;
 
 /// The whole of the file of this name, which is the request's file of this number and has at most
-/// `limit` bytes.
+/// `limit` bytes. `TooLarge` (status 11) where it has more, `Absent` (6) where the shelf has no such
+/// name, `ReadFault` (7) where the shelf failed, `Memory` (12) where there was none for it.
 pub fn fetch<S: Shelf>(
     alloc: Global,
     shelf: &mut S,

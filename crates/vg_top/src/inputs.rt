@@ -17,7 +17,9 @@ use vg_request::binding::{Bound, SignedNumber};
 /// kind in the order of the parameters.
 #[derive(Drop)]
 pub struct Inputs {
+    /// In bytes from the start of the memory.
     pub places: Vec<u64>,
+    /// Modulo 2 to their widths.
     pub args: Vec<u64>,
 }
 
@@ -170,7 +172,8 @@ fn values_of(
 }
 
 /// The values of the parameters. None where some word names no parameter, or some parameter is not
-/// bound by exactly one word in its range.
+/// bound by exactly one word in its range: 0 to 2^64 - 1 for a pointer, -2^(w - 1) to 2^w - 1 for an
+/// integer of w bits. Fails for want of memory alone.
 #[tactic(auto, unfolding(crate::specs::Inputs::inputs_of))]
 pub fn bind(
     alloc: Global,

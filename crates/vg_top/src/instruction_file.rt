@@ -14,7 +14,8 @@ use crate::ending::{Ending, FileNumber};
 use std::alloc::Global;
 use vg_catalog::{Catalog, CatalogFault, parse_file};
 
-/// The entries of the text of the request's file of this number.
+/// The entries of the text of the request's file of this number. `Instructions` (status 3) with the
+/// first fault of the text, or `Memory` (12) for want of memory alone.
 pub fn catalog_of_text(alloc: Global, number: FileNumber, text: &[u8]) -> Result<Catalog, Ending>
     ensures told { Tells AreEntries result (entries_or_refusal number (file_of text.now)) }
     ensures refusal { IfErr result (IsOfInstructions number) }

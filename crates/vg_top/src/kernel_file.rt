@@ -12,7 +12,8 @@ use crate::ending::{Ending, FileNumber};
 use std::alloc::Global;
 use vg_kernel::{Kernel, KernelFault, parse_kernel};
 
-/// The kernel of the text of the request's file of this number.
+/// The kernel of the text of the request's file of this number. `Kernel` (status 4) with the first
+/// fault of the text, or `Memory` (12) for want of memory alone.
 pub fn kernel_of_text(alloc: Global, number: FileNumber, text: &[u8]) -> Result<Kernel, Ending>
     ensures told { Tells IsTree result (kernel_or_refusal number (kernel_of text.now)) }
     ensures well_formed { IfOk result (λ k. IsWellFormed (tree_of k)) }

@@ -31,6 +31,8 @@ fn lines_of_text(alloc: Global, text: &[u8]) -> Result<Vec<u8>, Ending>
 }
 
 /// The lines on all instances of the entries in a file: their lanes, and why packs cannot call them.
+/// A file that is refused gives the ending of `fetch` or `Instructions` (status 3). `Memory` (12) comes
+/// for want of memory, also at the bounds of `list_entries`.
 pub fn lift<S: Shelf>(alloc: Global, shelf: &mut S, instructions: &str) -> Result<Vec<u8>, Ending>
     ensures told { IfSome (S.holds shelf.old) (λ held.
         Tells AreLines result (listed held instructions.now)) }

@@ -33,7 +33,7 @@ use vg_request::Options;
 pub enum Task {
     /// The text of its program.
     Program,
-    /// The lines on the plan of that program.
+    /// The lines on its chosen plan.
     Plan,
 }
 
@@ -102,6 +102,10 @@ fn text_of(
 }
 
 /// What is written of the kernel in a file, with the instructions of another, as the options say.
+///
+/// The files are read and judged one after the other, the instructions first. The first that is
+/// refused gives the ending of `fetch`, `Instructions` (status 3) or `Kernel` (4). `Memory` (12) comes
+/// for want of memory, also at the bounds of `compile`.
 pub fn on_kernel<S: Shelf>(
     alloc: Global,
     shelf: &mut S,

@@ -84,6 +84,10 @@ fn run_on(
 
 /// The memory that the program in a file leaves of the memory in another, its parameters bound by
 /// the words.
+///
+/// The files are read and judged one after the other. The first that is refused gives the ending of
+/// `fetch`, `Instructions` (status 3) or `Program` (5); then come `Bindings` (9) and `Trap` (10).
+/// `Memory` (12) comes for want of memory, also at the bounds of `Machine::new`.
 pub fn run<S: Shelf>(
     alloc: Global,
     shelf: &mut S,

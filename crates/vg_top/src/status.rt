@@ -28,12 +28,12 @@ pub enum Status {
     Trap,
     /// A file is larger than its limit.
     TooLarge,
-    /// There was no memory.
+    /// There was no memory, or a bound of the code was reached (docs/limits.md).
     NoMemory,
 }
 
 impl Status {
-    /// The exit status: 0 to 12.
+    /// The exit status: 0 for `Ok`, and 2 to 12 for the others in their order.
     pub fn code(&self) -> u8
         ensures { result ≡ code_of self.now }
     {

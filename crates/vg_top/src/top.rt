@@ -80,8 +80,8 @@ fn answer<S: Shelf>(
 /// `compile INSTRUCTIONS KERNEL` reads the two files from `shelf` and writes the text of a program
 /// to `out`: a program that means the kernel and costs no more than it. With `--with EXTENSION`,
 /// once or more, it calls entries of those extensions alone; `--width N` is the width of the search.
-/// `explain INSTRUCTIONS KERNEL`, with the same options, writes the lines on the packs of that program and
-/// on what its plan, the plain plan and the kernel cost.
+/// `explain INSTRUCTIONS KERNEL`, with the same options, writes the lines on the packs of the chosen plan
+/// and on what it, the plain plan and the kernel cost.
 /// `run INSTRUCTIONS PROGRAM MEMORY name=number ..` writes the memory that the program leaves of the
 /// one in the file, with its parameters bound by the words, and `eval KERNEL MEMORY name=number ..`
 /// the memory that the kernel leaves. `lift INSTRUCTIONS` writes lines on each instance of the
@@ -93,7 +93,7 @@ fn answer<S: Shelf>(
 /// All files are read before the one write. What goes wrong is told by the status and by one line
 /// on `err`; a fault of `err` changes no status. Where `shelf` tells what it holds, the status is a
 /// function of the words and the files, but for faults of the outside, which counts show, and want
-/// of memory.
+/// of memory, which is answered also at the bounds of the code (docs/limits.md).
 pub fn vegen<S: Shelf, O: Sink, E: Sink>(
     alloc: Global,
     words: &Words,

@@ -32,7 +32,9 @@ fn line_of_text(alloc: Global, text: &[u8], number: u32) -> Result<Vec<u8>, Endi
 }
 
 /// The line on the trial of a number: its kernel, the program that is compiled for it with the
-/// entries in a file, and the bytes that both leave.
+/// entries in a file, and the bytes that both leave. A file that is refused gives the ending of `fetch`
+/// or `Instructions` (status 3). `Memory` (12) comes for want of memory, also at the bounds of
+/// `trial_line`.
 pub fn trial<S: Shelf>(
     alloc: Global,
     shelf: &mut S,

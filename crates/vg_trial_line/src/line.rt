@@ -20,11 +20,11 @@ use vg_kernel::scalar_cost;
 const WIDTH: u32 = 32;
 
 /// The line on the trial of a number: how many statements its kernel has, what the kernel costs and
-/// what the program costs that is compiled for it with all entries, and the sum of the bytes that
-/// are left.
+/// what the program costs that is compiled for it with all entries and width 32, and the sum of the
+/// bytes that are left, modulo 2^32.
 ///
-/// The kernel and the program are run, each on a memory of its own, and leave the same bytes. `Err`
-/// for want of memory alone.
+/// The kernel and the program are run, each on a memory of its own, and leave the same bytes. Fails
+/// for want of memory, also at the bounds of `vg_compile::compile` and `vg_machine::Machine::new`.
 pub fn trial_line(alloc: Global, catalog: &Catalog, number: u32) -> Result<Vec<u8>, AllocError>
     requires written { AllWritten (entries_in catalog.now) }
     requires lanes { HaveLanes (entries_in catalog.now) }
