@@ -1,4 +1,4 @@
-use Rattle.std.proofs.Common.{◌∙◌, false, map, sym, subst}
+use Rattle.std.proofs.Common.{◌∙◌, map, sym, subst}
 use Rattle.vg_shapes.specs.Description.{description_of}
 use Rattle.vg_packs.specs.Walk.{IsFree}
 use Rattle.vg_packs.proofs.Turns.{found-first, settled-by, some-free, turn-none, turn-settled, turn-some}

@@ -3,7 +3,7 @@ use Rattle.vg_shapes.specs.Pack.{units_of}
 use Rattle.vg_shapes.specs.Units.{arguments}
 use Rattle.vg_packs.specs.Marks.{AreMarks}
 use Rattle.vg_packs.specs.Walk.{is_in_plan}
-use Rattle.vg_packs.proofs.Cycles.{overlap-stays, stays-same}
+use Rattle.vg_packs.proofs.Cycles.{stays-same}
 use Rattle.vg_packs.proofs.Marking.{packed-any}
 use Rattle.vg_packs.proofs.plan_marks.PlanMarks.stays_plan.Goals as goal
 
