@@ -3,7 +3,6 @@ use Rattle.std.proofs.Common.{◌≡◌, ℕ, ◌+◌, ◌<◌, ◌≤◌, Bool,
 use Rattle.std.specs.Prelude.{◌||◌, bytes_eq, flat_map}
 use Rattle.std.specs.List.{AllByRecursion, list_any}
 use Rattle.std.proofs.lemmas.List.{map-append, take_more}
-use Rattle.vg_cost.specs.declared.running.Running.{Running}
 use Rattle.vg_cost.specs.Running.{StandsFor}
 use Rattle.vg_packing.proofs.Tried.{is-packing}
 use Rattle.vg_packing.specs.Groups.{store_groups}
@@ -28,12 +27,14 @@ use Rattle.vg_beam.specs.declared.board.Board.{Board}
 use Rattle.vg_beam.specs.declared.candidate.Candidate.{Candidate}
 use Rattle.vg_beam.specs.declared.kept.Kept.{Kept}
 use Rattle.vg_beam.specs.declared.met.Met.{Met}
+use Rattle.vg_beam.specs.declared.priced_plan.PricedPlan.{PricedPlan}
 use Rattle.vg_beam.specs.Board.{Grows, IsBoard, IsOpened, no_pack, pack_at, produced_at, produced_by}
-use Rattle.vg_beam.specs.Candidate.{IsCandidate, IsGrown, AreGrown, grown_plan, grown_plans}
+use Rattle.vg_beam.specs.Candidate.{AreGrown, CanGrow, IsCandidate, IsGrown, IsPlaced, grown_plan, grown_plans}
 use Rattle.vg_beam.specs.Chosen.{HaveShortPacks}
-use Rattle.vg_beam.specs.Kept.{IsKept, plan_of, plans_of}
+use Rattle.vg_beam.specs.Kept.{IsKept, plan_at, plan_of, plans_of}
 use Rattle.vg_beam.specs.Key.{AreApart, IsKey, Names, has_key, with_number}
 use Rattle.vg_beam.specs.Met.{IsMet, Meets, is_known}
+use Rattle.vg_beam.specs.Priced.{priced, priced_plans}
 use Rattle.vg_beam.proofs.Boards.{at-along, grows-join, grows-same, inside-along, names-along}
 use Rattle.vg_beam.proofs.Growing.{HasPrice, flat-snoc, grown-known, grown-new, grown-refused, grown-step}
 use Rattle.vg_beam.proofs.Keys.{key-longer, same-key}
@@ -163,109 +164,147 @@ module _ (ds : List Description) (matches : List Match) (ssa : Ssa) (deps : List
     )
 
     -- a candidate that is met
-    pub is-candidate : (parent pack cost : ℕ) (plan : List Packed) → parent < length level → pack < length packs
-        → plan ≡ get_or (plans_of level) parent [] → IsPlanFor ds matches ssa deps (plan ++ pack_at packs pack ∷ [])
-        → cost ≡ cost_of ds matches ssa deps (plan ++ pack_at packs pack ∷ [])
+    pub is-candidate : (parent pack cost : ℕ) → parent < length level → pack < length packs
+        → IsPlanFor ds matches ssa deps (plan_at level parent ++ pack_at packs pack ∷ [])
+        → cost ≡ cost_of ds matches ssa deps (plan_at level parent ++ pack_at packs pack ∷ [])
         → IsCandidate ds matches ssa deps packs level (record { parent = parent; pack = pack; cost = cost })
-    is-candidate parent pack cost plan l m e is price =
-        let whole : plan ++ pack_at packs pack ∷ [] ≡ get_or (plans_of level) parent [] ++ pack_at packs pack ∷ [] = ap (λ l. l ++ pack_at packs pack ∷ []) e in
-        record {
-          parent = l;
-          pack = m;
-          plan = subst (IsPlanFor ds matches ssa deps) whole is;
-          cost = price ∙ ap (cost_of ds matches ssa deps) whole;
-        }
+    is-candidate parent pack cost l m is price = record {
+      placed = record { parent = l; pack = m };
+      plan = is;
+      cost = price;
+    }
 
-  -- ---- growing
+    -- what holds of all candidates
+    pub all-placed : (cs : List Candidate) → Every (IsCandidate ds matches ssa deps packs level) cs → Every (IsPlaced packs level) cs
+    all-placed [] a = tt
+    all-placed (c ∷ cs) a = (a.0.placed, all-placed cs a.1)
 
-  pub kept-along : (packs longer : List Packed) (k : Kept) → Grows packs longer → IsKept ds matches ssa deps packs k → IsKept ds matches ssa deps longer k
+    pub all-plans : (cs : List Candidate) → Every (IsCandidate ds matches ssa deps packs level) cs
+        → Every (IsPlanFor ds matches ssa deps) (grown_plans packs level cs)
+    all-plans [] a = tt
+    all-plans (c ∷ cs) a = (a.0.plan, all-plans cs a.1)
+
+    pub all-growing : HaveShortPacks ds matches ssa deps → (cs : List Candidate) → Every (IsCandidate ds matches ssa deps packs level) cs
+        → Every (CanGrow ds matches ssa packs level) cs
+    all-growing short [] a = tt
+    all-growing short (c ∷ cs) a = (
+      record {
+        placed = a.0.placed;
+        short = last-short short (plan_at level c.parent) (pack_at packs c.pack) a.0.plan;
+        plan = (deps, a.0.plan);
+      },
+      all-growing short cs a.1,
+    )
+
+    pub all-priced : (cs : List Candidate) → Every (IsCandidate ds matches ssa deps packs level) cs
+        → Every (HasPrice (λ (p : PricedPlan). p.plan) (λ (p : PricedPlan). p.cost) (cost_of ds matches ssa deps)) (priced_plans packs level cs)
+    all-priced [] a = tt
+    all-priced (c ∷ cs) a = (a.0.cost, all-priced cs a.1)
+
+    pub each-priced : (cs : List Candidate) → Every (IsCandidate ds matches ssa deps packs level) cs
+        → Every (HasPrice (grown_plan packs level) (λ (c : Candidate). c.cost) (cost_of ds matches ssa deps)) cs
+    each-priced [] a = tt
+    each-priced (c ∷ cs) a = (a.0.cost, each-priced cs a.1)
+
+-- ---- the least of candidates
+
+pub own-prices : (packs : List Packed) (level : List Kept) (cs : List Candidate)
+    → Every (HasPrice (priced packs level) (λ (c : Candidate). c.cost) (λ (p : PricedPlan). p.cost)) cs
+own-prices packs level [] = tt
+own-prices packs level (c ∷ cs) = (refl, own-prices packs level cs)
+
+pub plans-priced : (packs : List Packed) (level : List Kept) (cs : List Candidate)
+    → map (λ (p : PricedPlan). p.plan) (priced_plans packs level cs) ≡ grown_plans packs level cs
+plans-priced packs level [] = refl
+plans-priced packs level (c ∷ cs) = ap (λ l. grown_plan packs level c ∷ l) (plans-priced packs level cs)
+
+-- ---- growing
+
+module _ (ds : List Description) (matches : List Match) (ssa : Ssa) where
+  abbrev independent : World Packed Operand Operand
+  independent = packing ds matches ssa []
+
+  pub kept-along : (packs longer : List Packed) (k : Kept) → Grows packs longer → IsKept ds matches ssa packs k → IsKept ds matches ssa longer k
   kept-along packs longer k g is = record {
-    plan = is.plan;
     stands = is.stands;
     key = subst (λ l. IsKey no_pack l k.key (plan_of k)) (sym g.1) (key-grow no_pack packs g.0 k.key (plan_of k) is.key);
-    tried = names-along packs longer k.tried (tried world (plan_of k)) g is.tried;
+    tried = names-along packs longer k.tried (tried independent (plan_of k)) g is.tried;
   }
 
-  pub all-along : (packs longer : List Packed) (ks : List Kept) → Grows packs longer → Every (IsKept ds matches ssa deps packs) ks
-      → Every (IsKept ds matches ssa deps longer) ks
+  pub all-along : (packs longer : List Packed) (ks : List Kept) → Grows packs longer → Every (IsKept ds matches ssa packs) ks
+      → Every (IsKept ds matches ssa longer) ks
   all-along packs longer [] g a = tt
   all-along packs longer (k ∷ ks) g a = (kept-along packs longer k g a.0, all-along packs longer ks g a.1)
 
   pub grown-along : (packs longer : List Packed) (level : List Kept) (c : Candidate) → Grows packs longer → c.pack < length packs
       → grown_plan longer level c ≡ grown_plan packs level c
-  grown-along packs longer level c g l = ap (λ p. get_or (plans_of level) c.parent [] ++ p ∷ []) (at-along packs longer c.pack g l)
+  grown-along packs longer level c g l = ap (λ p. plan_at level c.parent ++ p ∷ []) (at-along packs longer c.pack g l)
 
   pub candidate-along : (packs longer : List Packed) (level : List Kept) (c : Candidate) → Grows packs longer
-      → IsCandidate ds matches ssa deps packs level c → IsCandidate ds matches ssa deps longer level c
-  candidate-along packs longer level c g is =
-      let e = grown-along packs longer level c g is.pack in
-      record {
-        parent = is.parent;
-        pack = inside-along packs longer c.pack g is.pack;
-        plan = subst (IsPlanFor ds matches ssa deps) (sym e) is.plan;
-        cost = is.cost ∙ ap (cost_of ds matches ssa deps) (sym e);
-      }
+      → CanGrow ds matches ssa packs level c → CanGrow ds matches ssa longer level c
+  candidate-along packs longer level c g is = record {
+    placed = record { parent = is.placed.parent; pack = inside-along packs longer c.pack g is.placed.pack };
+    short = subst IsShort (sym (at-along packs longer c.pack g is.placed.pack)) is.short;
+    plan = (is.plan.0, subst (IsPlanFor ds matches ssa is.plan.0) (sym (grown-along packs longer level c g is.placed.pack)) is.plan.1);
+  }
 
-  pub kept-grown : (old new : Board) (k next : Kept) (n : ℕ) → n < length old.packs.items → IsKept ds matches ssa deps old.packs.items k
+  pub kept-grown : (old new : Board) (k next : Kept) (n : ℕ) → n < length old.packs.items → IsKept ds matches ssa old.packs.items k
       → IsOpened ds matches ssa old new n
       → plan_of next ≡ plan_of k ++ pack_at old.packs.items n ∷ [] → StandsFor ds matches ssa next.running
-      → IsPlanFor ds matches ssa deps (plan_of k ++ pack_at old.packs.items n ∷ [])
       → next.key ≡ with_number n k.key → next.tried ≡ k.tried ++ produced_at new n
-      → IsKept ds matches ssa deps new.packs.items next
-  kept-grown old new k next n l is o e stands plan key numbers =
+      → IsKept ds matches ssa new.packs.items next
+  kept-grown old new k next n l is o e stands key numbers =
       let there = kept-along old.packs.items new.packs.items k o.grows is in
       let p = pack_at old.packs.items n in
       let same : pack_at new.packs.items n ≡ p = at-along old.packs.items new.packs.items n o.grows l in
-      let behind : tried world (plan_of k ++ p ∷ []) ≡ tried world (plan_of k) ++ produced_by ds matches ssa p =
-      ap (λ q. world.groups ++ q) (flat-snoc (produced_by ds matches ssa) (plan_of k) p)
-      ∙ sym (append_assoc world.groups (flat_map (produced_by ds matches ssa) (plan_of k)) (produced_by ds matches ssa p)) in
+      let behind : tried independent (plan_of k ++ p ∷ []) ≡ tried independent (plan_of k) ++ produced_by ds matches ssa p =
+      ap (λ q. store_groups ssa ++ q) (flat-snoc (produced_by ds matches ssa) (plan_of k) p)
+      ∙ sym (append_assoc (store_groups ssa) (flat_map (produced_by ds matches ssa) (plan_of k)) (produced_by ds matches ssa p)) in
       record {
-        plan = subst (IsPlanFor ds matches ssa deps) (sym e) plan;
         stands = stands;
         key = subst (λ q. IsKey no_pack new.packs.items next.key q) (sym e)
             (subst (λ q. IsKey no_pack new.packs.items q (plan_of k ++ p ∷ [])) (sym key)
             (subst (λ q. IsKey no_pack new.packs.items (with_number n k.key) (plan_of k ++ q ∷ [])) same
             (key-longer no_pack new.packs.items k.key (plan_of k) n there.key (inside-along old.packs.items new.packs.items n o.grows l))));
-        tried = subst (λ q. Names no_pack new.packs.items next.tried (tried world q)) (sym e)
-            (subst (λ q. Names no_pack new.packs.items q (tried world (plan_of k ++ p ∷ []))) (sym numbers)
+        tried = subst (λ q. Names no_pack new.packs.items next.tried (tried independent q)) (sym e)
+            (subst (λ q. Names no_pack new.packs.items q (tried independent (plan_of k ++ p ∷ []))) (sym numbers)
             (subst (Names no_pack new.packs.items (k.tried ++ produced_at new n)) (sym behind)
-            (names-join no_pack new.packs.items k.tried (produced_at new n) (tried world (plan_of k)) (produced_by ds matches ssa p) there.tried o.produced)));
+            (names-join no_pack new.packs.items k.tried (produced_at new n) (tried independent (plan_of k)) (produced_by ds matches ssa p) there.tried o.produced)));
       }
 
   pub kept-first : (packs : List Packed) (k : Kept) (groups : List Packed) → plan_of k ≡ [] → StandsFor ds matches ssa k.running
-      → k.key ≡ [] → Names no_pack packs k.tried groups → groups ≡ store_groups ssa → IsKept ds matches ssa deps packs k
+      → k.key ≡ [] → Names no_pack packs k.tried groups → groups ≡ store_groups ssa → IsKept ds matches ssa packs k
   kept-first packs k groups e stands key names g = record {
-    plan = subst (IsPlanFor ds matches ssa deps) (sym e) empty;
     stands = stands;
     key = subst (λ q. IsKey no_pack packs k.key q) (sym e) (subst (λ q. IsKey no_pack packs q []) (sym key) (key-none no_pack packs));
-    tried = subst (λ q. Names no_pack packs k.tried (tried world q)) (sym e)
+    tried = subst (λ q. Names no_pack packs k.tried (tried independent q)) (sym e)
         (subst (Names no_pack packs k.tried) (g ∙ sym (append-nil (store_groups ssa))) names);
   }
 
   pub grown-first : (b : Board) (level : List Kept) (ks : List Kept) → ks ≡ [] → IsBoard ds matches ssa b
-      → AreGrown ds matches ssa deps b b level [] ks
+      → AreGrown ds matches ssa b b level [] ks
   grown-first b level ks e is = record {
     board = is;
     grows = grows-same b.packs.items;
-    kept = subst (Every (IsKept ds matches ssa deps b.packs.items)) (sym e) tt;
+    kept = subst (Every (IsKept ds matches ssa b.packs.items)) (sym e) tt;
     plans = ap plans_of e;
   }
 
   pub grown-more : (first mid new : Board) (level : List Kept) (cs : List Candidate) (i : ℕ) (d : Candidate) (ks next : List Kept) (k : Kept)
-      → i < length cs → AreGrown ds matches ssa deps first mid level (take i cs) ks
-      → IsGrown ds matches ssa deps mid new level (get_or cs i d) k → Every (IsCandidate ds matches ssa deps first.packs.items level) cs → next ≡ ks ++ k ∷ []
-      → AreGrown ds matches ssa deps first new level (take (i + 1) cs) next
+      → i < length cs → AreGrown ds matches ssa first mid level (take i cs) ks
+      → IsGrown ds matches ssa mid new level (get_or cs i d) k → Every (CanGrow ds matches ssa first.packs.items level) cs → next ≡ ks ++ k ∷ []
+      → AreGrown ds matches ssa first new level (take (i + 1) cs) next
   grown-more first mid new level cs i d ks next k l a b all e =
       let c = get_or cs i d in
-      let candidate = every-any (IsCandidate ds matches ssa deps first.packs.items level) cs i d all l in
+      let candidate = every-any (CanGrow ds matches ssa first.packs.items level) cs i d all l in
       let more : take (i + 1) cs ≡ take i cs ++ c ∷ [] = take_more cs i d l in
       let plan : plan_of k ≡ grown_plan first.packs.items level c =
-      b.plan ∙ grown-along first.packs.items mid.packs.items level c a.grows candidate.pack in
+      b.plan ∙ grown-along first.packs.items mid.packs.items level c a.grows candidate.placed.pack in
       record {
         board = b.board;
         grows = grows-join first.packs.items mid.packs.items new.packs.items a.grows b.grows;
-        kept = subst (Every (IsKept ds matches ssa deps new.packs.items)) (sym e)
-            (every-append (IsKept ds matches ssa deps new.packs.items) ks (k ∷ [])
+        kept = subst (Every (IsKept ds matches ssa new.packs.items)) (sym e)
+            (every-append (IsKept ds matches ssa new.packs.items) ks (k ∷ [])
             (all-along mid.packs.items new.packs.items ks b.grows a.kept) (b.kept, tt));
         plans =
             ap plans_of e ∙ map-append plan_of ks (k ∷ []) ∙ ap (λ q. q ++ plan_of k ∷ []) a.plans
@@ -274,12 +313,5 @@ module _ (ds : List Description) (matches : List Match) (ssa : Ssa) (deps : List
       }
 
   pub grown-all : (old new : Board) (level : List Kept) (cs : List Candidate) (i : ℕ) (ks : List Kept) → length cs ≤ i
-      → AreGrown ds matches ssa deps old new level (take i cs) ks → AreGrown ds matches ssa deps old new level cs ks
-  grown-all old new level cs i ks l a = subst (λ q. AreGrown ds matches ssa deps old new level q ks) (take-whole i cs l) a
-
-  -- ---- the least of candidates
-
-  pub each-priced : (packs : List Packed) (level : List Kept) (cs : List Candidate) → Every (IsCandidate ds matches ssa deps packs level) cs
-      → Every (HasPrice (grown_plan packs level) (λ (c : Candidate). c.cost) (cost_of ds matches ssa deps)) cs
-  each-priced packs level [] a = tt
-  each-priced packs level (c ∷ cs) a = (a.0.cost, each-priced packs level cs a.1)
+      → AreGrown ds matches ssa old new level (take i cs) ks → AreGrown ds matches ssa old new level cs ks
+  grown-all old new level cs i ks l a = subst (λ q. AreGrown ds matches ssa old new level q ks) (take-whole i cs l) a

@@ -87,7 +87,7 @@ if-true b x y t = rw t refl
 if-false : {X : Type 0} (b : Bool) (x y : X) → b ≡ false → (if b then x else y) ≡ y
 if-false b x y f = rw f refl
 
-module _ {C P : Type 0} (plan_of : C → List P) (price : C → ℕ) (cost : List P → ℕ) where
+module _ {C P : Type 0} (plan_of : C → P) (price : C → ℕ) (cost : P → ℕ) where
   abbrev pub HasPrice : C → Type 0
   HasPrice c = price c ≡ cost (plan_of c)
 
@@ -125,11 +125,11 @@ module _ {C P : Type 0} (plan_of : C → List P) (price : C → ℕ) (cost : Lis
       ]
 
   -- the plan of what is found, else another
-  abbrev pub plan_or : List P → Option C → List P
+  abbrev pub plan_or : P → Option C → P
   plan_or best None = best
   plan_or best (Some c) = plan_of c
 
-  pub least-plan : (best : List P) (bound : ℕ) (found : Option C) (cs : List C) → bound ≡ cost (plan_or best found) → Every HasPrice cs
+  pub least-plan : (best : P) (bound : ℕ) (found : Option C) (cs : List C) → bound ≡ cost (plan_or best found) → Every HasPrice cs
       → plan_or best (least_from price bound found cs) ≡ first_least cost (plan_or best found) (map plan_of cs)
   least-plan best bound found [] h a = refl
   least-plan best bound found (c ∷ cs) h a =
@@ -141,6 +141,27 @@ module _ {C P : Type 0} (plan_of : C → List P) (price : C → ℕ) (cost : Lis
         | inr f ↦ ap (plan_or best) (if-false (nat_lt (price c) bound) (least_from price (price c) (Some c) cs) (least_from price bound found cs) f)
             ∙ least-plan best bound found cs h a.1
             ∙ ap (λ q. first_least cost q (map plan_of cs)) (sym (if-false (nat_lt (cost (plan_of c)) (cost (plan_or best found))) (plan_of c) (plan_or best found) (sym same_test ∙ f)))
+      ]
+
+  -- the first of the least price has the plan that is the first of the least cost
+  abbrev pub HasLeast : C → P → List C → Type 0
+  HasLeast best plan cs = (plan_of (first_least price best cs) ≡ first_least cost plan (map plan_of cs)) × HasPrice (first_least price best cs)
+
+  least-along : (best c : C) (plan : P) (cs : List C) → best ≡ c → plan ≡ plan_of c → HasLeast c (plan_of c) cs → HasLeast best plan cs
+  least-along best c plan cs e f h = subst (λ b. HasLeast b plan cs) (sym e) (subst (λ q. HasLeast c q cs) (sym f) h)
+
+  pub least-priced : (best : C) (cs : List C) → HasPrice best → Every HasPrice cs → HasLeast best (plan_of best) cs
+  least-priced best [] h a = (refl, h)
+  least-priced best (c ∷ cs) h a =
+      let mine = nat_lt (price c) (price best) in
+      let own = nat_lt (cost (plan_of c)) (cost (plan_of best)) in
+      let same_test : mine ≡ own = ap (λ n. nat_lt n (price best)) a.0 ∙ ap (nat_lt (cost (plan_of c))) h in
+      let next = least-along (if mine then c else best) in
+      elim (cases_Bool mine) [
+        | inl t ↦ next c (if own then plan_of c else plan_of best) cs (if-true mine c best t)
+            (if-true own (plan_of c) (plan_of best) (sym same_test ∙ t)) (least-priced c cs a.0 a.1)
+        | inr f ↦ next best (if own then plan_of c else plan_of best) cs (if-false mine c best f)
+            (if-false own (plan_of c) (plan_of best) (sym same_test ∙ f)) (least-priced best cs h a.1)
       ]
 
 module _ {C : Type 0} (price : C → ℕ) (bound : ℕ) (found : Option C) (cs : List C) (i : ℕ) (c : C) (l : i < length cs) (is : c ≡ get_or cs i c) where

@@ -1,7 +1,6 @@
 -- Plans that are kept.
-use Rattle.std.specs.Prelude.{ℕ, List, map}
+use Rattle.std.specs.Prelude.{ℕ, List, [], get_or, map}
 use Rattle.vg_cost.specs.Running.{StandsFor}
-use Rattle.vg_packing.specs.Laws.{IsPlanFor}
 use Rattle.vg_packing.specs.Packing.{packing}
 use Rattle.vg_plans.specs.World.{tried}
 use Rattle.vg_shapes.specs.declared.match_table.Match.{Match}
@@ -18,12 +17,15 @@ plan_of k = k.running.packs.items
 abbrev pub plans_of : List Kept → List (List Packed)
 plans_of level = map plan_of level
 
--- a plan with its cost, its key, and the numbers of the packs that are tried behind it
+-- the plan at a place of a level
+abbrev pub plan_at : List Kept → ℕ → List Packed
+plan_at level place = get_or (plans_of level) place []
+
+-- a plan's cost, its key, and the numbers of the packs that are tried behind it: they are told by the
+-- packs alone, whatever depends on what
 pub record IsKept
-    (ds : List Description) (matches : List Match) (ssa : Ssa) (deps : List (ℕ × ℕ))
-    (packs : List Packed) (k : Kept)
+    (ds : List Description) (matches : List Match) (ssa : Ssa) (packs : List Packed) (k : Kept)
     : Type 0 where
-  pub plan : IsPlanFor ds matches ssa deps (plan_of k)
   pub stands : StandsFor ds matches ssa k.running
   pub key : IsKey no_pack packs k.key (plan_of k)
-  pub tried : Names no_pack packs k.tried (tried (packing ds matches ssa deps) (plan_of k))
+  pub tried : Names no_pack packs k.tried (tried (packing ds matches ssa []) (plan_of k))

@@ -5,3 +5,4 @@ pub mod Grown
 pub mod Kept
 pub mod Key
 pub mod Met
+pub mod Priced

@@ -57,17 +57,7 @@ fn search(
     'sizes: for _size in 0..sizes {
         let plans = level.as_slice();
         let met = candidates(alloc, &board, plans, descriptions, table, ssa, deps)?;
-        let better = lesser(
-            alloc,
-            best,
-            &board,
-            plans,
-            met.as_slice(),
-            descriptions,
-            table,
-            ssa,
-            deps,
-        )?;
+        let better = lesser(alloc, best, &board, plans, met.as_slice())?;
         best = better;
         let kept = keep(met, width)?;
         let next = grow_all(
@@ -78,7 +68,6 @@ fn search(
             descriptions,
             table,
             ssa,
-            deps,
         )?;
         level = next;
     }

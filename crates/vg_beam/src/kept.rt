@@ -1,14 +1,12 @@
 //! Plans that are kept.
 
-ghost use Rattle.std.specs.Prelude.{◌≡◌, ◌<◌, ◌++◌, ◌∷◌, [], ℕ, IfOk, List, OnOk, get_or, length, map};
-ghost use Rattle.vg_packing.specs.Laws.{IsPlanFor};
+ghost use Rattle.std.specs.Prelude.{◌≡◌, ◌<◌, ◌++◌, [], IfOk, OnOk, length, map};
 ghost use Rattle.vg_packing.specs.Taken.{MatchesNear};
 ghost use Rattle.vg_plans.specs.Members.{Every, Has};
 ghost use Rattle.vg_shapes.specs.Description.{description_of};
 ghost use Rattle.vg_beam.specs.Board.{IsBoard};
-ghost use Rattle.vg_beam.specs.Candidate.{AreGrown, IsCandidate, IsGrown};
-ghost use Rattle.vg_beam.specs.Chosen.{HaveShortPacks};
-ghost use Rattle.vg_beam.specs.Kept.{IsKept, plan_of, plans_of};
+ghost use Rattle.vg_beam.specs.Candidate.{AreGrown, CanGrow, IsGrown};
+ghost use Rattle.vg_beam.specs.Kept.{IsKept, plan_at, plan_of};
 
 use crate::board::Board;
 use crate::candidate::Candidate;
@@ -17,7 +15,7 @@ use std::alloc::{AllocError, Global};
 use vg_base::Items;
 use vg_cost::Running;
 use vg_packs::store_groups;
-use vg_shapes::{DepList, Description, MatchTable, Ssa};
+use vg_shapes::{Description, MatchTable, Ssa};
 
 /// A plan that may grow: the plan with its cost, the numbers of its packs, rising, and the numbers of
 /// the packs that are tried behind it.
@@ -32,7 +30,7 @@ pub(crate) struct Kept {
 pub(crate) fn kept_at(level: &[Kept], place: usize) -> &Kept
     requires { place < length level.now }
     ensures member { Has result.now level.now }
-    ensures plan { plan_of result.now ≡ get_or (plans_of level.now) place [] }
+    ensures plan { plan_of result.now ≡ plan_at level.now place }
 {
     &level[place]
 }
@@ -49,9 +47,8 @@ pub(crate) fn empty_plan(
     requires board { IsBoard (map description_of descriptions.now) table.now ssa.now board.old }
     ensures board { OnOk result (IsBoard (map description_of descriptions.now) table.now ssa.now
         board.new) }
-    ensures kept { IfOk result (λ kept. (deps : List (ℕ × ℕ)) →
-        IsKept (map description_of descriptions.now) table.now ssa.now deps
-        board.new.packs.items kept) }
+    ensures kept { IfOk result (IsKept (map description_of descriptions.now) table.now ssa.now
+        board.new.packs.items) }
     ensures plan { IfOk result (λ kept. plan_of kept ≡ []) }
 {
     let running = Running::new(alloc, descriptions, table, ssa)?;
@@ -82,18 +79,15 @@ fn grow(
     descriptions: &[Description],
     table: &MatchTable,
     ssa: &Ssa,
-    _deps: &DepList,
 ) -> Result<Kept, AllocError>
     requires near { MatchesNear table.now }
-    requires short { HaveShortPacks (map description_of descriptions.now) table.now ssa.now
-        _deps.now }
     requires board { IsBoard (map description_of descriptions.now) table.now ssa.now board.old }
     requires level { Every (IsKept (map description_of descriptions.now) table.now ssa.now
-        _deps.now board.old.packs.items) level.now }
-    requires candidate { IsCandidate (map description_of descriptions.now) table.now ssa.now
-        _deps.now board.old.packs.items level.now candidate.now }
+        board.old.packs.items) level.now }
+    requires candidate { CanGrow (map description_of descriptions.now) table.now ssa.now
+        board.old.packs.items level.now candidate.now }
     ensures { IfOk result (IsGrown (map description_of descriptions.now) table.now ssa.now
-        _deps.now board.old board.new level.now candidate.now) }
+        board.old board.new level.now candidate.now) }
 {
     let parent = kept_at(level, candidate.parent);
     let pack = board.pack(candidate.pack);
@@ -118,31 +112,19 @@ pub(crate) fn grow_all(
     descriptions: &[Description],
     table: &MatchTable,
     ssa: &Ssa,
-    _deps: &DepList,
 ) -> Result<Vec<Kept>, AllocError>
     requires near { MatchesNear table.now }
-    requires short { HaveShortPacks (map description_of descriptions.now) table.now ssa.now
-        _deps.now }
     requires board { IsBoard (map description_of descriptions.now) table.now ssa.now board.old }
     requires level { Every (IsKept (map description_of descriptions.now) table.now ssa.now
-        _deps.now board.old.packs.items) level.now }
-    requires candidates { Every (IsCandidate (map description_of descriptions.now) table.now
-        ssa.now _deps.now board.old.packs.items level.now) candidates.now }
+        board.old.packs.items) level.now }
+    requires candidates { Every (CanGrow (map description_of descriptions.now) table.now ssa.now
+        board.old.packs.items level.now) candidates.now }
     ensures { IfOk result (λ next. AreGrown (map description_of descriptions.now) table.now
-        ssa.now _deps.now board.old board.new level.now candidates.now next.items) }
+        ssa.now board.old board.new level.now candidates.now next.items) }
 {
     let mut next = Vec::new(alloc);
     'candidates: for candidate in candidates {
-        let kept = grow(
-            alloc,
-            board,
-            level,
-            candidate,
-            descriptions,
-            table,
-            ssa,
-            _deps,
-        )?;
+        let kept = grow(alloc, board, level, candidate, descriptions, table, ssa)?;
         next.push(kept)?;
     }
     Ok(next)

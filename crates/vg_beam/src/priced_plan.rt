@@ -1,16 +1,16 @@
 //! A plan and its cost.
 
-ghost use Rattle.std.specs.Prelude.{◌≡◌, ◌<◌, ◌++◌, ◌∷◌, [], ℕ, IfOk, List, get_or, length, map};
-ghost use Rattle.std.specs.List.{AllByRecursion};
+ghost use Rattle.std.specs.Prelude.{◌≡◌, ◌<◌, ◌∷◌, [], IfOk, length, map};
 ghost use Rattle.vg_packing.specs.Laws.{cost_of};
 ghost use Rattle.vg_packing.specs.Packing.{plain_of};
-ghost use Rattle.vg_packing.specs.Taken.{IsShort, MatchesNear};
+ghost use Rattle.vg_packing.specs.Taken.{MatchesNear};
 ghost use Rattle.vg_packs.specs.Walk.{NameEarlierUnits};
 ghost use Rattle.vg_plans.specs.Levels.{first_least};
 ghost use Rattle.vg_plans.specs.Members.{Every};
 ghost use Rattle.vg_shapes.specs.Description.{description_of};
-ghost use Rattle.vg_beam.specs.Candidate.{IsCandidate, grown_plan, grown_plans};
+ghost use Rattle.vg_beam.specs.Candidate.{IsPlaced, grown_plan};
 ghost use Rattle.vg_beam.specs.Chosen.{HaveShortPacks};
+ghost use Rattle.vg_beam.specs.Priced.{priced_plans};
 
 use crate::board::Board;
 use crate::candidate::{Candidate, least_below};
@@ -88,20 +88,10 @@ pub(crate) fn lesser(
     board: &Board,
     level: &[Kept],
     met: &[Candidate],
-    _descriptions: &[Description],
-    _table: &MatchTable,
-    _ssa: &Ssa,
-    _deps: &DepList,
 ) -> Result<PricedPlan, AllocError>
-    requires cost { best.cost ≡ cost_of (map description_of _descriptions.now) _table.now _ssa.now
-        _deps.now best.plan }
-    requires met { Every (IsCandidate (map description_of _descriptions.now) _table.now _ssa.now
-        _deps.now board.now.packs.items level.now) met.now }
-    ensures plan { IfOk result (λ better. better.plan ≡ first_least (cost_of (map description_of
-        _descriptions.now) _table.now _ssa.now _deps.now) best.plan (grown_plans
-        board.now.packs.items level.now met.now)) }
-    ensures cost { IfOk result (λ better. better.cost ≡ cost_of (map description_of
-        _descriptions.now) _table.now _ssa.now _deps.now better.plan) }
+    requires { Every (IsPlaced board.now.packs.items level.now) met.now }
+    ensures { IfOk result (λ better. better ≡ first_least (λ p. p.cost) best
+        (priced_plans board.now.packs.items level.now met.now)) }
 {
     match least_below(met, best.cost) {
         None => Ok(best),

@@ -1,7 +1,8 @@
 //! Growing the plans of a level by one pack.
 
-ghost use Rattle.std.specs.Prelude.{◌≡◌, ◌<◌, ◌∷◌, [], IfOk, OnOk, get_or, length, map};
+ghost use Rattle.std.specs.Prelude.{◌≡◌, ◌<◌, ◌∷◌, [], IfOk, OnOk, length, map};
 ghost use Rattle.vg_cost.specs.Room.{IsRoomFor};
+ghost use Rattle.vg_packing.specs.Laws.{IsPlanFor};
 ghost use Rattle.vg_packing.specs.Packing.{packing};
 ghost use Rattle.vg_packing.specs.Taken.{MatchesNear};
 ghost use Rattle.vg_packs.specs.PlanMarks.{MarksPlan};
@@ -13,7 +14,7 @@ ghost use Rattle.vg_shapes.specs.Description.{description_of};
 ghost use Rattle.vg_beam.specs.Board.{IsBoard, pack_at};
 ghost use Rattle.vg_beam.specs.Candidate.{IsCandidate, grown_plans};
 ghost use Rattle.vg_beam.specs.Chosen.{HaveShortPacks};
-ghost use Rattle.vg_beam.specs.Kept.{IsKept, plan_of, plans_of};
+ghost use Rattle.vg_beam.specs.Kept.{IsKept, plan_at, plans_of};
 ghost use Rattle.vg_beam.specs.Met.{IsMet, Meets};
 
 use crate::board::Board;
@@ -31,9 +32,8 @@ use vg_shapes::{DepList, Description, MatchTable, Ssa};
 fn meet(
     alloc: Global,
     board: &Board,
-    _level: &[Kept],
+    level: &[Kept],
     parent: usize,
-    kept: &Kept,
     marks: &PlanMarks,
     room: &mut Room,
     pack: u32,
@@ -48,22 +48,24 @@ fn meet(
     requires short { HaveShortPacks (map description_of descriptions.now) table.now ssa.now
         deps.now }
     requires board { IsBoard (map description_of descriptions.now) table.now ssa.now board.now }
-    requires kept { IsKept (map description_of descriptions.now) table.now ssa.now deps.now
-        board.now.packs.items kept.now }
-    requires parent { parent < length _level.now }
-    requires plan { plan_of kept.now ≡ get_or (plans_of _level.now) parent [] }
-    requires marks { MarksPlan ssa.now (plan_of kept.now) marks.now }
-    requires room { IsRoomFor ssa.now (plan_of kept.now) room.old }
+    requires level { Every (IsKept (map description_of descriptions.now) table.now ssa.now
+        board.now.packs.items) level.now }
+    requires parent { parent < length level.now }
+    requires plan { IsPlanFor (map description_of descriptions.now) table.now ssa.now deps.now
+        (plan_at level.now parent) }
+    requires marks { MarksPlan ssa.now (plan_at level.now parent) marks.now }
+    requires room { IsRoomFor ssa.now (plan_at level.now parent) room.old }
     requires pack { pack < length board.now.packs.items }
     requires tried { Has (pack_at board.now.packs.items pack) (tried (packing (map description_of
-        descriptions.now) table.now ssa.now deps.now) (plan_of kept.now)) }
+        descriptions.now) table.now ssa.now deps.now) (plan_at level.now parent)) }
     requires met { IsMet (map description_of descriptions.now) table.now ssa.now deps.now
-        board.now.packs.items _level.now met.old }
-    ensures room { OnOk result (IsRoomFor ssa.now (plan_of kept.now) room.new) }
+        board.now.packs.items level.now met.old }
+    ensures room { OnOk result (IsRoomFor ssa.now (plan_at level.now parent) room.new) }
     ensures met { OnOk result (Meets (map description_of descriptions.now) table.now ssa.now
-        deps.now board.now.packs.items _level.now (plan_of kept.now) (pack_at
+        deps.now board.now.packs.items level.now (plan_at level.now parent) (pack_at
         board.now.packs.items pack ∷ []) met.old met.new) }
 {
+    let kept = kept_at(level, parent);
     let last = board.pack(pack);
     let packs = kept.running.packs();
     let overlap = marks.overlaps(packs, last);
@@ -92,7 +94,6 @@ fn meet_all(
     board: &Board,
     level: &[Kept],
     parent: usize,
-    kept: &Kept,
     met: &mut Met,
     descriptions: &[Description],
     table: &MatchTable,
@@ -104,16 +105,19 @@ fn meet_all(
     requires short { HaveShortPacks (map description_of descriptions.now) table.now ssa.now
         deps.now }
     requires board { IsBoard (map description_of descriptions.now) table.now ssa.now board.now }
-    requires kept { IsKept (map description_of descriptions.now) table.now ssa.now deps.now
-        board.now.packs.items kept.now }
+    requires level { Every (IsKept (map description_of descriptions.now) table.now ssa.now
+        board.now.packs.items) level.now }
     requires parent { parent < length level.now }
-    requires plan { plan_of kept.now ≡ get_or (plans_of level.now) parent [] }
+    requires plan { IsPlanFor (map description_of descriptions.now) table.now ssa.now deps.now
+        (plan_at level.now parent) }
     requires met { IsMet (map description_of descriptions.now) table.now ssa.now deps.now
         board.now.packs.items level.now met.old }
     ensures { OnOk result (Meets (map description_of descriptions.now) table.now ssa.now deps.now
-        board.now.packs.items level.now (plan_of kept.now) (tried (packing (map description_of
-        descriptions.now) table.now ssa.now deps.now) (plan_of kept.now)) met.old met.new) }
+        board.now.packs.items level.now (plan_at level.now parent) (tried (packing
+        (map description_of descriptions.now) table.now ssa.now deps.now) (plan_at level.now
+        parent)) met.old met.new) }
 {
+    let kept = kept_at(level, parent);
     let packs = kept.running.packs();
     let marks = PlanMarks::new(alloc, ssa, packs)?;
     let mut room = Room::new(alloc, ssa, packs)?;
@@ -124,7 +128,6 @@ fn meet_all(
             board,
             level,
             parent,
-            kept,
             &marks,
             &mut room,
             *pack,
@@ -154,7 +157,9 @@ pub(crate) fn candidates(
         deps.now }
     requires board { IsBoard (map description_of descriptions.now) table.now ssa.now board.now }
     requires level { Every (IsKept (map description_of descriptions.now) table.now ssa.now
-        deps.now board.now.packs.items) level.now }
+        board.now.packs.items) level.now }
+    requires plans { Every (IsPlanFor (map description_of descriptions.now) table.now ssa.now
+        deps.now) (plans_of level.now) }
     ensures candidates { IfOk result (λ met. Every (IsCandidate (map description_of
         descriptions.now) table.now ssa.now deps.now board.now.packs.items level.now) met.items) }
     ensures plans { IfOk result (λ met. grown_plans board.now.packs.items level.now met.items
@@ -164,13 +169,11 @@ pub(crate) fn candidates(
 {
     let mut met = Met::new(alloc);
     'plans: for parent in 0..level.len() {
-        let kept = kept_at(level, parent);
         meet_all(
             alloc,
             board,
             level,
             parent,
-            kept,
             &mut met,
             descriptions,
             table,

@@ -1,5 +1,5 @@
 use Rattle.std.proofs.Common.{◌≡◌, map}
-use Rattle.vg_packing.specs.Laws.{cost_of}
+use Rattle.vg_packing.specs.Laws.{IsPlanFor, cost_of}
 use Rattle.vg_packing.specs.Packing.{packing, plain_of}
 use Rattle.vg_plans.specs.Levels.{chosen, level_of}
 use Rattle.vg_plans.specs.Members.{Every}
@@ -12,7 +12,8 @@ use Rattle.vg_beam.proofs.choosing.search.Given as goal
 abbrev pub invariant-sizes : goal.invariant-sizes
 invariant-sizes l = record {
   board : IsBoard (map description_of l.descriptions) l.table l.ssa l.board;
-  kept : Every (IsKept (map description_of l.descriptions) l.table l.ssa l.deps l.board.packs.items) l.level.items;
+  kept : Every (IsKept (map description_of l.descriptions) l.table l.ssa l.board.packs.items) l.level.items;
+  plans : Every (IsPlanFor (map description_of l.descriptions) l.table l.ssa l.deps) (plans_of l.level.items);
   level :
       plans_of l.level.items
       ≡ level_of (follows (packing (map description_of l.descriptions) l.table l.ssa l.deps))

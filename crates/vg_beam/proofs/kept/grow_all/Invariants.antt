@@ -5,4 +5,4 @@ use Rattle.vg_beam.proofs.kept.grow_all.Given as goal
 
 abbrev pub invariant-candidates : goal.invariant-candidates
 invariant-candidates l =
-    AreGrown (map description_of l.descriptions) l.table l.ssa l._deps l.initial.board l.board l.level (take l.candidate-index l.candidates) l.next.items
+    AreGrown (map description_of l.descriptions) l.table l.ssa l.initial.board l.board l.level (take l.candidate-index l.candidates) l.next.items

@@ -1,13 +1,13 @@
-use Rattle.std.proofs.Common.{arith, ap, map}
+use Rattle.std.proofs.Common.{[], arith, ap, map, refl}
+use Rattle.vg_packing.specs.Laws.{IsPlanFor}
 use Rattle.vg_packing.specs.Packing.{packing}
-use Rattle.vg_plans.proofs.Lists.{every-has}
 use Rattle.vg_plans.specs.World.{follows, same_packs}
 use Rattle.vg_shapes.specs.Description.{description_of}
 use Rattle.vg_beam.specs.Candidate.{grown_plans}
-use Rattle.vg_beam.specs.Kept.{IsKept, plan_of, plans_of}
+use Rattle.vg_beam.specs.Kept.{plan_at, plan_of, plans_of}
 use Rattle.vg_beam.proofs.Candidates.{met-first}
 use Rattle.vg_beam.proofs.Growing.{plans-end, plans-step}
-use Rattle.vg_beam.proofs.Numbers.{length-map}
+use Rattle.vg_beam.proofs.Numbers.{every-any, length-map}
 use Rattle.vg_beam.proofs.search.candidates.Goals as goal
 
 pub plans-init : goal.plans-init
@@ -17,17 +17,18 @@ plans-init c = record {
   plans = ap (grown_plans c.args.board.now.packs.items c.args.level.now) c.new-met.ensures.candidates;
 }
 
-pub meet_all-requires-clause-kept : goal.meet_all-requires-clause-kept
-meet_all-requires-clause-kept c =
-    every-has (IsKept (map description_of c.args.descriptions.now) c.args.table.now c.args.ssa.now c.args.deps.now c.args.board.now.packs.items) _ c.args.level.now c.requires.level c.kept_at-kept.ensures.member
+pub meet_all-requires-clause-plan : goal.meet_all-requires-clause-plan
+meet_all-requires-clause-plan c =
+    every-any (IsPlanFor (map description_of c.args.descriptions.now) c.args.table.now c.args.ssa.now c.args.deps.now) (plans_of c.args.level.now) c.plans.parent [] c.requires.plans
+    (omega (arith, c.plans-test.true, length-map plan_of c.args.level.now))
 
 pub plans-preserved : goal.plans-preserved
 plans-preserved c =
     let w = packing (map description_of c.args.descriptions.now) c.args.table.now c.args.ssa.now c.args.deps.now in
     record {
       met = c.in_ok-meet_all.ensures.met;
-      plans = plans-step (follows w) (same_packs w) (plans_of c.args.level.now) c.plans.parent (plan_of c.kept_at-kept.result.now) _ _
-          (omega (arith, c.plans-test.true, length-map plan_of c.args.level.now)) c.kept_at-kept.ensures.plan
+      plans = plans-step (follows w) (same_packs w) (plans_of c.args.level.now) c.plans.parent (plan_at c.args.level.now c.plans.parent) _ _
+          (omega (arith, c.plans-test.true, length-map plan_of c.args.level.now)) refl
           c.plans.invariant.plans c.in_ok-meet_all.ensures.plans;
     }
 

@@ -6,11 +6,12 @@ use Rattle.vg_packing.specs.Taken.{IsShort}
 use Rattle.vg_cost.specs.Room.{IsRoomFor}
 use Rattle.vg_packs.specs.PlanMarks.{MarksPlan}
 use Rattle.vg_packs.specs.Walk.{IsFree, is_in_plan}
+use Rattle.vg_plans.proofs.Lists.{every-has}
 use Rattle.vg_plans.specs.World.{stays_plan}
 use Rattle.vg_shapes.specs.Pack.{units_of}
 use Rattle.vg_shapes.specs.Description.{description_of}
 use Rattle.vg_beam.specs.Board.{no_pack, pack_at}
-use Rattle.vg_beam.specs.Kept.{plan_of}
+use Rattle.vg_beam.specs.Kept.{IsKept, plan_at, plan_of}
 use Rattle.vg_beam.specs.Key.{IsKey, with_number}
 use Rattle.vg_beam.specs.Met.{is_known}
 use Rattle.vg_beam.proofs.Candidates.{is-candidate, last-short, longer-plan, meets-known, meets-new, meets-refused, overlap-stays, plan-free}
@@ -19,86 +20,100 @@ use Rattle.vg_beam.proofs.search.meet.Goals as goal
 
 pub returns-then-overlap : goal.returns-then-overlap
 returns-then-overlap c =
-    let plan = plan_of c.args.kept.now in
+    let plan = plan_at c.args.level.now c.args.parent in
     let p = pack_at c.args.board.now.packs.items c.args.pack in
     let t = ap (λ q. list_any (is_in_plan plan) (units_of q)) (sym c.pack-last.ensures)
-    ∙ ap (λ l. list_any (is_in_plan l) (units_of c.pack-last.result.now)) (sym c.packs-packs.ensures)
+    ∙ ap (λ l. list_any (is_in_plan l) (units_of c.pack-last.result.now)) (sym (c.packs-packs.ensures ∙ c.kept_at-kept.ensures.plan))
     ∙ sym c.overlaps-overlap.ensures ∙ c.if-overlap.true in record {
       room = c.requires.room;
-      met = meets-refused (map description_of c.args.descriptions.now) c.args.table.now c.args.ssa.now c.args.deps.now c.args.board.now.packs.items c.args._level.now plan p c.args.met.now c.requires.met
+      met = meets-refused (map description_of c.args.descriptions.now) c.args.table.now c.args.ssa.now c.args.deps.now c.args.board.now.packs.items c.args.level.now plan p c.args.met.now c.requires.met
           (overlap-stays (map description_of c.args.descriptions.now) c.args.table.now c.args.ssa.now c.args.deps.now plan p t);
     }
 
 pub stays_plan-requires-clause-marks : goal.stays_plan-requires-clause-marks
 stays_plan-requires-clause-marks c =
-    subst (λ l. MarksPlan c.args.ssa.now l c.args.marks.now) (sym c.packs-packs.ensures) c.requires.marks
+    subst (λ l. MarksPlan c.args.ssa.now l c.args.marks.now) (sym (c.packs-packs.ensures ∙ c.kept_at-kept.ensures.plan)) c.requires.marks
 
 pub stays_plan-requires-clause-free : goal.stays_plan-requires-clause-free
 stays_plan-requires-clause-free c =
-    subst (IsFree c.args.table.now c.args.ssa.now c.args.deps.now) (sym c.packs-packs.ensures)
-    (plan-free (map description_of c.args.descriptions.now) c.args.table.now c.args.ssa.now c.args.deps.now c.requires.earlier (plan_of c.args.kept.now) c.requires.kept.plan)
+    subst (IsFree c.args.table.now c.args.ssa.now c.args.deps.now) (sym (c.packs-packs.ensures ∙ c.kept_at-kept.ensures.plan))
+    (plan-free (map description_of c.args.descriptions.now) c.args.table.now c.args.ssa.now c.args.deps.now c.requires.earlier (plan_at c.args.level.now c.args.parent) c.requires.plan)
 
 pub cost_with-requires-clause-short : goal.cost_with-requires-clause-short
 cost_with-requires-clause-short c =
     let bare = packing [] c.args.table.now c.args.ssa.now c.args.deps.now in
-    let plan = plan_of c.args.kept.now in
+    let plan = plan_at c.args.level.now c.args.parent in
     let p = pack_at c.args.board.now.packs.items c.args.pack in
-    let t = ap (stays_plan bare plan) (sym c.pack-last.ensures) ∙ ap (λ l. stays_plan bare l c.pack-last.result.now) (sym c.packs-packs.ensures)
+    let t = ap (stays_plan bare plan) (sym c.pack-last.ensures) ∙ ap (λ l. stays_plan bare l c.pack-last.result.now) (sym (c.packs-packs.ensures ∙ c.kept_at-kept.ensures.plan))
     ∙ sym c.in_ok-stays.ensures ∙ c.if-not-stays.false in
     subst IsShort (sym c.pack-last.ensures)
-    (last-short (map description_of c.args.descriptions.now) c.args.table.now c.args.ssa.now c.args.deps.now c.requires.short plan p (longer-plan (map description_of c.args.descriptions.now) c.args.table.now c.args.ssa.now c.args.deps.now plan p c.requires.kept.plan c.requires.tried t))
+    (last-short (map description_of c.args.descriptions.now) c.args.table.now c.args.ssa.now c.args.deps.now c.requires.short plan p (longer-plan (map description_of c.args.descriptions.now) c.args.table.now c.args.ssa.now c.args.deps.now plan p c.requires.plan c.requires.tried t))
+
+pub cost_with-requires-clause-room : goal.cost_with-requires-clause-room
+cost_with-requires-clause-room c =
+    subst (λ l. IsRoomFor c.args.ssa.now l c.args.room.now) (sym c.kept_at-kept.ensures.plan) c.requires.room
+
+pub cost_with-requires-clause-stands : goal.cost_with-requires-clause-stands
+cost_with-requires-clause-stands c =
+    (every-has (IsKept (map description_of c.args.descriptions.now) c.args.table.now c.args.ssa.now c.args.board.now.packs.items) _ c.args.level.now c.requires.level c.kept_at-kept.ensures.member).stands
 
 pub cost_with-requires-clause-plan : goal.cost_with-requires-clause-plan
 cost_with-requires-clause-plan c =
     let bare = packing [] c.args.table.now c.args.ssa.now c.args.deps.now in
-    let plan = plan_of c.args.kept.now in
+    let plan = plan_at c.args.level.now c.args.parent in
     let p = pack_at c.args.board.now.packs.items c.args.pack in
-    let t = ap (stays_plan bare plan) (sym c.pack-last.ensures) ∙ ap (λ l. stays_plan bare l c.pack-last.result.now) (sym c.packs-packs.ensures)
-    ∙ sym c.in_ok-stays.ensures ∙ c.if-not-stays.false in (
+    let t = ap (stays_plan bare plan) (sym c.pack-last.ensures) ∙ ap (λ l. stays_plan bare l c.pack-last.result.now) (sym (c.packs-packs.ensures ∙ c.kept_at-kept.ensures.plan))
+    ∙ sym c.in_ok-stays.ensures ∙ c.if-not-stays.false in
+    let is = IsPlanFor (map description_of c.args.descriptions.now) c.args.table.now c.args.ssa.now c.args.deps.now in (
       c.args.deps.now,
-      subst (λ q. IsPlanFor (map description_of c.args.descriptions.now) c.args.table.now c.args.ssa.now c.args.deps.now (plan ++ q ∷ [])) (sym c.pack-last.ensures)
-          (longer-plan (map description_of c.args.descriptions.now) c.args.table.now c.args.ssa.now c.args.deps.now plan p c.requires.kept.plan c.requires.tried t),
+      subst (λ q. is (plan_of c.kept_at-kept.result.now ++ q ∷ [])) (sym c.pack-last.ensures)
+          (subst (λ l. is (l ++ p ∷ [])) (sym c.kept_at-kept.ensures.plan)
+          (longer-plan (map description_of c.args.descriptions.now) c.args.table.now c.args.ssa.now c.args.deps.now plan p c.requires.plan c.requires.tried t)),
     )
 
 pub returns-then-known : goal.returns-then-known
 returns-then-known c =
     let packs = c.args.board.now.packs.items in
-    let plan = plan_of c.args.kept.now in
+    let plan = plan_at c.args.level.now c.args.parent in
     let p = pack_at packs c.args.pack in
     let k = subst (λ q. IsKey no_pack packs q (plan ++ p ∷ [])) (sym (c.in_ok-key.ensures ∙ ap (with_number c.args.pack) c.as_slice.ensures))
-    (key-longer no_pack packs c.args.kept.now.key plan c.args.pack c.requires.kept.key c.requires.pack) in record {
+    (key-longer no_pack packs c.kept_at-kept.result.now.key plan c.args.pack (subst (IsKey no_pack packs c.kept_at-kept.result.now.key) c.kept_at-kept.ensures.plan
+    (every-has (IsKept (map description_of c.args.descriptions.now) c.args.table.now c.args.ssa.now packs) _ c.args.level.now c.requires.level c.kept_at-kept.ensures.member).key) c.requires.pack) in record {
       room = c.requires.room;
-      met = meets-known (map description_of c.args.descriptions.now) c.args.table.now c.args.ssa.now c.args.deps.now packs c.args._level.now plan p c.args.met.now c.in_ok-key.key.items c.requires.met k
+      met = meets-known (map description_of c.args.descriptions.now) c.args.table.now c.args.ssa.now c.args.deps.now packs c.args.level.now plan p c.args.met.now c.in_ok-key.key.items c.requires.met k
           (ap (is_known c.args.met.now) (sym c.as_slice-2.ensures.value) ∙ sym c.has-known.ensures ∙ c.if-known.true);
     }
 
 pub returns-then-not-stays : goal.returns-then-not-stays
 returns-then-not-stays c =
     let bare = packing [] c.args.table.now c.args.ssa.now c.args.deps.now in
-    let plan = plan_of c.args.kept.now in
+    let plan = plan_at c.args.level.now c.args.parent in
     let p = pack_at c.args.board.now.packs.items c.args.pack in
-    let f = ap (stays_plan bare plan) (sym c.pack-last.ensures) ∙ ap (λ l. stays_plan bare l c.pack-last.result.now) (sym c.packs-packs.ensures)
+    let f = ap (stays_plan bare plan) (sym c.pack-last.ensures) ∙ ap (λ l. stays_plan bare l c.pack-last.result.now) (sym (c.packs-packs.ensures ∙ c.kept_at-kept.ensures.plan))
     ∙ sym c.in_ok-stays.ensures ∙ c.if-not-stays.true in record {
       room = c.requires.room;
-      met = meets-refused (map description_of c.args.descriptions.now) c.args.table.now c.args.ssa.now c.args.deps.now c.args.board.now.packs.items c.args._level.now plan p c.args.met.now c.requires.met f;
+      met = meets-refused (map description_of c.args.descriptions.now) c.args.table.now c.args.ssa.now c.args.deps.now c.args.board.now.packs.items c.args.level.now plan p c.args.met.now c.requires.met f;
     }
 
 pub returns : goal.returns
 returns c =
     let bare = packing [] c.args.table.now c.args.ssa.now c.args.deps.now in
     let packs = c.args.board.now.packs.items in
-    let plan = plan_of c.args.kept.now in
+    let plan = plan_at c.args.level.now c.args.parent in
     let p = pack_at packs c.args.pack in
     let k = subst (λ q. IsKey no_pack packs q (plan ++ p ∷ [])) (sym (c.in_ok-key.ensures ∙ ap (with_number c.args.pack) c.as_slice.ensures))
-    (key-longer no_pack packs c.args.kept.now.key plan c.args.pack c.requires.kept.key c.requires.pack) in
+    (key-longer no_pack packs c.kept_at-kept.result.now.key plan c.args.pack (subst (IsKey no_pack packs c.kept_at-kept.result.now.key) c.kept_at-kept.ensures.plan
+    (every-has (IsKept (map description_of c.args.descriptions.now) c.args.table.now c.args.ssa.now packs) _ c.args.level.now c.requires.level c.kept_at-kept.ensures.member).key) c.requires.pack) in
     let f = ap (is_known c.args.met.now) (sym c.as_slice-2.ensures.value) ∙ sym c.has-known.ensures ∙ c.if-known.false in
-    let t = ap (stays_plan bare plan) (sym c.pack-last.ensures) ∙ ap (λ l. stays_plan bare l c.pack-last.result.now) (sym c.packs-packs.ensures)
+    let t = ap (stays_plan bare plan) (sym c.pack-last.ensures) ∙ ap (λ l. stays_plan bare l c.pack-last.result.now) (sym (c.packs-packs.ensures ∙ c.kept_at-kept.ensures.plan))
     ∙ sym c.in_ok-stays.ensures ∙ c.if-not-stays.false in
-    let is = longer-plan (map description_of c.args.descriptions.now) c.args.table.now c.args.ssa.now c.args.deps.now plan p c.requires.kept.plan c.requires.tried t in record {
-      room = c.in_ok-cost.ensures.room;
-      met = meets-new (map description_of c.args.descriptions.now) c.args.table.now c.args.ssa.now c.args.deps.now packs c.args._level.now plan p c.args.met.now _ c.in_ok-key.key.items _ c.requires.board.apart c.requires.met k f t
-          c.in_ok-add.ensures.candidates c.in_ok-add.ensures.known (ap (λ l. l ++ p ∷ []) (sym c.requires.plan))
-          (is-candidate (map description_of c.args.descriptions.now) c.args.table.now c.args.ssa.now c.args.deps.now packs c.args._level.now c.args.parent c.args.pack c.in_ok-cost.cost plan
-          c.requires.parent c.requires.pack c.requires.plan is
-          (c.in_ok-cost.ensures.cost c.args.deps.now ∙ ap (λ q. cost_of (map description_of c.args.descriptions.now) c.args.table.now c.args.ssa.now c.args.deps.now (plan ++ q ∷ [])) c.pack-last.ensures));
+    let price = cost_of (map description_of c.args.descriptions.now) c.args.table.now c.args.ssa.now c.args.deps.now in
+    let is = longer-plan (map description_of c.args.descriptions.now) c.args.table.now c.args.ssa.now c.args.deps.now plan p c.requires.plan c.requires.tried t in record {
+      room = subst (λ l. IsRoomFor c.args.ssa.now l c.cost_with.new.room) c.kept_at-kept.ensures.plan c.in_ok-cost.ensures.room;
+      met = meets-new (map description_of c.args.descriptions.now) c.args.table.now c.args.ssa.now c.args.deps.now packs c.args.level.now plan p c.args.met.now _ c.in_ok-key.key.items _ c.requires.board.apart c.requires.met k f t
+          c.in_ok-add.ensures.candidates c.in_ok-add.ensures.known refl
+          (is-candidate (map description_of c.args.descriptions.now) c.args.table.now c.args.ssa.now c.args.deps.now packs c.args.level.now c.args.parent c.args.pack c.in_ok-cost.cost
+          c.requires.parent c.requires.pack is
+          (c.in_ok-cost.ensures.cost c.args.deps.now ∙ ap (λ q. price (plan_of c.kept_at-kept.result.now ++ q ∷ [])) c.pack-last.ensures
+          ∙ ap (λ l. price (l ++ p ∷ [])) c.kept_at-kept.ensures.plan));
     }

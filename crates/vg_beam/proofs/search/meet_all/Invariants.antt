@@ -2,12 +2,12 @@ use Rattle.std.proofs.Common.{map, take}
 use Rattle.vg_shapes.specs.Description.{description_of}
 use Rattle.vg_cost.specs.Room.{IsRoomFor}
 use Rattle.vg_beam.specs.Board.{pack_at}
-use Rattle.vg_beam.specs.Kept.{plan_of}
+use Rattle.vg_beam.specs.Kept.{plan_at}
 use Rattle.vg_beam.specs.Met.{Meets}
 use Rattle.vg_beam.proofs.search.meet_all.Given as goal
 
 abbrev pub invariant-packs : goal.invariant-packs
 invariant-packs l =
-    Meets (map description_of l.descriptions) l.table l.ssa l.deps l.board.packs.items l.level (plan_of l.kept)
+    Meets (map description_of l.descriptions) l.table l.ssa l.deps l.board.packs.items l.level (plan_at l.level l.parent)
     (map (pack_at l.board.packs.items) (take l.pack-index l.numbers)) l.initial.met l.met
-    × IsRoomFor l.ssa (plan_of l.kept) l.room
+    × IsRoomFor l.ssa (plan_at l.level l.parent) l.room
