@@ -1,6 +1,6 @@
 //! The chosen plan.
 
-ghost use Rattle.std.specs.Prelude.{◌≡◌, ◌∷◌, [], ℕ, IfOk, List, map};
+ghost use Rattle.std.specs.Prelude.{◌≡◌, ◌∷◌, [], IfOk, map};
 ghost use Rattle.vg_packing.specs.Laws.{cost_of};
 ghost use Rattle.vg_packing.specs.Packing.{chosen_of, packing, plain_of, sizes_of};
 ghost use Rattle.vg_packing.specs.Taken.{MatchesNear};

@@ -1,6 +1,6 @@
 //! The plans of a level that were met.
 
-ghost use Rattle.std.specs.Prelude.{◌≡◌, ◌++◌, ◌∷◌, [], ℕ, ◌||◌, IfOk, List, OnOk, bytes_eq};
+ghost use Rattle.std.specs.Prelude.{◌≡◌, ◌++◌, ◌∷◌, [], ℕ, ◌||◌, List, OnOk, bytes_eq};
 ghost use Rattle.vg_beam.specs.Key.{has_key};
 ghost use Rattle.vg_beam.specs.Met.{is_known};
 
