@@ -1,6 +1,6 @@
 //! The lanes of packs that are to produce operands.
 
-ghost use Rattle.std.specs.Prelude.{◌≡◌, ◌<◌, ◌≤◌, ◌&&◌, ◌^◌, ◌/◌, ◌∷◌, ◌++◌, [], IfOk, OnOk, drop, find, is_some, length, map, nat_eq, Option, Some};
+ghost use Rattle.std.specs.Prelude.{◌≡◌, ◌<◌, ◌&&◌, ◌^◌, ◌/◌, [], IfOk, find, is_some, length, nat_eq, Option, Some};
 ghost use Rattle.std.specs.Cmp.Lexicographic.{pointwise};
 ghost use Rattle.std.specs.List.{list_any, list_all};
 ghost use Rattle.std.specs.Option.{option_copied};

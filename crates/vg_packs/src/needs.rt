@@ -1,6 +1,6 @@
 //! On which units packs depend.
 
-ghost use Rattle.std.specs.Prelude.{◌≡◌, ◌++◌, IfOk, OnOk, filter, flat_map, nat_eq, take, [], if◌then◌else◌};
+ghost use Rattle.std.specs.Prelude.{◌≡◌, ◌++◌, IfOk, OnOk, filter, flat_map, [], if◌then◌else◌};
 ghost use Rattle.std.specs.List.{filter_map, list_any};
 ghost use Rattle.vg_packing.specs.Packing.{needs_of};
 ghost use Rattle.vg_packing.specs.Wants.{value_of};

@@ -1,9 +1,8 @@
 //! The stores of a kernel by their places in memory.
 
-ghost use Rattle.std.specs.Prelude.{◌≡◌, ◌++◌, ◌/◌, IfOk, OnOk, filter, length, map, position, slice_get, Option};
-ghost use Rattle.vg_base.specs.Width.{size_of};
+ghost use Rattle.std.specs.Prelude.{◌≡◌, ◌++◌, ◌/◌, IfOk, OnOk, filter, length, map, position, Option};
 ghost use Rattle.vg_shapes.specs.Units.{arguments, unit_at};
-ghost use Rattle.vg_packs.specs.Placed.{is_next, link_behind, link_in, links_of, placed, placed_from, placed_here, stands_at};
+ghost use Rattle.vg_packs.specs.Placed.{is_next, link_behind, link_in, links_of, placed, placed_here, stands_at};
 
 use std::alloc::{AllocError, Global};
 use vg_base::{Address, Width};

@@ -1,11 +1,10 @@
 //! Plans with marks of their units.
 
-ghost use Rattle.std.specs.Prelude.{◌≡◌, ℕ, [], IfOk};
+ghost use Rattle.std.specs.Prelude.{◌≡◌, [], IfOk};
 ghost use Rattle.std.specs.List.{list_any};
 ghost use Rattle.vg_packing.specs.Packing.{packing};
 ghost use Rattle.vg_plans.specs.World.{stays_plan};
 ghost use Rattle.vg_shapes.specs.Pack.{units_of};
-ghost use Rattle.vg_packs.specs.Marks.{AreMarks};
 ghost use Rattle.vg_packs.specs.PlanMarks.{MarksPlan};
 ghost use Rattle.vg_packs.specs.Walk.{IsFree, NameUnits, is_in_plan};
 ghost use Rattle.vg_shapes.specs.declared.ssa.Ssa.{Ssa as Numbered};

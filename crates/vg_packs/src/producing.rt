@@ -1,6 +1,6 @@
 //! The packs that produce an operand.
 
-ghost use Rattle.std.specs.Prelude.{◌≡◌, ◌++◌, ◌/◌, ◌∷◌, [], IfOk, OnOk, map, true};
+ghost use Rattle.std.specs.Prelude.{◌≡◌, ◌++◌, ◌/◌, IfOk, OnOk, map, true};
 ghost use Rattle.std.specs.List.{list_all};
 ghost use Rattle.vg_packing.specs.Producers.{call_producer, call_producers, can_be_produced, load_producer, producers};
 ghost use Rattle.vg_packing.specs.Taken.{MatchesNear};
