@@ -5,6 +5,7 @@ mod Bare
 mod Calls
 mod CallsAt
 mod Choosing
+mod Estimated
 mod Framing
 mod Immediates
 mod Instances

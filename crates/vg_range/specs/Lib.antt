@@ -1,5 +1,6 @@
 pub mod Acceptance
 pub mod Checks
+pub mod Estimates
 pub mod Immediates
 pub mod Kept
 pub mod Meant

@@ -18,7 +18,8 @@ use vg_names::Target;
 use vg_pseudo::Spot;
 use vg_script::make_give;
 
-fn target_number(target: &Target) -> usize
+/// The number variable that a target is, 0 where it is none.
+pub fn target_number(target: &Target) -> usize
     ensures { result ≡ target_number (target_view target.now) }
 {
     match target {
@@ -27,9 +28,10 @@ fn target_number(target: &Target) -> usize
     }
 }
 
+/// The same with another number in a number variable.
 #[inline(never)]
 #[tactic(auto, using(crate::proofs::Lists::view_set, crate::proofs::Lists::view_set_past))]
-fn with_number(
+pub fn with_number(
     alloc: Global,
     stand: Box<Stand>,
     variable: usize,

@@ -1,23 +1,26 @@
 //! Statements, in the order in which they run.
 
-ghost use Rattle.std.specs.Prelude.{◌≡◌, IfSome, ◌<◌};
+ghost use Rattle.std.specs.Prelude.{◌≡◌, IfSome, ◌<◌, map};
 ghost use Rattle.std.specs.Option.{option_map};
-ghost use Rattle.vg_interval.specs.Views.{Gives, count_view};
+ghost use Rattle.vg_interval.specs.Judge.{judge, spot_of};
+ghost use Rattle.vg_interval.specs.Views.{Gives, count_view, kept_view};
 ghost use Rattle.vg_names.specs.Views.{code_view, expr_of, target_view};
 ghost use Rattle.vg_pseudo.specs.Resolved as node;
 ghost use Rattle.vg_script.specs.Views.{number_of, word_of};
-ghost use Rattle.vg_range.specs.Met.{arms_found, arms_picked, arms_view, first_arm, first_way, last_at, met_view, picked, rest_arms, selector_view, rest_ways, turn_at, turns_through, way_at, ways_view};
-ghost use Rattle.vg_range.specs.Seen.{choose_at, course_view, first_of, goal_view, pick_at, repeat_at, rest_code, skip_at, stand_view, whole_goal};
+ghost use Rattle.vg_range.specs.Estimates.{decided_at, way_behind};
+ghost use Rattle.vg_range.specs.Met.{arms_found, arms_picked, arms_view, first_arm, first_way, last_at, met_view, picked, rest_arms, selector_view, rest_ways, turn_at, turns_through, ways_view};
+ghost use Rattle.vg_range.specs.Seen.{choose_at, course_view, first_of, goal_view, pick_at, repeat_at, rest_code, sight_view, skip_at, stand_view, whole_goal};
 ghost use Rattle.vg_range.specs.Walk.{assign_at, beginning, constant_at, goal_at, walk};
 ghost use Rattle.vg_range.specs.Weight.{code_weight};
 
 use crate::arms::{Arms, arm_of, no_arms, one_arm_more, picked_by};
-use crate::assigning::assigned;
 use crate::beginning::{beginning, turns_within};
 use crate::course::Course;
 use crate::decision::Decision;
+use crate::estimating::decided;
+use crate::giving::{given, given_unwritten};
 use crate::goal::{Goal, constant_index};
-use crate::judging::{judge, tested};
+use crate::judging::judge;
 use crate::selector::Selector;
 use crate::spots::spot_of;
 use crate::stand::{Stand, at_count};
@@ -154,17 +157,11 @@ fn assign_at(
 {
     let count = stand.count.step(place)?;
     let (goal, stand) = goal_at(alloc, course, place, at_count(stand, count), target)?;
-    let (found, count) = judge(alloc, course, stand.numbers.as_slice(), value, stand.count)?;
-    let stand = at_count(stand, count);
-    assigned(
-        alloc,
-        course,
-        spot_of(value),
-        target,
-        goal,
-        Box::into_inner(found),
-        stand,
-    )
+    if course.is_kept {
+        given(alloc, course, target, goal, value, stand)
+    } else {
+        given_unwritten(alloc, course, target, goal, value, stand)
+    }
 }
 
 #[inline(never)]
@@ -295,9 +292,10 @@ fn way_at(
     count: Count,
 ) -> Result<Met, RangeFault>
     ensures { Gives met_view result
-        (way_at (course_view course.now) (expr_of condition.now) (code_view body.now) (stand_view stand.now) (ways_view found.value) (count_view count)) }
+        (way_behind (course_view course.now) (code_view body.now) (stand_view stand.now) (ways_view found.value)
+        (decided_at course.now.is_kept (spot_of (expr_of condition.now)) (judge (sight_view course.now) (map kept_view stand.now.numbers.items) (expr_of condition.now) (count_view count)))) }
 {
-    let (condition, count) = tested(alloc, course, stand.numbers.as_slice(), condition, count)?;
+    let (condition, count) = decided(alloc, course, stand.numbers.as_slice(), condition, count)?;
     match Box::into_inner(condition) {
         Decision::Always(z) => {
             if z == 0 {

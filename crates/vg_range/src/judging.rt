@@ -105,7 +105,7 @@ fn literal(alloc: Global, value: u128, count: Count) -> Result<(Box<Found>, Coun
 /// `name[high:low]`
 #[inline(never)]
 #[cycle(judging)]
-fn slice_of(
+pub fn slice_of(
     alloc: Global,
     course: &Course,
     numbers: &[Kept],

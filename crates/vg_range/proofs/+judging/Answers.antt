@@ -6,18 +6,20 @@ use Rattle.std.proofs.lemmas.Result.{err_from_is_err_and}
 use Rattle.std.specs.Int.{w128}
 use Rattle.std.specs.Prelude.{FitsSigned}
 use Rattle.vg_base.specs.Gives.{FailsBy}
-use Rattle.vg_interval.specs.Judge.{judge, judge_all}
+use Rattle.vg_interval.specs.Judge.{judge, judge_all, spot_of}
 use Rattle.vg_interval.specs.Views.{Gives, told, count_view, found_view, kept_view, passed_view}
-use Rattle.vg_names.specs.Views.{code_view, expr_of, list_of}
-use Rattle.vg_pseudo.specs.Resolved.{choice, more}
+use Rattle.vg_names.specs.Views.{code_view, expr_of, list_of, target_view}
+use Rattle.vg_pseudo.specs.Resolved.{binary, choice, more, way}
 use Rattle.vg_script.specs.Views.{number_of}
 use Rattle.vg_range.specs.Met.{arm_of, arms_view, final, first_way, further, how_many, met_view, picked, selector_view, turns_left, ways_view}
-use Rattle.vg_range.specs.Seen.{argument_of, behind_passed, course_view, sight_view, stand_view}
+use Rattle.vg_range.specs.Estimates.{estimate_of, given_at}
+use Rattle.vg_range.specs.Seen.{argument_of, behind_passed, course_view, goal_view, sight_view, stand_view}
 use Rattle.vg_range.specs.Weight.{weight, list_weight}
 use Rattle.vg_range.proofs.Arguments.{passed_none, passed_next, passed_done, passed_fails}
 use Rattle.vg_range.proofs.ArmsLeft.{arms_fail, arms_next, one_taken, none_taken}
 use Rattle.vg_range.proofs.CallsAt.{called_is, none_called, reaches}
 use Rattle.vg_range.proofs.Choosing.{choice_at}
+use Rattle.vg_range.proofs.Estimated.{filled_is, joined_is, way_is}
 use Rattle.vg_range.proofs.Stepping.{walk_fails, walk_next}
 use Rattle.vg_range.proofs.TurnsLeft.{fewer, turns_are, turns_next}
 use Rattle.vg_range.proofs.WaysLeft.{ways_close, ways_fail, ways_next}
@@ -269,3 +271,39 @@ code_walk::walk-statements-preserved t c = record {
       ∙ c.statements.invariant.same;
   inside = omega (arith, c.in-Some.ensures.inside, c.statements.invariant.inside);
 }
+
+pub estimating::estimate-returns-else-is_shift : goal.estimating::estimate-returns-else-is_shift
+estimating::estimate-returns-else-is_shift t c =
+    let s = sight_view c.args.course.now in
+    let ks = map kept_view c.args.numbers.now in
+    let d = count_view c.args.count in
+    let x = expr_of c.deref-else-is_shift.result.now in
+    let y = expr_of c.deref-else-is_shift-2.result.now in
+    let p = c.in-Binary.spot in
+    let op = c.in-Binary.op in
+    let whole : estimate_of p (judge s ks (binary p op x y) d) ≡ estimate_of (spot_of (expr_of c.args.expr.now)) (judge s ks (expr_of c.args.expr.now) d) =
+    rw (c.deref-else-is_shift.ensures, c.deref-else-is_shift-2.ensures, c.in-Binary.is) refl in
+    subst (λ r. Gives (λ k. (kept_view k.0, count_view k.1)) c.joined.result r)
+    (joined_is s ks p op x y d (sym c.is_shift.ensures ∙ c.if-is_shift.false) ∙ whole) c.joined.ensures
+
+pub giving::given_unwritten-returns-then-is_joined : goal.giving::given_unwritten-returns-then-is_joined
+giving::given_unwritten-returns-then-is_joined t c =
+    let x = course_view c.args.course.now in
+    let a = target_view c.args.target.now in
+    let e = expr_of c.args.value.now in
+    let w = stand_view c.args.stand.value in
+    subst (λ r. Gives (λ v. stand_view v.value) c.bits_given.result r)
+    (filled_is x a (goal_view c.in-Some.goal) e w c.requires (sym c.is_joined.ensures ∙ c.if-is_joined.true)
+    ∙ ap (λ o. given_at x a (option_map goal_view o) e w) (sym c.in-Some.is)) c.bits_given.ensures
+
+pub code_walk::first_way-returns-in-Way : goal.code_walk::first_way-returns-in-Way
+code_walk::first_way-returns-in-Way t c =
+    let x = course_view c.args.course.now in
+    let w = stand_view c.args.stand.now in
+    let found = ways_view c.args.found.value in
+    let n = count_view c.args.count in
+    let e = expr_of c.deref.result.now in
+    let body = code_view c.deref-in-Way.result.now in
+    let whole : first_way x (way e body (code_view c.in-Way.ways.value)) w found n ≡ first_way x (code_view c.args.code.now) w found n =
+    rw (c.deref.ensures, c.deref-in-Way.ensures, c.in-Way.is) refl in
+    subst (λ r. Gives met_view c.way_at.result r) (way_is x e body w found n ∙ whole) c.way_at.ensures

@@ -66,8 +66,35 @@ decreases-code_walk::lane_goal l = 16 * all_weight (map function_view l.course.n
 abbrev pub decreases-code_walk::goal_at : goal.decreases-code_walk::goal_at
 decreases-code_walk::goal_at l = 16 * all_weight (map function_view l.course.now.functions.now) + 16 * target_weight (target_view l.target.now) + 4
 
+abbrev pub decreases-estimating::estimate : goal.decreases-estimating::estimate
+decreases-estimating::estimate l = 16 * all_weight (map function_view l.course.now.functions.now) + 16 * weight (expr_of l.expr.now) + 3
+
+abbrev pub decreases-estimating::judged : goal.decreases-estimating::judged
+decreases-estimating::judged l = 16 * all_weight (map function_view l.course.now.functions.now) + 16 * weight (expr_of l.expr.now) + 1
+
+abbrev pub decreases-estimating::slice : goal.decreases-estimating::slice
+decreases-estimating::slice l = 16 * all_weight (map function_view l.course.now.functions.now) + 16 * (weight (expr_of l.high.now) + weight (expr_of l.low.now)) + 2
+
+abbrev pub decreases-estimating::joined : goal.decreases-estimating::joined
+decreases-estimating::joined l = 16 * all_weight (map function_view l.course.now.functions.now) + 16 * (weight (expr_of l.left.now) + weight (expr_of l.right.now)) + 4
+
+abbrev pub decreases-estimating::decided : goal.decreases-estimating::decided
+decreases-estimating::decided l = 16 * all_weight (map function_view l.course.now.functions.now) + 16 * weight (expr_of l.expr.now) + 4
+
+abbrev pub decreases-giving::given : goal.decreases-giving::given
+decreases-giving::given l = 16 * all_weight (map function_view l.course.now.functions.now) + 16 * weight (expr_of l.value.now) + 2
+
+abbrev pub decreases-giving::number_given : goal.decreases-giving::number_given
+decreases-giving::number_given l = 16 * all_weight (map function_view l.course.now.functions.now) + 16 * weight (expr_of l.value.now) + 4
+
+abbrev pub decreases-giving::bits_given : goal.decreases-giving::bits_given
+decreases-giving::bits_given l = 16 * all_weight (map function_view l.course.now.functions.now) + 16 * weight (expr_of l.value.now) + 4
+
+abbrev pub decreases-giving::given_unwritten : goal.decreases-giving::given_unwritten
+decreases-giving::given_unwritten l = 16 * all_weight (map function_view l.course.now.functions.now) + 16 * weight (expr_of l.value.now) + 5
+
 abbrev pub decreases-code_walk::assign_at : goal.decreases-code_walk::assign_at
-decreases-code_walk::assign_at l = 16 * all_weight (map function_view l.course.now.functions.now) + 16 * (target_weight (target_view l.target.now) + weight (expr_of l.value.now)) + 5
+decreases-code_walk::assign_at l = 16 * all_weight (map function_view l.course.now.functions.now) + 16 * (target_weight (target_view l.target.now) + weight (expr_of l.value.now)) + 6
 
 abbrev pub decreases-code_walk::turn_at : goal.decreases-code_walk::turn_at
 decreases-code_walk::turn_at l = 16 * all_weight (map function_view l.course.now.functions.now) + 16 * code_weight (code_view l.body.now) + 8

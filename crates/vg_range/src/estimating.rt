@@ -1,0 +1,200 @@
+//! What is known of operands but for their words, found in the order of the text. A tree of operators that are no shifts
+//! is gone through without a word; what else stands in it is judged, and its word left.
+
+ghost use Rattle.std.specs.Prelude.{◌≡◌, map, pos};
+ghost use Rattle.vg_interval.specs.Judge.{judge, settled, slice_at, spot_of};
+ghost use Rattle.vg_interval.specs.Views.{Gives, count_view, kept_view};
+ghost use Rattle.vg_names.specs.Views.{expr_of};
+ghost use Rattle.vg_pseudo.specs.Resolved as node;
+ghost use Rattle.vg_range.specs.Estimates.{decided_at, estimate_of, joined_estimate};
+ghost use Rattle.vg_range.specs.Seen.{decision_view, sight_view};
+
+use crate::course::Course;
+use crate::decision::Decision;
+use crate::estimates::{condition_by, kept_found, kept_joined};
+use crate::judging::{judge, slice_of, tested};
+use crate::spots::spot_of;
+use std::alloc::Global;
+use vg_interval::binary_uses::is_shift;
+use vg_interval::moving::slice_at;
+use vg_interval::{Count, Index, Kept, RangeFault};
+use vg_names::ResolvedExpr;
+use vg_pseudo::{BinaryOp, Spot};
+use vg_script::WholeNumber;
+
+/// What is known of an expression as an operand but for its word, given what is known of the number
+/// variables, and the counts behind it; or its first fault.
+#[cycle(judging)]
+pub fn estimate(
+    alloc: Global,
+    course: &Course,
+    numbers: &[Kept],
+    expr: &ResolvedExpr,
+    count: Count,
+) -> Result<(Kept, Count), RangeFault>
+    ensures { Gives (λ k. (kept_view k.0, count_view k.1)) result
+        (estimate_of (spot_of (expr_of expr.now)) (judge (sight_view course.now) (map kept_view numbers.now) (expr_of expr.now) (count_view count))) }
+{
+    match expr {
+        ResolvedExpr::Slice {
+            spot,
+            is_signed,
+            register,
+            spread,
+            high,
+            low,
+        } => slice(
+            alloc, course, numbers, spot, *is_signed, *register, spread, high, low, count,
+        ),
+        ResolvedExpr::Binary {
+            spot,
+            op,
+            left,
+            right,
+        } => {
+            if is_shift(*op) {
+                judged(alloc, course, numbers, expr, count)
+            } else {
+                joined(alloc, course, numbers, spot, *op, left, right, count)
+            }
+        }
+        _ => judged(alloc, course, numbers, expr, count),
+    }
+}
+
+/// What is judged, without its word.
+#[inline(never)]
+#[cycle(judging)]
+fn judged(
+    alloc: Global,
+    course: &Course,
+    numbers: &[Kept],
+    expr: &ResolvedExpr,
+    count: Count,
+) -> Result<(Kept, Count), RangeFault>
+    ensures { Gives (λ k. (kept_view k.0, count_view k.1)) result
+        (estimate_of (spot_of (expr_of expr.now)) (judge (sight_view course.now) (map kept_view numbers.now) (expr_of expr.now) (count_view count))) }
+{
+    let (found, count) = judge(alloc, course, numbers, expr, count)?;
+    let kept = kept_found(spot_of(expr), &found)?;
+    Ok((kept, count))
+}
+
+/// A slice by two indices that are written numbers.
+#[inline(never)]
+#[tactic(auto, using(crate::proofs::Lists::seen_slice))]
+fn slice_at_numbers(
+    alloc: Global,
+    course: &Course,
+    spot: &Spot,
+    is_signed: bool,
+    register: usize,
+    spread: &Option<u128>,
+    high: u128,
+    low: u128,
+    count: Count,
+) -> Result<(Kept, Count), RangeFault>
+    ensures { Gives (λ k. (kept_view k.0, count_view k.1)) result
+        (estimate_of spot.now (slice_at (sight_view course.now) spot.now.inner is_signed register spread.now (settled (pos high)) (settled (pos low)) (count_view count))) }
+{
+    let (found, count) = slice_at(
+        alloc,
+        course.widths,
+        course.constants,
+        spot.inner,
+        is_signed,
+        register,
+        *spread,
+        Index::Settled(WholeNumber::Natural(high)),
+        Index::Settled(WholeNumber::Natural(low)),
+        count,
+    )?;
+    let kept = kept_found(*spot, &found)?;
+    Ok((kept, count))
+}
+
+/// `name[high:low]`
+#[inline(never)]
+#[cycle(judging)]
+fn slice(
+    alloc: Global,
+    course: &Course,
+    numbers: &[Kept],
+    spot: &Spot,
+    is_signed: bool,
+    register: usize,
+    spread: &Option<u128>,
+    high: &ResolvedExpr,
+    low: &ResolvedExpr,
+    count: Count,
+) -> Result<(Kept, Count), RangeFault>
+    ensures { Gives (λ k. (kept_view k.0, count_view k.1)) result
+        (estimate_of spot.now (judge (sight_view course.now) (map kept_view numbers.now)
+        (node.slice spot.now is_signed register spread.now (expr_of high.now) (expr_of low.now)) (count_view count))) }
+{
+    match (high, low) {
+        (
+            ResolvedExpr::Literal {
+                spot: _,
+                value: last,
+            },
+            ResolvedExpr::Literal {
+                spot: _,
+                value: first,
+            },
+        ) => slice_at_numbers(
+            alloc, course, spot, is_signed, register, spread, *last, *first, count,
+        ),
+        _ => {
+            let (found, count) = slice_of(
+                alloc, course, numbers, spot, is_signed, register, spread, high, low, count,
+            )?;
+            let kept = kept_found(*spot, &found)?;
+            Ok((kept, count))
+        }
+    }
+}
+
+/// An operator that is no shift.
+#[inline(never)]
+#[cycle(judging)]
+fn joined(
+    alloc: Global,
+    course: &Course,
+    numbers: &[Kept],
+    spot: &Spot,
+    op: BinaryOp,
+    left: &ResolvedExpr,
+    right: &ResolvedExpr,
+    count: Count,
+) -> Result<(Kept, Count), RangeFault>
+    ensures { Gives (λ k. (kept_view k.0, count_view k.1)) result
+        (joined_estimate (sight_view course.now) (map kept_view numbers.now) spot.now op (expr_of left.now) (expr_of right.now) (count_view count)) }
+{
+    let (first, count) = estimate(alloc, course, numbers, left, count)?;
+    let (second, count) = estimate(alloc, course, numbers, right, count)?;
+    let kept = kept_joined(*spot, op, first, second)?;
+    Ok((kept, count))
+}
+
+/// What a condition says, and the counts behind it; its word only where scripts are kept.
+#[inline(never)]
+#[cycle(judging)]
+pub fn decided(
+    alloc: Global,
+    course: &Course,
+    numbers: &[Kept],
+    expr: &ResolvedExpr,
+    count: Count,
+) -> Result<(Box<Decision>, Count), RangeFault>
+    ensures { Gives (λ d. (decision_view d.0.value, count_view d.1)) result
+        (decided_at course.now.is_kept (spot_of (expr_of expr.now)) (judge (sight_view course.now) (map kept_view numbers.now) (expr_of expr.now) (count_view count))) }
+{
+    if course.is_kept {
+        tested(alloc, course, numbers, expr, count)
+    } else {
+        let (kept, count) = estimate(alloc, course, numbers, expr, count)?;
+        let condition = condition_by(alloc, kept)?;
+        Ok((condition, count))
+    }
+}
