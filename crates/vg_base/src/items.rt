@@ -33,6 +33,7 @@ impl<T> Items<T> {
         self.all
     }
 
+    /// The values, borrowed.
     pub fn as_slice(&self) -> &[T]
         ensures { result.now ≡ self.now }
     {

@@ -20,7 +20,7 @@ impl Model for Name {
 }
 
 impl Name {
-    /// The name with these bytes, copied.
+    /// The name with these bytes, copied. Fails for want of memory alone.
     pub fn new(alloc: Global, bytes: &[u8]) -> Result<Name, AllocError>
         ensures { IfOk result (λ name. name ≡ bytes.now) }
     {
@@ -28,13 +28,14 @@ impl Name {
         Ok(Name { bytes })
     }
 
-    /// The same name a second time.
+    /// The same name a second time. Fails for want of memory alone.
     pub fn copy(&self, alloc: Global) -> Result<Name, AllocError>
         ensures { IfOk result (λ name. name ≡ self.now) }
     {
         Name::new(alloc, self.bytes())
     }
 
+    /// The bytes of the name, borrowed.
     pub fn bytes(&self) -> &[u8]
         ensures { result.now ≡ self.now }
     {

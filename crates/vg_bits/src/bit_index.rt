@@ -9,6 +9,7 @@ pub struct BitIndex {
 }
 
 impl BitIndex {
+    /// The place of the bit of this number, the lowest bit of the first byte being 0.
     pub fn new(index: usize) -> BitIndex
         ensures { 8 * result.byte + result.bit ≡ index }
     {

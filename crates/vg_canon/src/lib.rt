@@ -1,5 +1,7 @@
 //! Canonical terms: the rules for sums, widths and choices, applied from the leaves up for as long as one
 //! applies.
+//!
+//! An `AllocError` is want of memory; nothing else is.
 #![tactic(auto)]
 
 mod canonical_form;

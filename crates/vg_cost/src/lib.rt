@@ -9,6 +9,8 @@
 //! marks of the units of packs most operands need not be looked at again (`specs/Touch.antt`), and by
 //! the places where packs have values (`specs/Places.antt`) most shuffles need not. A pack behind a
 //! plan is priced in room that is made once for the plan (`specs/Room.antt`).
+//!
+//! An `AllocError` is want of memory; nothing else is.
 #![tactic(auto)]
 
 mod copies;

@@ -2,6 +2,8 @@
 //!
 //! `specs/Depends.antt` of `vg_shapes` says what a dependence is, and its `specs/Layout.antt` what
 //! respects noalias.
+//!
+//! An `AllocError` is want of memory; nothing else is.
 #![tactic(auto)]
 
 mod conflict;

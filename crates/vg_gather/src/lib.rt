@@ -5,6 +5,8 @@
 //! `specs/Laws.antt` says what registers of constants, with values put in, and registers of packs
 //! promise of an operand. `specs/Adding.antt` says how bytes with a number added are made, and
 //! `specs/Cheapest.antt` which of several shuffles is taken.
+//!
+//! An `AllocError` is want of memory; nothing else is.
 #![tactic(auto)]
 
 pub mod constant_bytes;

@@ -71,12 +71,14 @@ pub fn complement(x: i128) -> i128
     -1 - x
 }
 
+/// The lesser of two numbers.
 pub fn lesser(x: i128, y: i128) -> i128
     ensures { result ≡ lesser x y }
 {
     if x < y { x } else { y }
 }
 
+/// The greater of two numbers.
 pub fn greater(x: i128, y: i128) -> i128
     ensures { result ≡ greater x y }
 {

@@ -2,6 +2,8 @@
 //!
 //! `specs/Interval.antt` says what the operators make of intervals, `specs/Words.antt` which words they become,
 //! `specs/Found.antt` what is known of an expression, and `specs/Judge.antt` how it is found in the order of the text.
+//!
+//! An `AllocError` is want of memory; nothing else is.
 #![tactic(auto)]
 
 pub mod binary_results;

@@ -2,6 +2,8 @@
 //!
 //! `run_kernel` does what `meaning` of vg_kernel's `specs/Meaning.antt` says: the memory that it
 //! leaves, and where it traps. `vg_memory`'s `specs/Outcome.antt` joins the two.
+//!
+//! An `AllocError` is want of memory; nothing else is.
 #![tactic(auto)]
 
 mod inputs;

@@ -9,6 +9,7 @@ use crate::{Sink, SinkFault};
 pub struct DropSink;
 
 impl DropSink {
+    /// A sink that drops what is written.
     pub fn new() -> DropSink {
         DropSink
     }

@@ -6,6 +6,8 @@
 //! operand, and `specs/Shuffles.antt` the instances that move parts of registers. `specs/Packing.antt`
 //! puts them together: over it stand the plans and costs of `vg_plans`, the plain and the chosen plan.
 //! The functions here answer by those definitions; the code that finds plans stands above.
+//!
+//! An `AllocError` is want of memory; nothing else is.
 #![tactic(auto)]
 
 pub mod held;

@@ -2,6 +2,8 @@
 //! plan stays one with a pack behind it, which packs may follow it, and the plain plan.
 //!
 //! `specs/Placed.antt` says how the stores of a kernel are linked to those beside them in memory.
+//!
+//! An `AllocError` is want of memory; nothing else is.
 #![tactic(auto)]
 
 mod follows;

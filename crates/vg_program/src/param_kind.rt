@@ -13,6 +13,7 @@ pub enum ParamKind {
 }
 
 impl ParamKind {
+    /// Whether a parameter of this kind is a pointer.
     pub fn is_pointer(self) -> bool
         ensures { result ≡ is_pointer_kind self }
     {
@@ -22,6 +23,7 @@ impl ParamKind {
         }
     }
 
+    /// Whether a parameter of this kind is an integer.
     pub fn is_integer(self) -> bool
         ensures { result ≡ is_integer_kind self }
     {

@@ -101,7 +101,7 @@ fn copy_imm(alloc: Global, imm: &Option<ImmRange>) -> Result<Option<ImmRange>, A
 }
 
 impl Header {
-    /// The same header a second time.
+    /// The same header a second time. Fails for want of memory alone.
     pub fn copy(&self, alloc: Global) -> Result<Header, AllocError>
         ensures same { IfOk result (λ header. header ≡ self.now) }
     {

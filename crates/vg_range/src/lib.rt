@@ -4,6 +4,8 @@
 //! says what is known of its expressions, `specs/Walk.antt` of its statements, and `specs/Acceptance.antt` what is
 //! refused first. The same walk makes the script of an instance, and [`scripts_mean_their_texts`] says that the script
 //! does what the text means; [`accepted_are_written`] that judging alone accepts just what has a script.
+//!
+//! An `AllocError` is want of memory; nothing else is.
 #![tactic(auto)]
 
 pub mod accepting;

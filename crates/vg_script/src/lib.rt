@@ -2,6 +2,8 @@
 //!
 //! `specs/Script.antt` says what a script is, `specs/Cells.antt` what it does, `specs/Formed.antt` when its widths fit, and
 //! `specs/Views.antt` what the types here stand for.
+//!
+//! An `AllocError` is want of memory; nothing else is.
 #![tactic(auto)]
 
 pub mod script;

@@ -22,7 +22,7 @@ impl<T> Model for Lanes<T> {
 }
 
 impl<T: Copy + Default> Lanes<T> {
-    /// The members of a slice, copied.
+    /// The members of a slice, copied. Fails for want of memory alone.
     pub fn from_slice(alloc: Global, members: &[T]) -> Result<Lanes<T>, AllocError>
         ensures { IfOk result (λ lanes. lanes ≡ members.now) }
     {
@@ -30,13 +30,14 @@ impl<T: Copy + Default> Lanes<T> {
         Ok(Lanes { all })
     }
 
+    /// The members, borrowed.
     pub fn as_slice(&self) -> &[T]
         ensures { result.now ≡ self.now }
     {
         self.all.as_slice()
     }
 
-    /// The same list a second time.
+    /// The same list a second time. Fails for want of memory alone.
     pub fn copy(&self, alloc: Global) -> Result<Lanes<T>, AllocError>
         ensures { IfOk result (λ lanes. lanes ≡ self.now) }
     {

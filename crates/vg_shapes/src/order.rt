@@ -36,6 +36,7 @@ impl Order {
         Order { nodes }
     }
 
+    /// The nodes in their order, borrowed.
     pub fn as_slice(&self) -> &[Node]
         ensures { result.now ≡ self.now }
     {

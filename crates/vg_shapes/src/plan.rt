@@ -35,6 +35,7 @@ impl Plan {
         self.packs
     }
 
+    /// The packs in their order, borrowed.
     pub fn as_slice(&self) -> &[Pack]
         ensures { result.now ≡ self.now }
     {

@@ -49,6 +49,7 @@ impl SsaParamKind {
         }
     }
 
+    /// Whether the parameter is an integer.
     pub fn is_integer(self) -> bool
         ensures { result ≡ is_integer self }
     {

@@ -1,5 +1,7 @@
 //! Terms: what a lane or a value computes from its leaves, in bits. Their value, their order, their
 //! text, how many bits their numbers need, and what a rule that rewrites them promises.
+//!
+//! An `AllocError` is want of memory; nothing else is.
 #![tactic(auto)]
 
 pub mod chain;

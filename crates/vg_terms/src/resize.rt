@@ -24,7 +24,7 @@ impl TwoOp {
 }
 
 /// The low `width` bits of a term: the term itself where that is its width, else its truncation, which
-/// is well-formed where `width` is from 1 to less than the width of the term.
+/// is well-formed where `width` is from 1 to less than the width of the term. Fails for want of memory alone.
 pub fn low_part(alloc: Global, width: u32, x: Term) -> Result<Term, AllocError>
     ensures { IfOk result (λ term. tree term ≡ low width (tree x)) }
 {
@@ -35,7 +35,7 @@ pub fn low_part(alloc: Global, width: u32, x: Term) -> Result<Term, AllocError>
     }
 }
 
-/// An operation of this width on the low `bits` bits of two terms.
+/// An operation of this width on the low `bits` bits of two terms. Fails for want of memory alone.
 pub fn low_two(
     alloc: Global,
     op: TwoOp,

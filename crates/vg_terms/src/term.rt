@@ -112,7 +112,7 @@ impl Term {
         }
     }
 
-    /// The same term a second time.
+    /// The same term a second time. Fails for want of memory alone.
     pub fn copy(&self, alloc: Global) -> Result<Term, AllocError>
         ensures { IfOk result (λ term. tree term ≡ tree self.now) }
     {
@@ -157,7 +157,7 @@ pub fn make_const(width: u32, value: u128) -> Term
     Term::Const { width, value }
 }
 
-/// An operation on one term.
+/// An operation on one term. Fails for want of memory alone.
 pub fn make_one(
     alloc: Global,
     op: OneOp,
@@ -176,7 +176,7 @@ pub fn make_one(
     })
 }
 
-/// An operation on two terms.
+/// An operation on two terms. Fails for want of memory alone.
 pub fn make_two(alloc: Global, op: TwoOp, width: u32, x: Term, y: Term) -> Result<Term, AllocError>
     ensures { IfOk result (λ term. tree term ≡ two op width (tree x) (tree y)) }
 {
@@ -185,7 +185,7 @@ pub fn make_two(alloc: Global, op: TwoOp, width: u32, x: Term, y: Term) -> Resul
     Ok(Term::Two { op, width, x, y })
 }
 
-/// A selection: `x` where `c` is 1, else `y`.
+/// A selection: `x` where `c` is 1, else `y`. Fails for want of memory alone.
 pub fn make_sel(alloc: Global, width: u32, c: Term, x: Term, y: Term) -> Result<Term, AllocError>
     ensures { IfOk result (λ term. tree term ≡ sel width (tree c) (tree x) (tree y)) }
 {

@@ -19,6 +19,7 @@ pub enum TokenKind {
 }
 
 impl TokenKind {
+    /// Whether the text is at its end.
     pub fn is_end(self) -> bool
         ensures { result ≡ is_end self }
     {
