@@ -1,6 +1,8 @@
-// Where a bit stands in a list of bytes.
+//! Where a bit stands in a list of bytes.
+
 ghost use Rattle.std.specs.Prelude.{◌≡◌, ◌+◌, ◌*◌, ◌^◌, ◌<◌};
 
+/// A byte of a list, and a bit of it, the lowest being 0.
 #[derive(Clone, Copy)]
 pub struct BitIndex {
     pub byte: usize,

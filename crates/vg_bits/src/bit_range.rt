@@ -1,4 +1,5 @@
-// Ranges of the bits of a list of bytes, byte by byte.
+//! Ranges of the bits of a list of bytes, byte by byte.
+
 ghost use Rattle.std.specs.Prelude.{◌≡◌, ◌+◌, ◌*◌, ◌/◌, ◌%◌, ◌^◌, ◌<◌, ◌≤◌, length};
 ghost use Rattle.vg_base.specs.Bits.{bits, num, bits_of_bytes};
 ghost use Rattle.vg_bits.specs.BitIndex.{place_of};

@@ -1,12 +1,14 @@
-//! Registers of bytes, the bits in them, and whole numbers in two's complement. A register stands for
-//! the list of its bits, the lowest first: `bits_of_bytes` of its bytes.
+//! Registers of bytes, ranges of the bits of lists of bytes of any length, and whole numbers in two's
+//! complement. A register and a list of bytes stand for the list of their bits, the lowest first:
+//! `bits_of_bytes` of the bytes.
 #![tactic(auto)]
 
-mod bit_index;
-mod bit_range;
+pub mod bit_index;
+pub mod bit_range;
 mod outcome;
 mod register;
 
+pub use bit_index::BitIndex;
 pub use outcome::Outcome;
 pub use register::Reg;
 pub use vg_base::number::{signed, unsigned};

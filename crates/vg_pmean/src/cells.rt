@@ -14,9 +14,8 @@ use crate::pieces::{put_number, put_padded};
 use crate::room::Room;
 use std::alloc::{AllocError, Global};
 use std::marker::Model;
-use vg_bit_ranges::BitIndex;
-use vg_bit_ranges::bit_range::{copy, read, write};
-use vg_bits::Reg;
+use vg_bits::bit_range::{copy, read, write};
+use vg_bits::{BitIndex, Reg};
 use vg_script::WholeNumber;
 
 /// The registers and variables of a frame. Contracts see what it holds, and its room, which stays.

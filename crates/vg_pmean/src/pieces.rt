@@ -6,8 +6,8 @@ ghost use Rattle.vg_base.specs.Number.{residue};
 ghost use Rattle.vg_bits.specs.Range.{range, replaced};
 ghost use Rattle.vg_script.specs.Views.{number_of};
 
-use vg_bit_ranges::BitIndex;
-use vg_bit_ranges::bit_range::{copy, write};
+use vg_bits::BitIndex;
+use vg_bits::bit_range::{copy, write};
 use vg_script::WholeNumber;
 
 /// 128 bits that are all 0, or all 1.
