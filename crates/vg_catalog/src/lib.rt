@@ -5,7 +5,7 @@
 #![tactic(auto)]
 
 pub mod catalog;
-pub mod extensions;
+mod extensions;
 pub mod fault;
 mod file;
 mod header_reading;

@@ -7,9 +7,9 @@
 #![tactic(auto)]
 
 mod conflict;
-pub mod dependences;
-pub mod independence;
-pub mod layouts;
+mod dependences;
+mod independence;
+mod layouts;
 
 pub use dependences::depends;
 pub use independence::independent;

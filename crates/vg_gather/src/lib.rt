@@ -10,9 +10,9 @@
 #![tactic(auto)]
 
 pub mod constant_bytes;
-pub mod gathering;
+mod gathering;
 mod law;
-pub mod shuffling;
+mod shuffling;
 
 pub use gathering::{build_operand, recipes_of};
 pub use law::{

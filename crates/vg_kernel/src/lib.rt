@@ -5,8 +5,8 @@
 #![tactic(auto)]
 
 mod assigned_names;
-pub mod costs;
-pub mod expression;
+mod costs;
+mod expression;
 mod expressions;
 pub mod fault;
 pub mod function;

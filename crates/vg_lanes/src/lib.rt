@@ -7,9 +7,9 @@ mod canonical_lanes;
 pub mod cause;
 pub mod described;
 mod first_cause;
-pub mod fitting;
+mod fitting;
 mod lane_leaves;
-pub mod listing;
+mod listing;
 
 pub use cause::Cause;
 pub use described::{Described, describe};

@@ -5,23 +5,23 @@
 //! the same of the instances of accepted entries.
 #![tactic(auto)]
 
-pub mod begin;
-pub mod bit;
-pub mod constant;
-pub mod entry;
-pub mod gather;
-pub mod join;
-pub mod join_states;
-pub mod lane;
-pub mod law;
-pub mod lifted;
+mod begin;
+mod bit;
+mod constant;
+mod entry;
+mod gather;
+mod join;
+mod join_states;
+mod lane;
+mod law;
+mod lifted;
 mod listed;
-pub mod passed;
-pub mod putting;
-pub mod run;
-pub mod scripts;
-pub mod state;
-pub mod turn;
+mod passed;
+mod putting;
+mod run;
+mod scripts;
+mod state;
+mod turn;
 
 pub use entry::{has_lanes, lane_node, lane_term, lanes_of, lift_entry};
 pub use law::{lane_terms_mean_their_lanes, leaves_are_parameters};

@@ -8,7 +8,7 @@
 mod calling;
 mod inputs;
 mod instances;
-pub mod machine;
+mod machine;
 mod memory;
 mod named_entries;
 mod planner;

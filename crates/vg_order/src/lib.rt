@@ -3,13 +3,13 @@
 //! `specs/ByList.antt` says what an order is by a list of dependences, and what a cycle.
 #![tactic(auto)]
 
-pub mod fault;
+mod fault;
 mod graph;
-pub mod law;
+mod law;
 mod needs;
 mod paths;
 mod progress;
-pub mod scheduling;
+mod scheduling;
 
 pub use fault::OrderFault;
 pub use law::{

@@ -2,7 +2,7 @@
 //! call. `specs/Laws.antt` states them.
 #![tactic(auto)]
 
-pub mod law;
+mod law;
 
 pub use law::{
     legal_orders_run, plan_orders_run, runs_are_steps, runs_trap_outside, units_commute,

@@ -3,15 +3,15 @@
 
 mod apply;
 mod cells;
-pub mod entries;
+mod entries;
 mod evaluate;
 mod extent;
 mod frames;
-pub mod instance;
+mod instance;
 mod need;
 mod pieces;
-pub mod prepared;
-pub mod room;
+mod prepared;
+mod room;
 
 pub use entries::answer_once;
 pub use instance::Instance;

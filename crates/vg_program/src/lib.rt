@@ -7,8 +7,8 @@
 
 mod before;
 mod call_reading;
-pub mod costs;
-pub mod counts;
+mod costs;
+mod counts;
 pub mod defined;
 mod fault;
 mod head;
@@ -23,14 +23,14 @@ mod operand_reading;
 pub mod param;
 pub mod param_kind;
 mod param_reading;
-pub mod parsing;
+mod parsing;
 pub mod printing;
 pub mod program;
 pub mod program_fault;
-pub mod sizes;
+mod sizes;
 mod stop;
 mod tokens;
-pub mod traps;
+mod traps;
 mod vector_reading;
 pub mod vector_size;
 mod wanted;

@@ -8,33 +8,33 @@
 //! An `AllocError` is want of memory; nothing else is.
 #![tactic(auto)]
 
-pub mod accepting;
-pub mod arms;
-pub mod assigning;
-pub mod beginning;
-pub mod calling;
+mod accepting;
+mod arms;
+mod assigning;
+mod beginning;
+mod calling;
 pub mod checked;
-pub mod checking;
-pub mod code_walk;
-pub mod course;
-pub mod decision;
-pub mod estimates;
-pub mod estimating;
-pub mod frames;
-pub mod giving;
-pub mod goal;
-pub mod instance_walk;
-pub mod joining;
-pub mod judging;
-pub mod law;
-pub mod nodes;
-pub mod selector;
-pub mod spots;
-pub mod stand;
-pub mod turns;
+mod checking;
+mod code_walk;
+mod course;
+mod decision;
+mod estimates;
+mod estimating;
+mod frames;
+mod giving;
+mod goal;
+mod instance_walk;
+mod joining;
+mod judging;
+mod law;
+mod nodes;
+mod selector;
+mod spots;
+mod stand;
+mod turns;
 pub mod unrolling;
-pub mod uses;
-pub mod ways;
+mod uses;
+mod ways;
 
 pub use checked::Checked;
 pub use checking::check;

@@ -4,6 +4,6 @@
 //! have one.
 #![tactic(auto)]
 
-pub mod law;
+mod law;
 
 pub use law::instances_are_static;

@@ -6,10 +6,10 @@
 #![tactic(auto)]
 
 pub mod binding;
-pub mod options;
+mod options;
 mod part;
 mod reading;
-pub mod request;
+mod request;
 mod word;
 
 pub use options::Options;

@@ -10,17 +10,17 @@
 #![tactic(auto)]
 
 pub mod access;
-pub mod dep_list;
+mod dep_list;
 pub mod description;
 pub mod lane;
-pub mod lanes;
-pub mod law;
+mod lanes;
+mod law;
 pub mod leaf;
 pub mod match_table;
 pub mod operand;
 pub mod order;
 pub mod pack;
-pub mod plan;
+mod plan;
 pub mod ssa;
 pub mod unit;
 pub mod wanted;

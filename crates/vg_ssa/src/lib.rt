@@ -4,7 +4,7 @@
 #![tactic(auto)]
 
 mod expressions;
-pub mod law;
+mod law;
 mod numbering;
 mod operations;
 mod values;

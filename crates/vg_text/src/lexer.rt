@@ -1,6 +1,6 @@
 //! The tokens of a text, one a call.
 
-ghost use Rattle.std.specs.Prelude.{◌≡◌, ◌+◌, ◌<◌, ◌≤◌, ◌^◌, length, take, drop, IfOk, MatchResult};
+ghost use Rattle.std.specs.Prelude.{◌≡◌, ◌+◌, ◌<◌, ◌≤◌, ◌^◌, length, take, drop, IfOk, MatchResult, OnErr};
 ghost use Rattle.vg_text.specs.Place.{place_after, first_place, end_place};
 
 use crate::front::{Front, look_at};
@@ -58,9 +58,23 @@ impl<'a> Lexer<'a> {
 
     /// The next token. At the end of the text it is of the kind `End` and empty, stands one column
     /// past the last byte, on that byte's line, and is answered again from then on. `Err` is the
-    /// place of the first byte, name or number that is no token, and is answered again from then
-    /// on. Takes no memory.
+    /// place of the first byte, name or number that is no token; then the lexer stands as it was, so
+    /// that it is answered again. Takes no memory.
     pub fn next(&mut self) -> Result<Token, Place>
+        ensures source { source self.new ≡ source self.old }
+        ensures token { Takes (left self.old) result (left self.new) }
+        ensures slice { IfOk result (λ t. IsTokenOf (source self.old) t) }
+        ensures span { IfOk result (λ t. (t.start ≤ t.end) × (t.end ≤ length (source self.old))) }
+        ensures refused { OnErr result (self.new ≡ self.old) }
+    {
+        let mut behind = *self;
+        let token = behind.pass()?;
+        *self = behind;
+        Ok(token)
+    }
+
+    /// The same, but before a fault the white space and comments are passed over.
+    fn pass(&mut self) -> Result<Token, Place>
         ensures source { source self.new ≡ source self.old }
         ensures token { Takes (left self.old) result (left self.new) }
         ensures slice { IfOk result (λ t. IsTokenOf (source self.old) t) }

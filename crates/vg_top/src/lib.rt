@@ -2,19 +2,19 @@
 //! written and the status.
 #![tactic(auto)]
 
-pub mod ending;
-pub mod eval;
-pub mod files;
-pub mod inputs;
-pub mod instruction_file;
-pub mod kernel_file;
-pub mod lift;
-pub mod message;
-pub mod on_kernel;
-pub mod run;
-pub mod status;
-pub mod top;
-pub mod trial;
+mod ending;
+mod eval;
+mod files;
+mod inputs;
+mod instruction_file;
+mod kernel_file;
+mod lift;
+mod message;
+mod on_kernel;
+mod run;
+mod status;
+mod top;
+mod trial;
 
 pub use status::Status;
 pub use top::vegen;

@@ -3,7 +3,7 @@ use Rattle.vg_text.proofs.Lexing.{after_gap, after_lexeme, at_bad, at_end}
 use Rattle.vg_text.specs.Place.{end_place}
 use Rattle.vg_text.specs.Cut.{IsTokenOf}
 use Rattle.vg_text.proofs.Cutting.{token_of}
-use Rattle.vg_text.proofs.lexer.Lexer.next.Goals as goal
+use Rattle.vg_text.proofs.lexer.Lexer.pass.Goals as goal
 
 pub gaps-preserved : goal.gaps-preserved
 gaps-preserved c =

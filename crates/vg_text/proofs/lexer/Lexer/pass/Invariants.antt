@@ -1,7 +1,7 @@
 -- white space and comments change nothing of the tokens that are left
 use Rattle.std.proofs.Common.{◌≡◌, ◌-◌, length}
 use Rattle.vg_text.specs.Lexing.{left, source}
-use Rattle.vg_text.proofs.lexer.Lexer.next.Given as goal
+use Rattle.vg_text.proofs.lexer.Lexer.pass.Given as goal
 
 abbrev pub invariant-gaps : goal.invariant-gaps
 invariant-gaps l = record {
