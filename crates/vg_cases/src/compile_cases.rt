@@ -99,6 +99,7 @@ fn expect_refusals(rt: &impl Abort, alloc: Global, rows: &str) -> Result<(), Fai
 #[test]
 fn kernels_that_are_refused(rt: HostRuntime) -> Result<(), Fail> {
     expect_refusal(&rt, rt.alloc(), b"", "2 Shape at 1:1")?;
+    expect_refusal(&rt, rt.alloc(), b"\x80", "1 Token at 1:1")?;
     expect_refusal(
         &rt,
         rt.alloc(),
@@ -132,21 +133,6 @@ fn a_sink_of_too_little_room_keeps_the_front(rt: HostRuntime) -> Result<(), Fail
         b"program co",
         b"vegen: write fault\n",
     )
-}
-
-#[test]
-fn a_read_that_fails_writes_nothing(rt: HostRuntime) -> Result<(), Fail> {
-    let mut desk = Desk::with_kernel(rt.alloc(), COPY)?;
-    desk.shelf.fail_read(1)?;
-    desk.expect(
-        &rt,
-        "compile i k",
-        Status::ReadFault,
-        b"",
-        b"vegen: read fault: k\n",
-    )?;
-    desk.expect_reads(&rt, 2);
-    Ok(())
 }
 
 #[test]

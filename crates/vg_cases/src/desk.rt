@@ -43,19 +43,24 @@ impl Desk {
         Ok(desk)
     }
 
-    /// Runs on the words of a line.
-    pub fn run(&mut self, line: &str) -> Result<Status, Fail> {
-        let mut all = Words::new(self.alloc);
-        for word in line.split_whitespace() {
-            all.push(word.as_bytes())?;
-        }
-        Ok(vegen(
+    /// Runs on these words.
+    pub fn run_on(&mut self, words: &Words) -> Status {
+        vegen(
             self.alloc,
-            &all,
+            words,
             &mut self.shelf,
             &mut self.out,
             &mut self.err,
-        ))
+        )
+    }
+
+    /// Runs on the words of a line.
+    pub fn run(&mut self, line: &str) -> Result<Status, Fail> {
+        let mut words = Words::new(self.alloc);
+        for word in line.split_whitespace() {
+            words.push(word.as_bytes())?;
+        }
+        Ok(self.run_on(&words))
     }
 
     /// Runs on the words of a line, and asserts how it ended and what was written.
@@ -89,6 +94,7 @@ pub fn status_of(word: &str) -> Status {
         "KernelRefused" => Status::KernelRefused,
         "ProgramRefused" => Status::ProgramRefused,
         "BindingsRefused" => Status::BindingsRefused,
+        "Trap" => Status::Trap,
         _ => Status::Ok,
     }
 }

@@ -1,35 +1,41 @@
 //! The outside against each command: reads that fail, sinks of too little room, an `err` that is full, and
-//! kernels that are cut off.
+//! words that are no text.
 
-use crate::desk::Desk;
+use crate::desk::{Desk, status_of};
 use crate::instruction_files::ADD;
 use std::alloc::Global;
 use std::process::Abort;
 use std::test::Fail;
-use vg_outside::MemSink;
+use vg_outside::{MemSink, Words};
 use vg_top::Status;
 
-const KERNEL: &[u8] = b"kernel put(d: ptr, k: i8) { store8(d + 0, k); }";
+/// A copy of one double word.
+pub const KERNEL: &[u8] = b"kernel copy(d: ptr, s: ptr) { store32(d + 0, load32(s + 0)); }";
 
-const PROGRAM: &[u8] = b"program put(d: ptr, k: i8)\nstore d+0 k\nend cost 1 scalar 1\n";
+/// What it becomes.
+pub const PROGRAM: &[u8] =
+    b"program copy(d: ptr, s: ptr)\n%s0:i32 = load s+0\nstore d+0 %s0\nend cost 2 scalar 2\n";
+
+const DEAD: &[u8] = b"program dead(p: ptr)\n%s0:i8 = load p+4\nend cost 1 scalar 1\n";
 
 // Each line: words, and the files among them in the order in which they are read.
 const COMMANDS: &str = "
-compile i k => i k
-explain i k --width 1 => i k
-run i p m d=0 k=7 => i p m
-eval k m d=0 k=7 => k m
+compile none k => none k
+explain none k --width 1 => none k
+run none p m d=0 s=4 => none p m
+eval k m d=0 s=4 => k m
 lift i => i
-trial i 0 => i
+trial none 0 => none
 ";
 
 /// A desk with all files of the commands, and so much room for an answer.
-fn desk_of_room(alloc: Global, room: usize) -> Result<Desk, Fail> {
+pub fn desk_of_room(alloc: Global, room: usize) -> Result<Desk, Fail> {
     let mut desk = Desk::new(alloc, room)?;
+    desk.shelf.put("none", b"")?;
     desk.shelf.put("i", ADD.as_bytes())?;
     desk.shelf.put("k", KERNEL)?;
     desk.shelf.put("p", PROGRAM)?;
-    desk.shelf.put("m", b"123")?;
+    desk.shelf.put("m", b"12345678")?;
     Ok(desk)
 }
 
@@ -79,6 +85,7 @@ fn each_room_that_is_too_small_keeps_a_front(rt: HostRuntime) -> Result<(), Fail
             return Err(Fail::new("a row without files"));
         };
         let answer = answer_to(&rt, rt.alloc(), line)?;
+        assert!(rt; !answer.is_empty(), "{line}");
         for room in 0..answer.len() {
             let mut desk = desk_of_room(rt.alloc(), room)?;
             let front = &answer.as_slice()[..room];
@@ -91,22 +98,38 @@ fn each_room_that_is_too_small_keeps_a_front(rt: HostRuntime) -> Result<(), Fail
 
 #[test]
 fn an_err_that_is_full_changes_no_status(rt: HostRuntime) -> Result<(), Fail> {
-    for line in ["run i p m d=3 k=7", "eval k m d=3 k=7"] {
+    let rows = "
+compile none => Usage
+compile p k => InstructionsRefused
+explain none p => KernelRefused
+run none k m => ProgramRefused
+eval x m => InputAbsent
+run none p m d=0 => BindingsRefused
+eval k m d=5 s=0 => Trap
+run none dead four p=0 => Trap
+";
+    for row in rows.trim().lines() {
+        let Some((line, status)) = row.split_once(" => ") else {
+            return Err(Fail::new("a row without a status"));
+        };
         let mut desk = desk_of_room(rt.alloc(), 1000)?;
+        desk.shelf.put("dead", DEAD)?;
+        desk.shelf.put("four", b"1234")?;
         desk.err = MemSink::new(rt.alloc(), 3)?;
-        desk.expect(&rt, line, Status::Trap, b"", b"veg")?;
+        desk.expect(&rt, line, status_of(status), b"", b"veg")?;
     }
     Ok(())
 }
 
 #[test]
-fn each_front_of_a_kernel_is_refused(rt: HostRuntime) -> Result<(), Fail> {
-    for len in 0..KERNEL.len() {
-        let mut desk = desk_of_room(rt.alloc(), 1000)?;
-        desk.shelf.put("k", &KERNEL[..len])?;
-        let status = desk.run("compile i k")?;
-        assert!(rt; status == Status::KernelRefused, "{len}");
-        assert!(rt; desk.out.written().is_empty(), "{len}");
-    }
+fn a_word_that_is_no_text_asks_for_nothing(rt: HostRuntime) -> Result<(), Fail> {
+    let mut words = Words::new(rt.alloc());
+    words.push(b"lift")?;
+    words.push(b"\x80")?;
+    let mut desk = desk_of_room(rt.alloc(), 1000)?;
+    assert!(rt; desk.run_on(&words) == Status::Usage);
+    let said: &[u8] = b"vegen: usage\n";
+    assert!(rt; desk.err.written() == said);
+    desk.expect_reads(&rt, 0);
     Ok(())
 }

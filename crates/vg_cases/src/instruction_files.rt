@@ -12,7 +12,7 @@ const NOTHING: &[u8] = b"kernel none() { }";
 const PROGRAM: &[u8] = b"program none()\nend cost 0 scalar 0\n";
 
 /// Lines 1 to 6 of an entry.
-const HEADER: &str =
+pub const HEADER: &str =
     "INSTRUCTION x\nPARAM a 128 SI32\nRESULT dst 128 SI32\nEXTENSION SSE2\nCOST 1\nOPERATION\n";
 
 pub const ADD: &str =

@@ -20,4 +20,6 @@ mod outside_cases;
 #[cfg(test)]
 mod run_cases;
 #[cfg(test)]
+mod text_cases;
+#[cfg(test)]
 mod trial_cases;

@@ -111,17 +111,15 @@ fn largest_program(alloc: Global) -> Result<Vec<u8>, AllocError> {
 }
 
 #[test]
-fn a_program_of_one_byte_over_4_mib_is_too_large(rt: HostRuntime) -> Result<(), Fail> {
+fn a_program_of_4_mib_is_the_largest(rt: HostRuntime) -> Result<(), Fail> {
+    let line = "run i p m d=0 k=7";
     let mut text = largest_program(rt.alloc())?;
+    let mut desk = desk_with(rt.alloc(), text.as_slice(), b"1")?;
+    desk.expect(&rt, line, Status::Ok, &[7], b"")?;
     text.push(b'\n')?;
     let mut desk = desk_with(rt.alloc(), text.as_slice(), b"1")?;
-    desk.expect(
-        &rt,
-        "run i p m d=0 k=7",
-        Status::TooLarge,
-        b"",
-        b"vegen: too large: p\n",
-    )
+    let said = b"vegen: too large: p\n";
+    desk.expect(&rt, line, Status::TooLarge, b"", said)
 }
 
 /// Asserts that a program traps on a memory.
@@ -307,54 +305,6 @@ fn programs_with_numbers_that_are_refused(rt: HostRuntime) -> Result<(), Fail> {
         program p(d: ptr);store d+0 256i8; => 8 Range at 2:11
         ",
     )
-}
-
-fn refuse_front(rt: &impl Abort, alloc: Global, front: &[u8]) -> Result<(), Fail> {
-    let mut desk = desk_with(alloc, front, b"")?;
-    assert!(rt; desk.run("run i p m d=0 k=0")? == Status::ProgramRefused);
-    Ok(())
-}
-
-#[test]
-fn every_strict_prefix_of_a_program_is_refused(rt: HostRuntime) -> Result<(), Fail> {
-    for len in 0..SUM.len() {
-        refuse_front(&rt, rt.alloc(), &SUM[..len])?;
-    }
-    Ok(())
-}
-
-/// What `run` is asked in the cases of faults.
-const RUN: &str = "run i p m d=0 k=7";
-
-fn expect_read_fault(rt: &impl Abort, alloc: Global) -> Result<(), Fail> {
-    let mut desk = desk_with(alloc, PUT, &[0; 20])?;
-    desk.shelf.fail_read(2)?;
-    desk.expect(rt, RUN, Status::ReadFault, b"", b"vegen: read fault: m\n")
-}
-
-fn expect_absent(rt: &impl Abort, alloc: Global) -> Result<(), Fail> {
-    let mut desk = Desk::new(alloc, 2)?;
-    desk.shelf.put("i", b"")?;
-    desk.shelf.put("p", PUT)?;
-    desk.expect(rt, RUN, Status::InputAbsent, b"", b"vegen: absent: m\n")
-}
-
-fn expect_write_fault(rt: &impl Abort, alloc: Global) -> Result<(), Fail> {
-    let mut desk = desk_of_room(alloc, 2, PUT, b"123")?;
-    desk.expect(
-        rt,
-        RUN,
-        Status::WriteFault,
-        &[7, b'2'],
-        b"vegen: write fault\n",
-    )
-}
-
-#[test]
-fn faults_of_the_outside_while_running(rt: HostRuntime) -> Result<(), Fail> {
-    expect_read_fault(&rt, rt.alloc())?;
-    expect_absent(&rt, rt.alloc())?;
-    expect_write_fault(&rt, rt.alloc())
 }
 
 /// A row is a line of words, an arrow, how it ends, and how many files are read.

@@ -5,7 +5,7 @@ ghost use Rattle.std.specs.List.{AllByRecursion};
 ghost use Rattle.vg_shapes.specs.Description.{description_of};
 ghost use Rattle.vg_shapes.specs.Sound.{IsSound};
 ghost use Rattle.vg_packing.specs.Taken.{IsShort, MatchesNear};
-ghost use Rattle.vg_emission.specs.Program.{job_of as job_for, operands_in, program_of};
+ghost use Rattle.vg_emission.specs.Program.{job_of as job_for, operands_in};
 ghost use Rattle.vg_emission.specs.Fit.{AreFit, CallsDescribed};
 ghost use Rattle.vg_emission.specs.Laws.{AlwaysKeep, MeansUnits};
 ghost use Rattle.vg_emission.specs.Planned.{IsPlanned};
@@ -62,34 +62,6 @@ fn job_for<'a>(
     })
 }
 
-/// The program that is emitted for the packs of a plan, with a recipe for each operand, in an
-/// order. It states its own cost, and as the cost of the kernel as written the number of its units.
-///
-/// Looks at all operands for each operand that a pack takes, else at each line, lane and unit a
-/// fixed number of times. Fails for want of memory, also where the lines define 2^32 scalars or
-/// registers, or the cost is 2^32 or more.
-pub fn emit_program(
-    alloc: Global,
-    ssa: &Ssa,
-    plan: &Plan,
-    recipes: &[Recipe],
-    order: &Order,
-    descriptions: &[Description],
-    table: &MatchTable,
-) -> Result<Program, AllocError>
-    requires sound { IsSound ssa.now }
-    requires short { AllByRecursion IsShort plan.now }
-    requires near { MatchesNear table.now }
-    ensures { IfOk result (λ program. program
-        ≡ program_of (map description_of descriptions.now) table.now ssa.now plan.now
-        recipes.now order.now) }
-{
-    let packs = plan.as_slice();
-    let operands = plan_operands(alloc, descriptions, table, ssa, packs)?;
-    let job = job_for(alloc, ssa, packs, operands, recipes, descriptions, table)?;
-    program_from(alloc, &job, order.as_slice())
-}
-
 fn planned_program(
     alloc: Global,
     ssa: &Ssa,
@@ -128,8 +100,11 @@ fn planned_program(
 /// Where the plan, its recipes and the order are right for the kernel, the program leaves the memory
 /// that the units leave one after the other, or traps where they do, in each layout that respects
 /// noalias; it costs what the plan costs, keeps the rules on programs, whatever the length of its text
-/// is, and calls described instances alone. Fails as `emit_program` does, and
-/// where an index of a recipe has more than 32 bits.
+/// is, and calls described instances alone.
+///
+/// Looks at all operands for each operand that a pack takes, else at each line, lane and unit a
+/// fixed number of times. Fails for want of memory, also where the lines define 2^32 scalars or
+/// registers, the cost is 2^32 or more, or an index of a recipe has more than 32 bits.
 pub fn emit(
     alloc: Global,
     ssa: &Ssa,
