@@ -10,7 +10,7 @@ use vg_text::byte::is_text;
 use vg_text::lexer::Word;
 
 /// A file, and what is left of it.
-#[derive(Clone, Copy, Debug)]
+#[derive(Clone, Copy)]
 pub(crate) struct Reader<'a> {
     pub(crate) text: &'a [u8],
     pub(crate) lexer: Lexer<'a>,

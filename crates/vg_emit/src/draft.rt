@@ -10,7 +10,7 @@ use vg_program::Line;
 
 /// Lines, how many scalars and registers they define, and by the numbers of values, packs and
 /// operands the scalar or register that stands for each.
-#[derive(Debug, Drop)]
+#[derive(Drop)]
 pub(crate) struct Draft {
     pub(crate) lines: Vec<Line>,
     pub(crate) scalars: u32,

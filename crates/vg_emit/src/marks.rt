@@ -12,7 +12,7 @@ use vg_shapes::{Pack, Wanted};
 
 /// Marks on the numbers from 0 on. Contracts see them as a list with `true` where a number is
 /// marked.
-#[derive(Debug, Drop)]
+#[derive(Drop)]
 pub(crate) struct Marks {
     all: Vec<bool>,
 }

@@ -8,7 +8,7 @@ use std::marker::Model;
 
 /// By the numbers of things from 0 on the number that stands for each, if any does. Contracts see
 /// them as a list.
-#[derive(Debug, Drop)]
+#[derive(Drop)]
 pub(crate) struct Numbers {
     all: Vec<Option<u32>>,
 }

@@ -4,7 +4,7 @@ use crate::span::Span;
 use vg_script::{Frame, Low, WholeNumber, Word};
 
 /// What is known of an expression.
-#[derive(Debug, Drop)]
+#[derive(Drop)]
 pub enum Found {
     /// A constant that is no slice.
     Known {
@@ -50,7 +50,7 @@ pub enum Found {
 }
 
 /// An operand.
-#[derive(Debug, Drop)]
+#[derive(Drop)]
 pub enum Operand {
     /// A constant.
     Fixed(i128),
@@ -59,7 +59,7 @@ pub enum Operand {
 }
 
 /// What an argument hands.
-#[derive(Debug, Drop)]
+#[derive(Drop)]
 pub enum Passed {
     /// A constant.
     Constant(u128),
@@ -76,7 +76,7 @@ pub enum Passed {
 }
 
 /// A condition.
-#[derive(Debug, Drop)]
+#[derive(Drop)]
 pub enum Condition {
     /// A constant, which is false where it is 0.
     Always(i128),

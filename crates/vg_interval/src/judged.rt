@@ -5,7 +5,7 @@ use crate::span::Span;
 use vg_script::WholeNumber;
 
 /// An index.
-#[derive(Debug, Drop)]
+#[derive(Drop)]
 pub enum Index {
     /// A constant.
     Settled(WholeNumber),
@@ -14,7 +14,7 @@ pub enum Index {
 }
 
 /// What is known of a number variable.
-#[derive(Clone, Copy, Debug, Drop)]
+#[derive(Clone, Copy, Drop)]
 pub enum Kept {
     Constant(i128),
     Varying(Span),
@@ -22,14 +22,14 @@ pub enum Kept {
 
 /// How many assignments, turns and calls there were, and whether a slice or a shift depended on
 /// data.
-#[derive(Clone, Copy, Debug, Drop)]
+#[derive(Clone, Copy, Drop)]
 pub struct Count {
     pub steps: u32,
     pub is_dynamic: bool,
 }
 
 /// Bits of a register, from a bit on.
-#[derive(Clone, Copy, Debug, Drop)]
+#[derive(Clone, Copy, Drop)]
 pub struct Bits {
     pub low: u128,
     pub width: u128,

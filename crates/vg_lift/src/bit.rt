@@ -1,7 +1,7 @@
 //! Bits of lifted registers.
 
 /// A bit of a register, over the nodes of a pool.
-#[derive(Clone, Copy, Debug)]
+#[derive(Clone, Copy)]
 pub enum Bit {
     /// 0.
     Clear,

@@ -47,7 +47,7 @@ fn piece_value(number: WholeNumber, first: u32, count: u32) -> u128
 }
 
 /// A piece of a constant: how many bits it has, its value, and its bits.
-#[derive(Debug, Drop)]
+#[derive(Drop)]
 pub struct Piece {
     pub(crate) count: u32,
     pub(crate) value: u128,

@@ -14,7 +14,7 @@ use std::alloc::{AllocError, Global};
 use vg_pool::{Pool, pool_is_shared};
 
 /// What is open while the bits of two ways are joined.
-#[derive(Clone, Copy, Debug)]
+#[derive(Clone, Copy)]
 pub enum Open {
     /// Nothing is open.
     Shut,

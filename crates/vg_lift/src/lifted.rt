@@ -26,7 +26,7 @@ use vg_script::Whole;
 use vg_shapes::Lane;
 
 /// The bits that an instance leaves in dst, over the nodes of a pool.
-#[derive(Debug, Drop)]
+#[derive(Drop)]
 pub struct Lifted {
     pub(crate) bits: Items<Bit>,
 }

@@ -16,7 +16,7 @@ use vg_pool::Pool;
 use vg_script::WholeNumber;
 
 /// What a register is given.
-#[derive(Debug, Drop)]
+#[derive(Drop)]
 pub enum Passed {
     /// These bits, cut to its width, or zeros above them.
     Bits { bits: Items<Bit> },

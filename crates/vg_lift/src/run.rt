@@ -13,7 +13,7 @@ use vg_pool::{Pool, pool_is_shared};
 use vg_terms::{LeafKey, OneOp, make_const, make_leaf};
 
 /// Consecutive bits, as many as `count`.
-#[derive(Clone, Copy, Debug)]
+#[derive(Clone, Copy)]
 pub enum Run {
     /// Bits that are 0.
     Zeros {

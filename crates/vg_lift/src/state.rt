@@ -16,7 +16,7 @@ use vg_base::Items;
 use vg_pool::{Pool, pool_is_shared};
 
 /// The bits of each register, lowest first, and the node of 128 bits of each variable.
-#[derive(Debug, Drop)]
+#[derive(Drop)]
 pub struct State {
     pub(crate) registers: Vec<Items<Bit>>,
     pub(crate) variables: Vec<usize>,

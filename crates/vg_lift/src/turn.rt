@@ -3,7 +3,7 @@
 use vg_script::Script;
 
 /// A way that is taken where the term of a node, of one bit, is 1.
-#[derive(Clone, Copy, Debug)]
+#[derive(Clone, Copy)]
 pub struct Turn<'a> {
     pub(crate) node: usize,
     pub(crate) body: &'a Script,

@@ -10,7 +10,7 @@ use vg_pmean::Prepared;
 use vg_range::Checked;
 
 /// An entry, by its place among the entries, and an immediate that it is called with.
-#[derive(Clone, Copy, Debug, PartialEq, Eq, Hash)]
+#[derive(Clone, Copy, PartialEq, Eq, Hash)]
 pub(crate) struct Called {
     pub(crate) entry: usize,
     pub(crate) imm: u8,

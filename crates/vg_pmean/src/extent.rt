@@ -5,7 +5,7 @@ ghost use Rattle.vg_bits.specs.Range.{range};
 ghost use Rattle.vg_pmean.specs.Extent.{IsLaid, bits_at, place_in, registers_in, total, widths_of};
 
 /// Where a register lies in the bits of a frame.
-#[derive(Clone, Copy, Debug, Drop)]
+#[derive(Clone, Copy, Drop)]
 pub(crate) struct Extent {
     pub(crate) start: usize,
     pub(crate) width: usize,

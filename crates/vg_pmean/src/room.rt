@@ -7,7 +7,7 @@ ghost use Rattle.vg_pmean.specs.Room.{around, either, no_room};
 use std::alloc::AllocError;
 
 /// How many frames are in use at once, and how much the greatest ones hold.
-#[derive(Clone, Copy, Debug)]
+#[derive(Clone, Copy)]
 pub struct Room {
     /// How many frames are in use at once.
     pub frames: usize,

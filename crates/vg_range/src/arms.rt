@@ -22,7 +22,7 @@ use vg_names::Code;
 use vg_script::{Script, Word, make_arm, make_pick};
 
 /// An arm that may be taken: its number and what it does.
-#[derive(Debug, Drop)]
+#[derive(Drop)]
 pub struct ArmTaken {
     pub number: u128,
     pub body: Script,
@@ -30,7 +30,7 @@ pub struct ArmTaken {
 
 /// Arms that may be taken, found so far, the last at the end, and what is known behind any of them
 /// or none.
-#[derive(Debug, Drop)]
+#[derive(Drop)]
 pub struct Arms {
     pub scripts: Vec<ArmTaken>,
     pub joined: Vec<Kept>,

@@ -9,7 +9,7 @@ use vg_interval::Condition;
 use vg_script::Word;
 
 /// What a condition says, with its word on the heap: so what looks at a choice holds little of it.
-#[derive(Debug, Drop)]
+#[derive(Drop)]
 pub enum Decision {
     /// A constant, which is false where it is 0.
     Always(i128),

@@ -19,7 +19,7 @@ use vg_script::{Frame, Low, Script, WholeNumber, Word, make_copy_from, make_put}
 use vg_text::Place;
 
 /// The bits of a register that an assignment writes.
-#[derive(Clone, Copy, Debug, Drop)]
+#[derive(Clone, Copy, Drop)]
 pub struct Goal {
     pub register: usize,
     pub bits: Bits,

@@ -10,7 +10,7 @@ use vg_script::Word;
 
 /// An operand that selects an arm, with its word on the heap: so what looks at a CASE holds little
 /// of it.
-#[derive(Debug, Drop)]
+#[derive(Drop)]
 pub enum Selector {
     /// A constant.
     Fixed(i128),

@@ -12,7 +12,7 @@ use vg_interval::{Count, Kept};
 use vg_script::{Script, make_both};
 
 /// Where a walk stands: what is known of the number variables, the counts, and the script so far.
-#[derive(Debug, Drop)]
+#[derive(Drop)]
 pub struct Stand {
     pub numbers: Vec<Kept>,
     pub count: Count,

@@ -17,21 +17,21 @@ use vg_interval::{Count, Kept};
 use vg_script::{Script, Word, make_branch, make_last, make_way};
 
 /// A way that may be taken: its condition and what it does.
-#[derive(Debug, Drop)]
+#[derive(Drop)]
 pub struct WayTaken {
     pub condition: Word,
     pub body: Script,
 }
 
 /// Ways that may be taken, found so far, the last at the end, and what is known behind any of them.
-#[derive(Debug, Drop)]
+#[derive(Drop)]
 pub struct Ways {
     pub scripts: Vec<WayTaken>,
     pub joined: Option<Vec<Kept>>,
 }
 
 /// A way that was looked at: others may be taken behind those found, or it is the last.
-#[derive(Debug, Drop)]
+#[derive(Drop)]
 pub enum Met {
     Further { found: Box<Ways>, count: Count },
     Final { found: Box<Ways>, last: Box<Stand> },

@@ -9,7 +9,7 @@ use crate::word::plain_word;
 use vg_outside::Bytes;
 
 /// An option with its value, or a word that is no option.
-#[derive(Clone, Copy, Debug)]
+#[derive(Clone, Copy)]
 pub(crate) enum Part<'a> {
     /// The value of `--width`.
     Width(&'a str),
