@@ -15,7 +15,8 @@ pub fn bytes_of(alloc: Global, text: &str) -> Result<Vec<u8>, Fail> {
     Ok(bytes)
 }
 
-fn fill(bytes: &mut Vec<u8>, count: u32, byte: u8) -> Result<(), Fail> {
+/// Puts so many of one byte behind others.
+pub fn fill(bytes: &mut Vec<u8>, count: u32, byte: u8) -> Result<(), Fail> {
     for _ in 0..count {
         bytes.push(byte)?;
     }

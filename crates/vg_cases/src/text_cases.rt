@@ -3,7 +3,8 @@
 use crate::desk::Desk;
 use crate::hostile_cases::{KERNEL, PROGRAM, desk_of_room};
 use crate::instruction_files::{ADD, HEADER};
-use std::alloc::{AllocError, Global};
+use crate::memories::fill;
+use std::alloc::Global;
 use std::process::Abort;
 use std::test::Fail;
 use vg_top::Status;
@@ -81,15 +82,14 @@ fn each_front_of_an_instruction_file_is_refused(rt: HostRuntime) -> Result<(), F
 fn in_parentheses(
     alloc: Global,
     before: &[u8],
-    depth: usize,
+    depth: u32,
     text: &[u8],
     behind: &[u8],
-) -> Result<Vec<u8>, AllocError> {
+) -> Result<Vec<u8>, Fail> {
     let mut all = Vec::from_slice(alloc, before)?;
-    all.resize(before.len() + depth, b'(')?;
+    fill(&mut all, depth, b'(')?;
     all.extend_from_slice(text)?;
-    let len = all.len();
-    all.resize(len + depth, b')')?;
+    fill(&mut all, depth, b')')?;
     all.extend_from_slice(behind)?;
     Ok(all)
 }
@@ -98,7 +98,7 @@ fn in_parentheses(
 fn expect_literal(
     rt: &impl Abort,
     alloc: Global,
-    depth: usize,
+    depth: u32,
     status: Status,
     said: &[u8],
 ) -> Result<(), Fail> {
@@ -122,7 +122,7 @@ fn a_literal_of_a_kernel_in_255_parentheses_is_the_deepest(rt: HostRuntime) -> R
 fn expect_number(
     rt: &impl Abort,
     alloc: Global,
-    depth: usize,
+    depth: u32,
     status: Status,
     said: &[u8],
 ) -> Result<(), Fail> {
