@@ -5,7 +5,7 @@ ghost use Rattle.std.specs.Prelude.{◌≡◌};
 use std::marker::Model;
 
 /// A list of values inside a public type. Contracts see it as the list of its values.
-#[derive(Debug, Drop)]
+#[derive(Drop)]
 pub struct Items<T> {
     all: Vec<T>,
 }

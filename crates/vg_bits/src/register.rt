@@ -8,7 +8,7 @@ use crate::bit_index::BitIndex;
 use crate::bit_range;
 
 /// A register of B bytes, the lowest first. It stands for the list of its 8 B bits, the lowest first.
-#[derive(Clone, Copy, Debug, PartialEq, Eq)]
+#[derive(Clone, Copy)]
 pub struct Reg<const B: usize> {
     pub bytes: [u8; B],
 }

@@ -14,7 +14,7 @@ use vg_terms::{Rule, Term, TwoOp};
 
 /// What became of a term: what a rule made of it and how much of that has to be walked, or the term itself
 /// where no rule applies.
-#[derive(Debug, Drop)]
+#[derive(Drop)]
 pub enum Step {
     Rewritten(Term, Walk),
     Finished(Term),

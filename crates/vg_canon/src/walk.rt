@@ -8,7 +8,7 @@ use vg_terms::{Term, TwoOp};
 
 /// How much of a term has to be walked, where what lies beyond is known to be canonical: the whole term,
 /// a chain of this operation without its parts, or so many levels from the root.
-#[derive(Clone, Copy, Debug)]
+#[derive(Clone, Copy)]
 pub enum Walk {
     Whole,
     Chain(TwoOp),

@@ -8,7 +8,7 @@ use vg_text::byte::is_text;
 
 /// A set of extensions. Bit i stands for the extension at place i of their list: SSE2, SSE3, SSSE3,
 /// SSE4.1, SSE4.2, AVX, AVX2, AVX_VNNI, AVX512F, AVX512BW.
-#[derive(Clone, Copy, Debug, PartialEq, Eq)]
+#[derive(Clone, Copy)]
 pub struct Extensions(u16);
 
 impl Extensions {

@@ -21,7 +21,7 @@ use vg_text::byte::is_text;
 use vg_text::lexer::Word;
 
 /// What stands behind the parameters and the immediate.
-#[derive(Clone, Copy, PartialEq, Eq)]
+#[derive(Clone, Copy)]
 pub(crate) struct Closing {
     pub(crate) lanes: Lanes,
     pub(crate) extension: u8,

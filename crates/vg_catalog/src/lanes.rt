@@ -7,7 +7,7 @@ use crate::words::number_in_word;
 use vg_text::byte::is_text;
 
 /// A register of this width, and its lanes.
-#[derive(Clone, Copy, PartialEq, Eq)]
+#[derive(Clone, Copy)]
 pub(crate) struct Lanes {
     /// In bits.
     pub(crate) register: u32,

@@ -1,7 +1,7 @@
 //! Intervals of whole numbers.
 
 /// The whole numbers from the least to the greatest.
-#[derive(Clone, Copy, PartialEq, Eq)]
+#[derive(Clone, Copy)]
 pub struct Span {
     pub least: i128,
     pub greatest: i128,

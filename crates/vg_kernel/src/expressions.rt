@@ -32,7 +32,7 @@ use vg_text::{Lexer, Place};
 const LOOSEST: u32 = 5;
 
 /// An operator that was read, and what is left behind it.
-#[derive(Clone, Copy, Debug)]
+#[derive(Clone, Copy)]
 pub(crate) struct Operator<'a> {
     op: TwoOp,
     place: Place,

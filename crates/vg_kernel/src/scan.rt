@@ -4,7 +4,7 @@ use crate::expression::KExpr;
 use vg_text::Lexer;
 
 /// What is left of a text, and how many loads and operations were counted before it.
-#[derive(Clone, Copy, Debug)]
+#[derive(Clone, Copy)]
 pub(crate) struct Scan<'a> {
     pub(crate) lexer: Lexer<'a>,
     pub(crate) used: u32,
@@ -12,7 +12,7 @@ pub(crate) struct Scan<'a> {
 
 /// An expression that was read, how many nodes it has one below the other, and what is left behind
 /// it.
-#[derive(Debug, Drop)]
+#[derive(Drop)]
 pub(crate) struct Part<'a> {
     pub(crate) expression: KExpr,
     pub(crate) depth: u32,

@@ -4,7 +4,7 @@ ghost use Rattle.std.specs.Prelude.{◌≡◌};
 ghost use Rattle.vg_lanes.specs.Cause.{cause_name};
 
 /// Why packs cannot call an instance. The causes are looked for in this order.
-#[derive(Clone, Copy, Debug, PartialEq, Eq)]
+#[derive(Clone, Copy)]
 pub enum Cause {
     /// A slice or a shift of the instance depends on data.
     Dynamic,

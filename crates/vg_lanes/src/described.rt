@@ -16,7 +16,7 @@ use vg_shapes::{Description, Lane};
 use vg_terms::Term;
 
 /// An instance with canonical lanes, as packs see it.
-#[derive(Debug, Drop)]
+#[derive(Drop)]
 pub enum Described {
     /// Packs may call it.
     Packable(Description),

@@ -13,7 +13,7 @@ use vg_shapes::Description;
 use vg_terms::Term;
 
 /// A lane of a description, by number, and the root of its term.
-#[derive(Clone, Copy, Debug)]
+#[derive(Clone, Copy)]
 pub(crate) struct LaneAt {
     pub(crate) root: Root,
     pub(crate) description: u32,

@@ -10,7 +10,7 @@ use std::cmp::Ordering;
 use vg_terms::Term;
 
 /// What stands at the root of a term.
-#[derive(Clone, Copy, Debug)]
+#[derive(Clone, Copy)]
 pub(crate) struct Root {
     /// The place of the operation in the order of terms.
     pub(crate) tag: u32,

@@ -7,7 +7,7 @@ use std::alloc::{AllocError, AllocFailed};
 use vg_text::Place;
 
 /// The first name that cannot be resolved, and why.
-#[derive(Debug, Drop)]
+#[derive(Drop)]
 pub enum NameFault {
     /// A name that is read or called and is not known there, or is assigned and may not be.
     UnknownName { place: Place },

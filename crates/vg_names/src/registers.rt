@@ -13,7 +13,7 @@ use std::marker::Model;
 use vg_base::Name;
 
 /// A register of a body.
-#[derive(Debug, Drop)]
+#[derive(Drop)]
 pub(crate) struct Register {
     pub(crate) name: Name,
     /// In bits.

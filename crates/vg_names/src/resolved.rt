@@ -6,7 +6,7 @@ use vg_text::Place;
 
 /// An expression with its names resolved.
 #[cycle(resolved)]
-#[derive(Debug, Drop)]
+#[derive(Drop)]
 pub enum ResolvedExpr {
     /// A number, below 2^127.
     Literal {
@@ -78,7 +78,6 @@ pub enum ResolvedExpr {
 
 /// The arguments of a call in their order, each with those behind it.
 #[cycle(resolved)]
-#[derive(Debug)]
 pub enum ResolvedArguments {
     End,
     More {
@@ -104,7 +103,7 @@ impl Drop for ResolvedArguments {
 }
 
 /// What an assignment writes. A register or a number variable goes by its number.
-#[derive(Debug, Drop)]
+#[derive(Drop)]
 pub enum Target {
     /// The bits of a register from `low` to `high`.
     Bits {
@@ -131,7 +130,6 @@ pub enum Target {
 
 /// Statements, each with those behind it. The ways of an IF and the arms of a CASE are lists of the
 /// same kind, so that neither of them nests.
-#[derive(Debug)]
 pub enum Code {
     /// The end of a list.
     Stop,
@@ -246,7 +244,7 @@ impl Drop for Code {
 }
 
 /// The statements of an operation or of a DEFINE, with what they stand on.
-#[derive(Debug, Drop)]
+#[derive(Drop)]
 pub struct Body {
     /// The widths of the registers in bits, by their numbers. Parameters come first; behind those
     /// of the operation the immediate, where there is one, and then dst.
@@ -259,14 +257,14 @@ pub struct Body {
 }
 
 /// A DEFINE: its body, and the expression of its RETURN.
-#[derive(Debug, Drop)]
+#[derive(Drop)]
 pub struct Function {
     pub body: Body,
     pub answer: ResolvedExpr,
 }
 
 /// An operation: its DEFINEs in their order, its body, and the number of dst among its registers.
-#[derive(Debug, Drop)]
+#[derive(Drop)]
 pub struct Resolved {
     pub functions: Items<Function>,
     pub body: Body,

@@ -14,7 +14,7 @@ use std::marker::Model;
 use vg_text::byte::is_text;
 
 /// What a name means.
-#[derive(Clone, Copy, Debug)]
+#[derive(Clone, Copy)]
 pub(crate) enum Meaning<'a> {
     /// The variable of a FOR, by how many FORs lie between.
     Turn(usize),

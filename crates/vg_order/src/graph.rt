@@ -19,7 +19,7 @@ use vg_shapes::{Bound, MatchTable, Node, Pack, Ssa, Wanted};
 const MOST: usize = 1 << 24;
 
 /// The nodes of a plan by number, on what each depends, and where each unit stands.
-#[derive(Debug, Drop)]
+#[derive(Drop)]
 pub(crate) struct Graph {
     /// The number of the first unit.
     pub first: usize,
@@ -31,7 +31,7 @@ pub(crate) struct Graph {
 }
 
 /// Nodes, and of each on what it depends.
-#[derive(Debug, Drop)]
+#[derive(Drop)]
 struct NodeList {
     nodes: Vec<Node>,
     needs: Vec<Needs>,

@@ -8,7 +8,7 @@ use vg_base::Items;
 use vg_shapes::DepList;
 
 /// On which units a node depends.
-#[derive(Debug, Drop)]
+#[derive(Drop)]
 pub(crate) enum Needs {
     /// On these.
     Those(Items<u32>),
@@ -17,7 +17,7 @@ pub(crate) enum Needs {
 }
 
 /// A place in the rows of units on which a node depends.
-#[derive(Clone, Copy, Debug)]
+#[derive(Clone, Copy)]
 pub(crate) struct Cursor {
     /// The index of the row.
     pub row: usize,
@@ -26,7 +26,7 @@ pub(crate) struct Cursor {
 }
 
 /// What a look along these rows came to.
-#[derive(Clone, Copy, Debug)]
+#[derive(Clone, Copy)]
 pub(crate) struct Look {
     /// The place at which it stopped.
     pub cursor: Cursor,

@@ -13,7 +13,7 @@ use std::alloc::{AllocError, Global};
 use vg_shapes::DepList;
 
 /// Units whose nodes wait for each other.
-#[derive(Debug, Drop)]
+#[derive(Drop)]
 pub(crate) struct Path {
     /// The units below the top, the first one first. The node of each waits for the next.
     pub units: Vec<u32>,

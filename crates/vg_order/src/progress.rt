@@ -10,7 +10,7 @@ use std::alloc::AllocError;
 use vg_shapes::DepList;
 
 /// How far the work has come.
-#[derive(Debug, Drop)]
+#[derive(Drop)]
 pub(crate) struct Progress {
     /// The nodes that are placed, in their order.
     pub order: Vec<u32>,

@@ -11,7 +11,7 @@ use vg_order::{OrderFault, schedule};
 use vg_shapes::{DepList, Lanes, MatchTable, Node, Order, Pack, Plan, Ssa, Unit};
 
 /// What came of a plan: the order, or the units of a cycle.
-#[derive(Debug, Drop)]
+#[derive(Drop)]
 pub enum Outcome {
     Order(Vec<Node>),
     Cycle(Vec<u32>),

@@ -3,7 +3,7 @@
 use vg_base::Items;
 
 /// How the operand of a pack is brought into a register.
-#[derive(Debug, Drop)]
+#[derive(Drop)]
 pub enum Recipe {
     /// The register of a pack that holds it, by its index in the plan. Costs nothing.
     Reuse(u32),

@@ -13,7 +13,7 @@ use vg_shapes::{Ssa, Unit};
 const MOST: usize = 1 << 24;
 
 /// A store, where it stores, and how many stores of its width to its place stand before it.
-#[derive(Clone, Copy, Debug)]
+#[derive(Clone, Copy)]
 pub(crate) struct PlacedStore {
     /// The number of its unit.
     pub unit: u32,
@@ -23,7 +23,7 @@ pub(crate) struct PlacedStore {
 }
 
 /// A store, and the one of the same width and rank at the place behind it, by its index among stores.
-#[derive(Clone, Copy, Debug)]
+#[derive(Clone, Copy)]
 pub(crate) struct Link {
     /// The number of its unit.
     pub unit: u32,

@@ -1,7 +1,7 @@
 //! The costs that stand beside each other.
 
 /// What a plan costs, beside the plain plan and the scalar program of the same kernel.
-#[derive(Clone, Copy, Debug, PartialEq, Eq)]
+#[derive(Clone, Copy)]
 pub struct Costs {
     pub plan: u64,
     pub plain: u64,

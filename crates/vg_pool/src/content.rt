@@ -9,7 +9,7 @@ use std::hash::{Hash, Hasher};
 use vg_terms::{LeafKey, OneOp, TwoOp};
 
 /// The root of a term, whose children are numbers of nodes.
-#[derive(Clone, Copy, Debug, PartialEq, Eq)]
+#[derive(Clone, Copy, PartialEq, Eq)]
 pub(crate) enum Content {
     Leaf {
         width: u32,

@@ -15,7 +15,7 @@ use vg_text::Place;
 use vg_text::lexer::Word;
 
 /// Statements that were read.
-#[derive(Debug, Drop)]
+#[derive(Drop)]
 pub(crate) struct Block {
     pub(crate) statements: Stmt,
     /// The greatest depth of the DEFINEs that they call, where a DEFINE is being read, else 0.

@@ -11,7 +11,7 @@ use vg_text::Place;
 
 /// An expression. Contracts see it as its tree. Parentheses are no part of it, but for its spot.
 #[cycle(expression)]
-#[derive(Debug, Drop)]
+#[derive(Drop)]
 pub enum Expr {
     /// A number, below 2^127.
     Number {
@@ -77,7 +77,6 @@ pub enum Expr {
 
 /// The arguments of a call in their order, each with those behind it.
 #[cycle(expression)]
-#[derive(Debug)]
 pub enum Arguments {
     End,
     More {

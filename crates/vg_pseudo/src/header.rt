@@ -6,7 +6,7 @@ use std::alloc::{AllocError, Global};
 use vg_base::{Items, Name};
 
 /// A parameter of an instruction.
-#[derive(Debug, Drop)]
+#[derive(Drop)]
 pub struct Param {
     pub name: Name,
     /// The width of the register: 128, 256 or 512 bits.
@@ -18,7 +18,7 @@ pub struct Param {
 }
 
 /// The immediate of an instruction, and the numbers that it may have: those from `lo` to `hi`.
-#[derive(Debug, Drop)]
+#[derive(Drop)]
 pub struct ImmRange {
     pub name: Name,
     pub lo: u8,
@@ -26,7 +26,7 @@ pub struct ImmRange {
 }
 
 /// What an entry says of its instruction.
-#[derive(Debug, Drop)]
+#[derive(Drop)]
 pub struct Header {
     pub name: Name,
     /// From one to four, with names that differ from each other, from that of the immediate and

@@ -5,7 +5,7 @@ use crate::statement::Stmt;
 use vg_base::{Items, Name};
 
 /// A parameter of a DEFINE: `name`, or `name[high:0]`.
-#[derive(Debug, Drop)]
+#[derive(Drop)]
 pub struct DefineParam {
     pub name: Name,
     /// The number of its highest bit, below 2^127, where one is written.
@@ -13,7 +13,7 @@ pub struct DefineParam {
 }
 
 /// `DEFINE name(params) { body RETURN answer }`
-#[derive(Debug, Drop)]
+#[derive(Drop)]
 pub struct Define {
     pub name: Name,
     /// At least one.
@@ -23,7 +23,7 @@ pub struct Define {
 }
 
 /// An operation: its DEFINEs in their order, and its statements.
-#[derive(Debug, Drop)]
+#[derive(Drop)]
 pub struct Operation {
     pub defines: Items<Define>,
     pub body: Stmt,

@@ -21,7 +21,7 @@ use vg_base::{Items, Name};
 use vg_text::Lexer;
 
 /// A DEFINE that was read.
-#[derive(Debug, Drop)]
+#[derive(Drop)]
 pub(crate) struct Defined {
     pub(crate) define: Define,
     /// 1 where it calls no DEFINE, else one more than the greatest depth of those that it calls.

@@ -3,7 +3,7 @@
 use vg_base::Width;
 
 /// An operator or a function of one operand.
-#[derive(Clone, Copy, Debug, PartialEq, Eq)]
+#[derive(Clone, Copy, Debug)]
 pub enum UnaryOp {
     /// `NOT x`
     Not,
@@ -26,7 +26,7 @@ pub enum UnaryOp {
 }
 
 /// An operator or a function of two operands.
-#[derive(Clone, Copy, Debug, PartialEq, Eq)]
+#[derive(Clone, Copy, Debug)]
 pub enum BinaryOp {
     /// `x OR y`
     Or,

@@ -8,7 +8,7 @@ ghost use Rattle.vg_pseudo.specs.Expressions.{leaf};
 use crate::expression::{Arguments, Expr};
 
 /// An expression that was read.
-#[derive(Debug, Drop)]
+#[derive(Drop)]
 pub(crate) struct Part {
     pub(crate) expression: Expr,
     /// How many nodes it has one below the other, parentheses counted.
@@ -18,7 +18,7 @@ pub(crate) struct Part {
 }
 
 /// Arguments that were read.
-#[derive(Debug, Drop)]
+#[derive(Drop)]
 pub(crate) struct Linked {
     pub(crate) arguments: Arguments,
     /// How many nodes the deepest of them has one below the other, parentheses counted.

@@ -6,7 +6,7 @@ ghost use Rattle.vg_pseudo.specs.Spots.{spot_at, around};
 use vg_text::Place;
 
 /// Where an expression stands in the text. The two places differ only where parentheses stand around it.
-#[derive(Clone, Copy, Debug, PartialEq, Eq)]
+#[derive(Clone, Copy)]
 pub struct Spot {
     /// Of its first token, the parentheses around it counted.
     pub outer: Place,

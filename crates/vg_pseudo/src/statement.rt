@@ -10,7 +10,6 @@ use vg_text::Place;
 
 /// Statements, each with those behind it. The ways of an IF and the arms of a CASE are lists of the same kind, so that
 /// neither of them nests.
-#[derive(Debug)]
 pub enum Stmt {
     /// The end of a list.
     End,

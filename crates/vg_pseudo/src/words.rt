@@ -9,7 +9,7 @@ use vg_text::byte::{is_name_text, is_text};
 use vg_text::number::{decimal, value_in};
 
 /// A function that every operation may call, by the operator that it is.
-#[derive(Clone, Copy, Debug, PartialEq, Eq)]
+#[derive(Clone, Copy)]
 pub(crate) enum Function {
     One(UnaryOp),
     Two(BinaryOp),

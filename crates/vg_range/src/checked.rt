@@ -11,7 +11,7 @@ use vg_pseudo::{Header, Operation};
 
 /// An entry whose operation is accepted: its header, and its operation, also with its names
 /// resolved.
-#[derive(Debug, Drop)]
+#[derive(Drop)]
 pub struct Checked {
     header: Header,
     operation: Operation,

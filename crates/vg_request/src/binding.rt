@@ -10,7 +10,7 @@ use vg_text::byte::is_name_text;
 use vg_text::decimal;
 
 /// A number with its sign, of at most 20 digits.
-#[derive(Clone, Copy, Debug, PartialEq, Eq)]
+#[derive(Clone, Copy)]
 pub struct SignedNumber {
     /// Whether a `-` stands before the digits, as in `-0` too.
     pub negative: bool,
@@ -19,7 +19,7 @@ pub struct SignedNumber {
 }
 
 /// A name and the number that it is given.
-#[derive(Clone, Copy, Debug)]
+#[derive(Clone, Copy)]
 pub struct Bound<'a> {
     /// Of 1 to 64 bytes.
     pub name: &'a [u8],

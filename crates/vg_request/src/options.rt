@@ -7,7 +7,7 @@ use vg_catalog::Extensions;
 use vg_text::decimal;
 
 /// What `--width` and `--with` say.
-#[derive(Clone, Copy, Debug, PartialEq, Eq)]
+#[derive(Clone, Copy)]
 pub struct Options {
     /// The width of the search, 1 to 4096: how many plans it keeps of each size. 32 where the words
     /// give none.

@@ -18,7 +18,7 @@ use vg_terms::{Rule, Term, first_row, some_row};
 /// Selections that are decided go, opposite conditions are turned round, selections between the sides of
 /// their comparison become least or greatest, and least, greatest and comparisons are made as narrow as
 /// the known widths of their operands allow.
-#[derive(Clone, Copy, Debug)]
+#[derive(Clone, Copy)]
 pub struct ChoiceRules;
 
 // The rows in their order: the test of each, and what it makes of a term.

@@ -18,7 +18,7 @@ use vg_terms::{Rule, Term, first_row, some_row};
 ///
 /// Chains are terms of one operation and width whose order and grouping do not matter: sums, products,
 /// bitwise operations, least and greatest.
-#[derive(Clone, Copy, Debug)]
+#[derive(Clone, Copy)]
 pub struct SumRules;
 
 // The rows in their order: the test of each, and what it makes of a term.

@@ -26,7 +26,7 @@ use vg_terms::{Rule, Term, first_row, some_row};
 /// Truncations move towards the leaves, extensions and shifts of one another become one, products and
 /// extended sums are made as narrow as the known widths of their operands allow, and pairs that are cut
 /// or shifted lose the part that does not count.
-#[derive(Clone, Copy, Debug)]
+#[derive(Clone, Copy)]
 pub struct WidthRules;
 
 // The rows in their order: the test of each, and what it makes of a term.

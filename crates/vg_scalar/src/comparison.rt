@@ -8,7 +8,7 @@ use crate::low::{is_less_signed, low};
 use vg_base::width::Width;
 
 /// A comparison of two numbers of one width, which gives a number of one bit.
-#[derive(Clone, Copy, Debug, PartialEq, Eq)]
+#[derive(Clone, Copy, Debug)]
 pub enum Comparison {
     /// The two are equal.
     Eq,

@@ -8,7 +8,7 @@ use crate::low::{low, low_of_whole, low_signed};
 use vg_base::width::Width;
 
 /// A change of width.
-#[derive(Clone, Copy, Debug, PartialEq, Eq)]
+#[derive(Clone, Copy, Debug)]
 pub enum Resize {
     /// To more bits, the sign in the new ones.
     Sext,

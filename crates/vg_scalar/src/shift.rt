@@ -8,7 +8,7 @@ use crate::low::{low, low_of_whole, low_signed};
 use vg_base::width::Width;
 
 /// A shift of a number by a number of places below its width.
-#[derive(Clone, Copy, Debug, PartialEq, Eq)]
+#[derive(Clone, Copy, Debug)]
 pub enum Shift {
     /// To the left, zeros coming in.
     Shl,

@@ -6,7 +6,7 @@ use vg_terms::{OneOp, TwoOp};
 
 /// A word of 1 to 128 bits. A variable, an absolute value and the shifts by a word have 128.
 #[cycle(script)]
-#[derive(Debug, Drop)]
+#[derive(Drop)]
 pub enum Word {
     /// A number below 2^width.
     Constant {
@@ -65,7 +65,7 @@ pub enum Word {
 
 /// Where a slice begins.
 #[cycle(script)]
-#[derive(Debug, Drop)]
+#[derive(Drop)]
 pub enum Low {
     /// At this bit.
     At { bit: u128 },
@@ -76,7 +76,7 @@ pub enum Low {
 /// A call: the widths of its registers in bits, how many variables it has, what its first registers
 /// are given, and its statements.
 #[cycle(script)]
-#[derive(Debug, Drop)]
+#[derive(Drop)]
 pub struct Frame {
     pub widths: Items<u128>,
     pub variables: usize,
@@ -86,7 +86,6 @@ pub struct Frame {
 
 /// What registers are given, each with those behind it.
 #[cycle(script)]
-#[derive(Debug)]
 pub enum Given {
     Nothing,
     /// A word of 128 bits.
@@ -136,7 +135,6 @@ impl Drop for Given {
 
 /// Statements. The ways of an IF and the arms of a CASE are lists, so that neither of them nests.
 #[cycle(script)]
-#[derive(Debug)]
 pub enum Script {
     /// Nothing, or the end of the arms of a CASE.
     Stop,

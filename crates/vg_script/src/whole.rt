@@ -4,7 +4,7 @@ use crate::script::Script;
 use vg_base::Items;
 
 /// An operation written out for one immediate.
-#[derive(Debug, Drop)]
+#[derive(Drop)]
 pub struct Whole {
     /// The widths of the registers in bits, by their numbers: the parameters, then the immediate
     /// where there is one, then dst, then the others.

@@ -3,7 +3,7 @@
 use vg_base::Address;
 
 /// Bytes that a load reads, or a store writes.
-#[derive(Clone, Copy, Debug, PartialEq, Eq)]
+#[derive(Clone, Copy)]
 pub struct Access {
     pub address: Address,
     /// In bytes.

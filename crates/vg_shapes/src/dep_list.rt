@@ -9,7 +9,7 @@ use vg_base::Items;
 
 /// Which units depend on which. Contracts see it as a list of pairs: a unit, and a unit on which it
 /// depends.
-#[derive(Debug, Drop)]
+#[derive(Drop)]
 pub struct DepList {
     // For each unit, by its number, those on which it depends.
     rows: Items<Items<u32>>,

@@ -5,7 +5,7 @@ use vg_terms::Term;
 
 /// An instance that packs may call: what each lane of its result is of the bits of its parameters.
 /// Contracts speak of it as `description_of` of `specs/Description.antt`.
-#[derive(Debug, Drop)]
+#[derive(Drop)]
 pub struct Description {
     /// The name of its entry.
     pub name: Name,

@@ -3,7 +3,7 @@
 use vg_terms::Term;
 
 /// What an instance computes in one lane of its result.
-#[derive(Debug, Drop)]
+#[derive(Drop)]
 pub enum Lane {
     /// This term, whose leaves are bits of the parameters.
     Tree(Term),

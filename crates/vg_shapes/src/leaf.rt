@@ -6,7 +6,7 @@ ghost use Rattle.vg_shapes.specs.Leaves.{begins_in, clash, is_odd, leaf_of, same
 use vg_terms::LeafKey;
 
 /// So many bits of a parameter, from a bit on, which a leaf of a lane term stands for.
-#[derive(Clone, Copy, Debug)]
+#[derive(Clone, Copy)]
 pub struct Leaf {
     /// The number of the parameter, from 0.
     pub parameter: u32,

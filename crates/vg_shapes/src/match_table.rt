@@ -12,7 +12,7 @@ use vg_base::Items;
 use vg_terms::LeafKey;
 
 /// A leaf of a lane and the value or the constant that it stands for.
-#[derive(Clone, Copy, Debug, PartialEq, Eq)]
+#[derive(Clone, Copy)]
 pub struct Bound {
     pub key: LeafKey,
     /// The width of the leaf in bits.
@@ -21,7 +21,7 @@ pub struct Bound {
 }
 
 /// A lane of a description that computes a value.
-#[derive(Debug, Drop)]
+#[derive(Drop)]
 pub struct Match {
     /// The number of the description.
     pub description: u32,
@@ -33,7 +33,7 @@ pub struct Match {
 
 /// Matches by value, then description, then lane, no two with the same three. Contracts see it as
 /// their list.
-#[derive(Debug, Drop)]
+#[derive(Drop)]
 pub struct MatchTable {
     matches: Vec<Match>,
 }

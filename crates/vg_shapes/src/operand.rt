@@ -4,7 +4,7 @@ use crate::wanted::Wanted;
 use vg_base::Items;
 
 /// A range of the bits of a register, and what is wanted there.
-#[derive(Clone, Copy, Debug, PartialEq, Eq)]
+#[derive(Clone, Copy, PartialEq, Eq)]
 pub struct Slot {
     /// The lowest bit.
     pub low: u32,
@@ -14,7 +14,7 @@ pub struct Slot {
 }
 
 /// A register and what is wanted in it.
-#[derive(Debug, Drop)]
+#[derive(Drop)]
 pub struct Operand {
     /// The width of the register in bits.
     pub register: u32,

@@ -5,7 +5,7 @@ ghost use Rattle.std.specs.Prelude.{◌≡◌};
 use std::marker::Model;
 
 /// What is done in one go.
-#[derive(Clone, Copy, Debug, PartialEq, Eq)]
+#[derive(Clone, Copy, PartialEq, Eq)]
 pub enum Node {
     /// The units of a pack, by its index in the plan.
     PackAt(u32),
@@ -14,7 +14,7 @@ pub enum Node {
 }
 
 /// Nodes, one behind the other. Contracts see it as the list.
-#[derive(Debug, Drop)]
+#[derive(Drop)]
 pub struct Order {
     nodes: Vec<Node>,
 }

@@ -9,7 +9,7 @@ use vg_base::{Items, Name, Width};
 use vg_terms::Term;
 
 /// What a parameter is.
-#[derive(Clone, Copy, Debug, PartialEq, Eq)]
+#[derive(Clone, Copy)]
 pub enum SsaParamKind {
     /// A place in memory. What is written through a pointer that is `noalias` is reached through no
     /// other.
@@ -19,7 +19,7 @@ pub enum SsaParamKind {
 }
 
 /// A parameter of a kernel.
-#[derive(Debug, Drop)]
+#[derive(Drop)]
 pub struct SsaParam {
     pub name: Name,
     pub kind: SsaParamKind,
@@ -27,7 +27,7 @@ pub struct SsaParam {
 
 /// A kernel as numbered values. The integer parameters are numbered first, from 0, then the units in
 /// the order in which they run.
-#[derive(Debug, Drop)]
+#[derive(Drop)]
 pub struct Ssa {
     pub name: Name,
     /// At most 16, with names that differ.

@@ -10,7 +10,7 @@ use vg_base::{Address, Width};
 use vg_scalar::{Comparison, Resize, Shift, TwoOp};
 
 /// What an operation does with its operands.
-#[derive(Clone, Copy, Debug, PartialEq, Eq)]
+#[derive(Clone, Copy)]
 pub enum Operator {
     /// An operation on two integers.
     Two(TwoOp),
@@ -25,7 +25,7 @@ pub enum Operator {
 }
 
 /// The operands of an operation in order, `Nothing` behind the last.
-#[derive(Clone, Copy, Debug, PartialEq, Eq)]
+#[derive(Clone, Copy)]
 pub struct Operands {
     pub first: Wanted,
     pub second: Wanted,
@@ -33,7 +33,7 @@ pub struct Operands {
 }
 
 /// A load, an operation or a store.
-#[derive(Clone, Copy, Debug, PartialEq, Eq)]
+#[derive(Clone, Copy)]
 pub enum Unit {
     /// Reads an integer of this width from memory.
     Load {

@@ -10,7 +10,7 @@ use crate::value::Env;
 use vg_base::number::signed;
 
 /// Widths that hold the number of a term in every environment, each at least 1 and at most its width.
-#[derive(Clone, Copy, Debug, PartialEq, Eq)]
+#[derive(Clone, Copy)]
 pub struct Known {
     /// The number read unsigned is below `2 ^ unsigned`.
     pub unsigned: u32,

@@ -9,7 +9,7 @@ use std::alloc::{AllocError, Global};
 ///
 /// `(0, parameter, low bit, 0)` is bits of a parameter, `(1, pointer, offset in bytes, number)` a
 /// load, `(2, integer parameter, 0, 0)` an argument, `(3, number, 0, 0)` a value that was cut off.
-#[derive(Clone, Copy, Debug, PartialEq, Eq)]
+#[derive(Clone, Copy, PartialEq, Eq)]
 pub struct LeafKey {
     pub kind: u8,
     pub first: u32,
@@ -18,7 +18,7 @@ pub struct LeafKey {
 }
 
 /// An operation on one term. The two extensions are to a greater width, `Trunc` is to a lesser one.
-#[derive(Clone, Copy, Debug, PartialEq, Eq)]
+#[derive(Clone, Copy, PartialEq, Eq)]
 pub enum OneOp {
     Zext,
     Sext,
@@ -28,7 +28,7 @@ pub enum OneOp {
 }
 
 /// An operation on two terms of one width; the terms under `Cat` may differ in width.
-#[derive(Clone, Copy, Debug, PartialEq, Eq)]
+#[derive(Clone, Copy, PartialEq, Eq)]
 pub enum TwoOp {
     Add,
     Mul,
@@ -49,7 +49,7 @@ pub enum TwoOp {
 ///
 /// `amount` is the number of places of a shift, and 0 elsewhere. The width of a comparison is 1, that
 /// of `Cat` the sum of the widths of its children, `x` above `y`. Contracts see a term as its tree.
-#[derive(Debug, Drop)]
+#[derive(Drop)]
 pub enum Term {
     Leaf {
         width: u32,

@@ -6,7 +6,7 @@ use crate::term::{OneOp, TwoOp};
 use vg_base::{Items, Name};
 
 /// The names of the parameters, the pointers and the arguments, each by its number in leaf keys.
-#[derive(Debug, Drop)]
+#[derive(Drop)]
 pub struct Names {
     pub params: Items<Name>,
     pub pointers: Items<Name>,

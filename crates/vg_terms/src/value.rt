@@ -11,7 +11,7 @@ use vg_base::number::{low_bits, signed, unsigned};
 
 /// What the leaves stand for: pairs of a key and a number. Of two pairs with one key the first
 /// counts, and a key that is missing means 0.
-#[derive(Debug, Drop)]
+#[derive(Drop)]
 pub struct Env {
     pub pairs: Items<(LeafKey, u128)>,
 }

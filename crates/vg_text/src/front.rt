@@ -12,7 +12,7 @@ use crate::number::value_in;
 use crate::token::TokenKind;
 
 /// What stands at the front of a text.
-#[derive(Clone, Copy, Debug, PartialEq, Eq)]
+#[derive(Clone, Copy)]
 pub enum Front {
     /// So many bytes of white space or of a comment.
     Gap(usize),

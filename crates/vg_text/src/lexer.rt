@@ -14,7 +14,7 @@ use crate::token::{Token, TokenKind};
 /// and between them stand white space and comments alone. `End` comes exactly where these alone are
 /// left, and `Err` exactly at the first byte, name or number that is no token; either is answered
 /// again from then on.
-#[derive(Clone, Copy, Debug)]
+#[derive(Clone, Copy)]
 pub struct Lexer<'a> {
     text: &'a [u8],
     at: usize,
@@ -26,7 +26,7 @@ pub struct Lexer<'a> {
 }
 
 /// A token by its bytes. The end of the text has none.
-#[derive(Clone, Copy, Debug)]
+#[derive(Clone, Copy)]
 pub struct Word<'a> {
     pub bytes: &'a [u8],
     pub place: Place,

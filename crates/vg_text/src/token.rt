@@ -6,7 +6,7 @@ ghost use Rattle.vg_text.specs.Words.{is_end};
 use crate::place::Place;
 
 /// What a token is.
-#[derive(Clone, Copy, Debug, PartialEq, Eq)]
+#[derive(Clone, Copy, PartialEq, Eq)]
 pub enum TokenKind {
     /// A letter or `_`, then letters, digits and `_`; at most 64 bytes.
     Name,
@@ -31,7 +31,7 @@ impl TokenKind {
 }
 
 /// A token: the bytes from `start` up to `end`, and where the first of them stands.
-#[derive(Clone, Copy, Debug, PartialEq, Eq)]
+#[derive(Clone, Copy, PartialEq, Eq)]
 pub struct Token {
     pub kind: TokenKind,
     pub start: usize,

@@ -9,11 +9,11 @@ use vg_kernel::KernelFault;
 use vg_program::ProgramFault;
 
 /// Which file of a request, by its number among them, from 1.
-#[derive(Clone, Copy, Debug, PartialEq, Eq)]
+#[derive(Clone, Copy)]
 pub struct FileNumber(pub u8);
 
 /// Why a request has no answer.
-#[derive(Debug, Drop)]
+#[derive(Drop)]
 pub enum Ending {
     /// The words are no request.
     Usage,

@@ -8,7 +8,7 @@ use std::alloc::{AllocError, Global};
 use vg_program::printing::put_number;
 
 /// What the line tells of a trial.
-#[derive(Clone, Copy, Debug, PartialEq, Eq)]
+#[derive(Clone, Copy)]
 pub(crate) struct Figures {
     /// The number of the trial.
     pub(crate) number: u32,
