@@ -60,7 +60,7 @@ fn meet(
         descriptions.now) table.now ssa.now deps.now) (plan_at level.now parent)) }
     requires met { IsMet (map description_of descriptions.now) table.now ssa.now deps.now
         board.now.packs.items level.now met.old }
-    ensures room { OnOk result (IsRoomFor ssa.now (plan_at level.now parent) room.new) }
+    ensures room { room.new ≡ room.old }
     ensures met { OnOk result (Meets (map description_of descriptions.now) table.now ssa.now
         deps.now board.now.packs.items level.now (plan_at level.now parent) (pack_at
         board.now.packs.items pack ∷ []) met.old met.new) }

@@ -1,6 +1,6 @@
 -- What is known of recipes, by the shuffles that can be had.
-use Rattle.std.proofs.Common.{◌≡◌, ℕ, suc, ◌+◌, ◌<◌, ◌≤◌, Bool, true, false, List, [], ◌∷◌, ◌++◌, length, refl, sym, ◌∙◌, ap, arith, inl, inr}
-use Rattle.std.specs.Prelude.{◌&&◌, filter, nat_eq, nat_lt, not, if◌then◌else◌}
+use Rattle.std.proofs.Common.{◌≡◌, ℕ, suc, ◌+◌, ◌<◌, ◌≤◌, Bool, true, false, List, [], ◌∷◌, length, refl, sym, ◌∙◌, ap, arith, inl, inr}
+use Rattle.std.specs.Prelude.{◌&&◌, filter, nat_eq, nat_lt, not}
 use Rattle.std.specs.List.{filter_map, list_all, list_any}
 use Rattle.std.proofs.lemmas.Bool.{cases_Bool}
 use Rattle.std.proofs.lemmas.Bool.Decides.{nat_tests}

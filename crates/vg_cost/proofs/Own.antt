@@ -1,6 +1,6 @@
 -- A pack holds or gives only what has one of the operand's values among its units.
-use Rattle.std.proofs.Common.{◌≡◌, ℕ, zero, suc, ◌+◌, Bool, true, false, List, [], ◌∷◌, ◌++◌, map, length, refl, sym, ◌∙◌, ap, subst, inl, inr}
-use Rattle.std.specs.Prelude.{◌&&◌, ◌||◌, not, if◌then◌else◌, filter, nat_eq, nat_le, Option, Some, None}
+use Rattle.std.proofs.Common.{◌≡◌, ℕ, suc, ◌+◌, Bool, true, false, List, [], ◌∷◌, map, length, refl, sym, ◌∙◌, ap, subst, inl, inr}
+use Rattle.std.specs.Prelude.{◌&&◌, ◌||◌, if◌then◌else◌, filter, nat_eq, Option, Some, None}
 use Rattle.std.specs.List.{filter_map, flat_map, list_any, list_all}
 use Rattle.std.proofs.lemmas.Bool.{cases_Bool}
 use Rattle.vg_plans.specs.Members.{Has}
@@ -17,12 +17,11 @@ use Rattle.vg_shapes.specs.declared.ssa.Ssa.{Ssa}
 use Rattle.vg_shapes.specs.declared.wanted.Wanted.{Wanted}
 use Rattle.vg_shapes.specs.declared.wanted.Wanted.TheVariants.{Value, Constant, Nothing}
 use Rattle.vg_shapes.specs.Description.{Description}
-use Rattle.vg_shapes.specs.Operands.{lanes_of}
 use Rattle.vg_shapes.specs.Pack.{units_of}
 use Rattle.vg_packing.specs.Held.{held_slots, holds, is_filled, lane_width_of, lanes_from, register_of}
 use Rattle.vg_packing.specs.Packing.{packing}
 use Rattle.vg_packing.specs.SameAs.{same_lane, same_slot}
-use Rattle.vg_packing.specs.Shuffles.{moved_from, moved_leaf, parts_from, shuffle_of, shuffles, is_shuffle, is_lane_slot}
+use Rattle.vg_packing.specs.Shuffles.{moved_from, moved_leaf, parts_from, shuffle_of, shuffles}
 use Rattle.vg_packing.specs.Wants.{is_wanted, slot, value_of, wanted_slots, wanted_values, wants_value}
 use Rattle.vg_packing.proofs.SameTests.{both-true, eq-itself, slot-is}
 use Rattle.vg_cost.specs.Taken.{is_one_of, is_touched}

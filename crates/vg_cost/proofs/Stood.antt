@@ -1,19 +1,18 @@
 -- What can be had stands in packs of the plan.
-use Rattle.std.proofs.Common.{◌≡◌, ℕ, zero, suc, ◌+◌, ◌*◌, ◌/◌, ◌%◌, ◌<◌, ◌≤◌, ◌⊎◌, Bool, true, false, List, [], ◌∷◌, ◌++◌, get_or, length, map, refl, sym, ◌∙◌, ap, subst, inl, inr, arith, length-append}
-use Rattle.std.specs.Prelude.{◌&&◌, ◌||◌, not, if◌then◌else◌, filter, nat_eq, nat_le, nat_lt, Option, Some, None, slice_get}
+use Rattle.std.proofs.Common.{◌≡◌, ℕ, zero, suc, ◌+◌, ◌%◌, ◌<◌, ◌≤◌, ◌⊎◌, Bool, true, false, List, [], ◌∷◌, ◌++◌, get_or, length, map, refl, sym, ◌∙◌, ap, subst, inl, inr, arith, length-append}
+use Rattle.std.specs.Prelude.{◌&&◌, ◌||◌, not, filter, nat_eq, nat_le, nat_lt, Option, Some, None, slice_get}
 use Rattle.std.specs.List.{flat_map, list_any, list_all}
 use Rattle.std.proofs.Math.Nat.{mod-add-mod}
 use Rattle.std.proofs.lemmas.Bool.{cases_Bool}
 use Rattle.std.proofs.lemmas.Bool.Decides.{nat_tests}
 use Rattle.std.proofs.lemmas.List.Folds.{list_any-append}
 use Rattle.vg_plans.specs.Members.{Has as Member}
-use Rattle.vg_plans.specs.World.{can_shuffle, inserted, is_in, is_packed, is_reused, recipe_cost}
+use Rattle.vg_plans.specs.World.{can_shuffle, is_in, is_reused}
 use Rattle.vg_plans.proofs.Members.{any-found, any-is, has-filter, has-flat}
 use Rattle.vg_terms.specs.Term.{Tree, leaf, constant, one, two, sel}
 use Rattle.vg_shapes.specs.declared.operand.Operand.{Operand}
 use Rattle.vg_shapes.specs.declared.operand.Slot.{Slot}
 use Rattle.vg_shapes.specs.declared.pack.Pack.{Pack as Packed}
-use Rattle.vg_shapes.specs.declared.pack.Pack.TheVariants.{Stores, Loads, Call}
 use Rattle.vg_shapes.specs.declared.ssa.Ssa.{Ssa}
 use Rattle.vg_shapes.specs.declared.wanted.Wanted.{Wanted}
 use Rattle.vg_shapes.specs.declared.wanted.Wanted.TheVariants.{Value, Constant, Nothing}
@@ -27,10 +26,9 @@ use Rattle.vg_packing.specs.Shuffles.{is_lane_slot, is_shuffle, moved_from, move
 use Rattle.vg_packing.specs.Wants.{is_wanted, slot, wanted_slots, wants_value}
 use Rattle.vg_packing.proofs.SameTests.{both-true, eq-itself, slot-is}
 use Rattle.vg_cost.specs.Had.{costs_had}
-use Rattle.vg_cost.specs.Marks.{Has}
-use Rattle.vg_cost.specs.Places.{ArePlaces, are_met, is_met, may_have, may_move, may_stand, place, places_at, places_from, places_of}
+use Rattle.vg_cost.specs.Places.{ArePlaces, are_met, is_met, may_have, may_move, may_stand, place, places_from, places_of}
 use Rattle.vg_cost.specs.Shuffling.{is_tight, is_tight_lane}
-use Rattle.vg_cost.proofs.Own.{all-has, held-value, holds-slot, holds-some, moved-from}
+use Rattle.vg_cost.proofs.Own.{all-has, held-value, holds-slot, moved-from}
 
 or-right : (a b : Bool) → b ≡ true → a || b ≡ true
 or-right true b e = refl

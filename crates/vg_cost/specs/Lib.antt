@@ -7,3 +7,4 @@ pub mod Running
 pub mod Shuffling
 pub mod Taken
 pub mod Touch
+pub mod Tried

@@ -1,5 +1,5 @@
 -- Where in registers values stand, by marks, and which shuffles need not be looked at.
-use Rattle.std.specs.Prelude.{◌≡◌, ℕ, ◌+◌, ◌*◌, ◌/◌, ◌%◌, ◌&&◌, ◌||◌, not, Bool, true, false, List, [], ◌∷◌, ◌++◌, length, Option, Some, None, get_or, nat_eq, nat_le, nat_lt}
+use Rattle.std.specs.Prelude.{ℕ, ◌+◌, ◌*◌, ◌/◌, ◌%◌, ◌&&◌, ◌||◌, not, Bool, true, false, List, [], ◌∷◌, ◌++◌, length, Option, Some, None, get_or, nat_eq, nat_le, nat_lt}
 use Rattle.std.specs.List.{flat_map, list_all, list_any}
 use Rattle.vg_plans.specs.World.{is_in}
 use Rattle.vg_shapes.specs.declared.operand.Operand.{Operand}
@@ -15,7 +15,6 @@ use Rattle.vg_packing.specs.Held.{lane_width_of}
 use Rattle.vg_packing.specs.Shuffles.{moved_from}
 use Rattle.vg_packing.specs.Wants.{is_wanted}
 use Rattle.vg_cost.specs.Marks.{Has}
-use Rattle.vg_cost.specs.Taken.{is_one_of}
 
 -- the number of a value at a byte of a register, of 64 bytes
 abbrev pub place : ℕ → ℕ → ℕ

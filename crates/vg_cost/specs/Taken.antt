@@ -1,5 +1,5 @@
 -- What is known of the operands that the packs of a plan take.
-use Rattle.std.specs.Prelude.{◌≡◌, ℕ, ◌+◌, Bool, true, false, filter, List, [], ◌∷◌, ◌++◌, length, nat_lt, if◌then◌else◌}
+use Rattle.std.specs.Prelude.{ℕ, ◌+◌, Bool, false, filter, List, [], ◌∷◌, ◌++◌, length, nat_lt, if◌then◌else◌}
 use Rattle.std.specs.List.{list_any}
 use Rattle.vg_plans.specs.World.{inserted, is_in, recipe_cost}
 use Rattle.vg_shapes.specs.declared.operand.Operand.{Operand}

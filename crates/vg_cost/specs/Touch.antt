@@ -1,5 +1,5 @@
 -- What marks of units tell of an operand's values. What is past all marks counts as marked.
-use Rattle.std.specs.Prelude.{◌≡◌, Bool, true, false, List, ◌++◌, ◌∷◌, [], length, get_or}
+use Rattle.std.specs.Prelude.{◌≡◌, Bool, true, false, List, length, get_or}
 use Rattle.std.specs.List.{flat_map, list_all, list_any}
 use Rattle.vg_shapes.specs.declared.operand.Operand.{Operand}
 use Rattle.vg_shapes.specs.declared.pack.Pack.{Pack as Packed}

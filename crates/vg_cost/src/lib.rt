@@ -28,6 +28,7 @@ pub mod shuffle;
 mod shuffles;
 mod taken;
 mod touch;
+mod tried;
 
 pub use cost::plan_cost;
 pub use room::Room;

@@ -7,6 +7,7 @@ ghost use Rattle.vg_cost.specs.Room.{IsRoomFor};
 ghost use Rattle.vg_cost.specs.Running.{StandsFor, taken_by};
 ghost use Rattle.vg_cost.specs.Taken.{inserted_for};
 ghost use Rattle.vg_cost.specs.Touch.{MarkUnits};
+ghost use Rattle.vg_cost.specs.Tried.{AreMarksFor};
 ghost use Rattle.vg_packing.specs.Laws.{IsPlanFor};
 ghost use Rattle.vg_packing.specs.Packing.{packing};
 ghost use Rattle.vg_packing.specs.Taken.{IsShort, MatchesNear};
@@ -21,6 +22,7 @@ use crate::price::{plus, price_of};
 use crate::room::Room;
 use crate::shuffles::Shuffles;
 use crate::taken::{Taken, add_all, keep_all, kept_cost, recipes_cost};
+use crate::tried::Tried;
 use std::alloc::{AllocError, Global};
 use vg_packing::taken::operands_of;
 use vg_shapes::{Description, MatchTable, Pack, Ssa};
@@ -102,12 +104,13 @@ impl Running {
     {
         let plan = self.packs.as_slice();
         let mut room = Room::new(alloc, ssa, plan)?;
-        room.enter(pack);
-        let marks = room.longer.as_slice();
-        let own = room.own.as_slice();
+        let before = room.plan.as_slice();
+        room.tried.enter(before, pack);
+        let marks = room.tried.longer.as_slice();
+        let own = room.tried.own.as_slice();
         let taken = self.taken_with(alloc, marks, own, pack, descriptions, table, ssa)?;
         let price = plus(self.price, price_of(descriptions, pack))?;
-        let needed = room.needed.as_mut_slice();
+        let needed = room.tried.needed.as_mut_slice();
         let recipes = recipes_cost(needed, taken.as_slice())?;
         let cost = whole_cost(ssa, marks, needed, price, recipes)?;
         Ok(Running {
@@ -120,7 +123,7 @@ impl Running {
     }
 
     /// What the plan with a pack behind it costs. Fails for want of memory, and where the cost has too
-    /// many bits to be counted.
+    /// many bits to be counted. Leaves the room as it was.
     pub fn cost_with(
         &self,
         alloc: Global,
@@ -137,16 +140,46 @@ impl Running {
             self.now }
         requires plan { (deps : List (ℕ × ℕ)) × IsPlanFor (map description_of descriptions.now)
             table.now ssa.now deps (self.now.packs.items ++ pack.now ∷ []) }
-        ensures room { IsRoomFor ssa.now self.now.packs.items room.new }
+        ensures room { room.new ≡ room.old }
         ensures cost { IfOk result (λ c. (deps : List (ℕ × ℕ)) → c ≡ plan_cost
             (packing (map description_of descriptions.now) table.now ssa.now deps)
             (self.now.packs.items ++ pack.now ∷ [])) }
     {
-        room.enter(pack);
+        let plan = room.plan.as_slice();
+        let tried = &mut room.tried;
+        let cost = self.cost_tried(alloc, plan, tried, pack, descriptions, table, ssa)?;
+        Ok(cost)
+    }
+
+    /// What the plan with a pack behind it costs, by the marks of the units of the plan.
+    fn cost_tried(
+        &self,
+        alloc: Global,
+        plan: &[bool],
+        tried: &mut Tried,
+        pack: &Pack,
+        descriptions: &[Description],
+        table: &MatchTable,
+        ssa: &Ssa,
+    ) -> Result<u64, AllocError>
+        requires near { MatchesNear table.now }
+        requires short { IsShort pack.now }
+        requires marks { IsRoomFor ssa.now self.now.packs.items plan.now }
+        requires tried { AreMarksFor (arguments ssa.now + length ssa.now.units) tried.old }
+        requires stands { StandsFor (map description_of descriptions.now) table.now ssa.now
+            self.now }
+        requires plan { (deps : List (ℕ × ℕ)) × IsPlanFor (map description_of descriptions.now)
+            table.now ssa.now deps (self.now.packs.items ++ pack.now ∷ []) }
+        ensures tried { AreMarksFor (arguments ssa.now + length ssa.now.units) tried.new }
+        ensures cost { IfOk result (λ c. (deps : List (ℕ × ℕ)) → c ≡ plan_cost
+            (packing (map description_of descriptions.now) table.now ssa.now deps)
+            (self.now.packs.items ++ pack.now ∷ [])) }
+    {
+        tried.enter(plan, pack);
         let price = plus(self.price, price_of(descriptions, pack))?;
-        let marks = room.longer.as_slice();
-        let own = room.own.as_slice();
-        let needed = room.needed.as_mut_slice();
+        let marks = tried.longer.as_slice();
+        let own = tried.own.as_slice();
+        let needed = tried.needed.as_mut_slice();
         let recipes = self.recipes_with(alloc, marks, own, needed, pack, descriptions, table, ssa)?;
         let cost = whole_cost(ssa, marks, needed, price, recipes)?;
         Ok(cost)

@@ -25,7 +25,7 @@ returns-then-overlap c =
     let t = ap (λ q. list_any (is_in_plan plan) (units_of q)) (sym c.pack-last.ensures)
     ∙ ap (λ l. list_any (is_in_plan l) (units_of c.pack-last.result.now)) (sym (c.packs-packs.ensures ∙ c.kept_at-kept.ensures.plan))
     ∙ sym c.overlaps-overlap.ensures ∙ c.if-overlap.true in record {
-      room = c.requires.room;
+      room = refl;
       met = meets-refused (map description_of c.args.descriptions.now) c.args.table.now c.args.ssa.now c.args.deps.now c.args.board.now.packs.items c.args.level.now plan p c.args.met.now c.requires.met
           (overlap-stays (map description_of c.args.descriptions.now) c.args.table.now c.args.ssa.now c.args.deps.now plan p t);
     }
@@ -79,7 +79,7 @@ returns-then-known c =
     let k = subst (λ q. IsKey no_pack packs q (plan ++ p ∷ [])) (sym (c.in_ok-key.ensures ∙ ap (with_number c.args.pack) c.as_slice.ensures))
     (key-longer no_pack packs c.kept_at-kept.result.now.key plan c.args.pack (subst (IsKey no_pack packs c.kept_at-kept.result.now.key) c.kept_at-kept.ensures.plan
     (every-has (IsKept (map description_of c.args.descriptions.now) c.args.table.now c.args.ssa.now packs) _ c.args.level.now c.requires.level c.kept_at-kept.ensures.member).key) c.requires.pack) in record {
-      room = c.requires.room;
+      room = refl;
       met = meets-known (map description_of c.args.descriptions.now) c.args.table.now c.args.ssa.now c.args.deps.now packs c.args.level.now plan p c.args.met.now c.in_ok-key.key.items c.requires.met k
           (ap (is_known c.args.met.now) (sym c.as_slice-2.ensures.value) ∙ sym c.has-known.ensures ∙ c.if-known.true);
     }
@@ -91,7 +91,7 @@ returns-then-not-stays c =
     let p = pack_at c.args.board.now.packs.items c.args.pack in
     let f = ap (stays_plan bare plan) (sym c.pack-last.ensures) ∙ ap (λ l. stays_plan bare l c.pack-last.result.now) (sym (c.packs-packs.ensures ∙ c.kept_at-kept.ensures.plan))
     ∙ sym c.in_ok-stays.ensures ∙ c.if-not-stays.true in record {
-      room = c.requires.room;
+      room = refl;
       met = meets-refused (map description_of c.args.descriptions.now) c.args.table.now c.args.ssa.now c.args.deps.now c.args.board.now.packs.items c.args.level.now plan p c.args.met.now c.requires.met f;
     }
 
@@ -109,7 +109,7 @@ returns c =
     ∙ sym c.in_ok-stays.ensures ∙ c.if-not-stays.false in
     let price = cost_of (map description_of c.args.descriptions.now) c.args.table.now c.args.ssa.now c.args.deps.now in
     let is = longer-plan (map description_of c.args.descriptions.now) c.args.table.now c.args.ssa.now c.args.deps.now plan p c.requires.plan c.requires.tried t in record {
-      room = subst (λ l. IsRoomFor c.args.ssa.now l c.cost_with.new.room) c.kept_at-kept.ensures.plan c.in_ok-cost.ensures.room;
+      room = c.in_ok-cost.ensures.room;
       met = meets-new (map description_of c.args.descriptions.now) c.args.table.now c.args.ssa.now c.args.deps.now packs c.args.level.now plan p c.args.met.now _ c.in_ok-key.key.items _ c.requires.board.apart c.requires.met k f t
           c.in_ok-add.ensures.candidates c.in_ok-add.ensures.known refl
           (is-candidate (map description_of c.args.descriptions.now) c.args.table.now c.args.ssa.now c.args.deps.now packs c.args.level.now c.args.parent c.args.pack c.in_ok-cost.cost

@@ -53,7 +53,7 @@ packs-preserved c = (
   meets-step (map description_of c.args.descriptions.now) c.args.table.now c.args.ssa.now c.args.deps.now c.args.board.now.packs.items c.args.level.now
       (plan_at c.args.level.now c.args.parent) c.as_slice-numbers.result.now c.packs.pack-index (get_or c.as_slice-numbers.result.now c.packs.pack-index 0)
       c.args.met.now c.packs.met _ c.packs-test.true (zero-at c.as_slice-numbers.result.now c.packs.pack-index c.packs-test.true) c.packs.invariant.0 c.in_ok-meet.ensures.met,
-  c.in_ok-meet.ensures.room,
+  subst (IsRoomFor c.args.ssa.now (plan_at c.args.level.now c.args.parent)) (sym c.in_ok-meet.ensures.room) c.packs.invariant.1,
 )
 
 pub returns : goal.returns

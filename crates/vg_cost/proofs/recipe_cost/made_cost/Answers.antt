@@ -1,4 +1,4 @@
-use Rattle.std.proofs.Common.{◌∙◌, ◌+◌, ◌&&◌, ◌++◌, ◌∷◌, [], ap, length, map, nat_eq, nat_lt}
+use Rattle.std.proofs.Common.{◌∙◌, ◌+◌, ◌++◌, ◌∷◌, [], ap, length, map}
 use Rattle.vg_shapes.specs.Description.{description_of}
 use Rattle.vg_cost.proofs.Known.{made}
 use Rattle.vg_cost.proofs.recipe_cost.made_cost.Goals as goal

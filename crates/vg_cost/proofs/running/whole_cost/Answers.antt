@@ -1,4 +1,3 @@
-use Rattle.std.proofs.Common.{◌∙◌, sym}
 use Rattle.vg_cost.proofs.LineSteps.{by_lines}
 use Rattle.vg_cost.proofs.running.whole_cost.Goals as goal
 

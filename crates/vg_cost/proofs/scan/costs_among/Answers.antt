@@ -1,6 +1,5 @@
-use Rattle.std.proofs.Common.{ap, arith, map, subst, sym}
+use Rattle.std.proofs.Common.{arith, map, subst, sym}
 use Rattle.std.specs.Result.{IfOk}
-use Rattle.std.specs.List.{flat_map}
 use Rattle.std.proofs.lemmas.Bool.Decides.{nat_tests}
 use Rattle.vg_shapes.specs.Description.{description_of}
 use Rattle.vg_cost.specs.Had.{costs_had}

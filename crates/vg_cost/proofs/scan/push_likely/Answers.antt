@@ -1,4 +1,4 @@
-use Rattle.std.proofs.Common.{◌≡◌, ◌∙◌, ◌++◌, ap, map, sym}
+use Rattle.std.proofs.Common.{◌∙◌, ◌++◌, ap, map, sym}
 use Rattle.std.proofs.lemmas.List.{append-nil}
 use Rattle.vg_shapes.specs.Description.{description_of}
 use Rattle.vg_cost.proofs.Stood.{none_had_of}

@@ -1,4 +1,4 @@
-use Rattle.std.proofs.Common.{◌≡◌, ◌∙◌, ap, length, map}
+use Rattle.std.proofs.Common.{◌∙◌, ap, length, map}
 use Rattle.std.specs.List.{list_all}
 use Rattle.vg_terms.specs.Term.{tree}
 use Rattle.vg_cost.specs.Shuffling.{is_tight_lane}

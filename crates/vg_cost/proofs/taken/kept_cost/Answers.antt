@@ -1,9 +1,8 @@
-use Rattle.std.proofs.Common.{◌∙◌, ◌++◌, ◌∷◌, [], List, ap, map, refl, subst, sym}
+use Rattle.std.proofs.Common.{◌∙◌, ◌++◌, ◌∷◌, [], ap, map, refl, subst, sym}
 use Rattle.std.specs.List.{flat_map, sum_by}
 use Rattle.std.proofs.lemmas.Grind.{flat_map-append}
 use Rattle.std.proofs.lemmas.List.{append-nil, take_all}
 use Rattle.vg_shapes.specs.Description.{description_of}
-use Rattle.vg_cost.specs.declared.taken.Taken.{Taken}
 use Rattle.vg_cost.specs.Marks.{Marked}
 use Rattle.vg_cost.specs.Taken.{inserted_for, kept_for, taken_of}
 use Rattle.vg_cost.specs.Touch.{IsKnownBy}

@@ -1,8 +1,5 @@
-use Rattle.std.proofs.Common.{arith, map, subst, sym, refl, []}
-use Rattle.std.specs.List.{AllByRecursion}
-use Rattle.vg_packing.specs.Taken.{IsShort}
+use Rattle.std.proofs.Common.{arith, map, refl}
 use Rattle.vg_shapes.specs.Description.{description_of}
-use Rattle.vg_cost.specs.Running.{StandsFor}
 use Rattle.vg_cost.proofs.Growing.{stands-empty}
 use Rattle.vg_cost.proofs.running.Running.new.Goals as goal
 

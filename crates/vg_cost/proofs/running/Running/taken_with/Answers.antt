@@ -1,13 +1,12 @@
-use Rattle.std.proofs.Common.{◌≡◌, ◌∙◌, ◌++◌, ◌∷◌, [], append-nil, ap, map, subst, sym}
-use Rattle.std.specs.List.{AllByRecursion, flat_map, sum_by}
+use Rattle.std.proofs.Common.{◌∙◌, ◌++◌, ◌∷◌, [], ap, map, subst, sym}
+use Rattle.std.specs.List.{AllByRecursion}
 use Rattle.vg_plans.specs.World.{operands}
 use Rattle.vg_packing.specs.Packing.{packing}
 use Rattle.vg_shapes.specs.Description.{description_of}
-use Rattle.vg_cost.specs.Marks.{Marked}
 use Rattle.vg_cost.specs.Running.{taken_by}
-use Rattle.vg_cost.specs.Taken.{add_all, inserted_for, kept_for, taken_for}
+use Rattle.vg_cost.specs.Taken.{add_all, taken_for}
 use Rattle.vg_cost.specs.Touch.{IsKnownBy, MarkUnits}
-use Rattle.vg_cost.proofs.Growing.{known-by, sum-longer, taken-longer, values-longer}
+use Rattle.vg_cost.proofs.Growing.{known-by, taken-longer}
 use Rattle.vg_cost.proofs.running.Running.taken_with.Goals as goal
 
 pub keep_all-requires : goal.keep_all-requires

@@ -1,12 +1,9 @@
 use Rattle.std.proofs.Common.{◌≡◌, ◌∙◌, ◌+◌, ◌++◌, ◌∷◌, [], ap, length, map, subst, sym}
 use Rattle.std.specs.List.{flat_map, sum_by}
-use Rattle.std.proofs.lemmas.List.{length-replicate}
 use Rattle.vg_shapes.specs.Description.{description_of}
-use Rattle.vg_shapes.specs.Pack.{units_of}
 use Rattle.vg_shapes.specs.Units.{arguments}
-use Rattle.std.specs.Prelude.{false}
 use Rattle.vg_cost.specs.Lines.{Costs}
-use Rattle.vg_cost.specs.Marks.{Has, Marked}
+use Rattle.vg_cost.specs.Marks.{Marked}
 use Rattle.vg_cost.specs.Taken.{inserted_for}
 use Rattle.vg_cost.specs.Touch.{MarkUnits}
 use Rattle.vg_cost.proofs.Growing.{costs-longer, stands-longer}
@@ -15,6 +12,18 @@ use Rattle.vg_cost.proofs.running.Running.with.Goals as goal
 use Rattle.vg_cost.specs.Room.{IsRoomFor}
 use Rattle.vg_cost.specs.Running.{taken_by}
 
+pub taken_with-requires-clause-marks : goal.taken_with-requires-clause-marks
+taken_with-requires-clause-marks c =
+    let ssa = c.args.ssa.now in
+    let p = c.args.pack.now in
+    let plan = c.args.self.now.packs.items in
+    let room : IsRoomFor ssa plan c.as_slice-before.result.now =
+    subst (λ m. IsRoomFor ssa plan m) (sym (c.as_slice-before.ensures.value ∙ c.room.view_is))
+    (subst (λ l. IsRoomFor ssa l c.in_ok-room.room) c.as_slice-plan.ensures.value c.in_ok-room.ensures)
+    in
+    subst (MarkUnits (plan ++ p ∷ [])) (sym c.as_slice-marks.ensures.value)
+    (own_count _ _ _ (marked_longer (arguments ssa + length ssa.units) plan p _ _ room c.enter.ensures.longer))
+
 pub returns-clause-stands : goal.returns-clause-stands
 returns-clause-stands c =
     let ds = map description_of c.args.descriptions.now in
@@ -22,8 +31,9 @@ returns-clause-stands c =
     let ssa = c.args.ssa.now in
     let p = c.args.pack.now in
     let plan = c.args.self.now.packs.items in
-    let room : IsRoomFor ssa plan c.in_ok-room.room =
-    subst (λ l. IsRoomFor ssa l c.in_ok-room.room) c.as_slice-plan.ensures.value c.in_ok-room.ensures
+    let room : IsRoomFor ssa plan c.as_slice-before.result.now =
+    subst (λ m. IsRoomFor ssa plan m) (sym (c.as_slice-before.ensures.value ∙ c.room.view_is))
+    (subst (λ l. IsRoomFor ssa l c.in_ok-room.room) c.as_slice-plan.ensures.value c.in_ok-room.ensures)
     in
     let taken : c.as_slice.result.now ≡ taken_by ds matches ssa (plan ++ p ∷ []) = c.as_slice.ensures.value ∙ c.in_ok-taken.ensures in
     let paid = c.in_ok-price.ensures ∙ ap (λ n. c.args.self.now.price + n) c.price_of.ensures in
@@ -34,9 +44,9 @@ returns-clause-stands c =
     c.in_ok-taken.ensures paid
     (λ deps.
     costs-longer ds matches ssa deps c.args.self.now p c.enter.new.self.longer.items c.as_mut_slice-needed.result.now
-    c.recipes_cost.new.needed c.in_ok-price.price c.in_ok-recipes.recipes c.in_ok-cost.cost (length c.in_ok-room.room.needed.items)
-    c.requires.stands room.needed
-    (marked_longer (arguments ssa + length ssa.units) plan p _ _ room.plan c.enter.ensures.longer)
+    c.recipes_cost.new.needed c.in_ok-price.price c.in_ok-recipes.recipes c.in_ok-cost.cost (length c.room.inside.tried.needed.items)
+    c.requires.stands (c.room.invariant.needed ∙ ap length (sym c.as_slice-before.ensures.value) ∙ room.long)
+    (marked_longer (arguments ssa + length ssa.units) plan p _ _ room c.enter.ensures.longer)
     (c.as_mut_slice-needed.ensures.value ∙ c.enter.ensures.needed)
     (subst (λ l. Marked (flat_map inserted_for l) c.as_mut_slice-needed.result.now c.recipes_cost.new.needed) taken c.in_ok-recipes.ensures.marks)
     paid

@@ -1,5 +1,4 @@
-use Rattle.std.proofs.Common.{◌≡◌, ◌∙◌, ◌+◌, ◌++◌, ◌∷◌, [], ap, arith, length, map, subst, sym}
-use Rattle.std.specs.List.{flat_map, sum_by}
+use Rattle.std.proofs.Common.{◌∙◌, ◌+◌, ◌++◌, ◌∷◌, [], ap, arith, length, map, subst, sym}
 use Rattle.std.proofs.lemmas.List.{length-replicate}
 use Rattle.vg_shapes.specs.Description.{description_of}
 use Rattle.vg_shapes.specs.Pack.{units_of}
@@ -7,12 +6,11 @@ use Rattle.vg_shapes.specs.Units.{arguments}
 use Rattle.std.specs.Prelude.{false}
 use Rattle.std.specs.Vec.{with_items}
 use Rattle.vg_cost.specs.Lines.{Costs}
-use Rattle.vg_cost.specs.Marks.{Has, Marked}
-use Rattle.vg_cost.specs.Taken.{inserted_for}
+use Rattle.vg_cost.specs.Marks.{Has}
 use Rattle.vg_cost.specs.Touch.{MarkUnits}
 use Rattle.vg_cost.proofs.Growing.{costs-longer}
 use Rattle.vg_cost.proofs.MarkTests.{marked_longer, own_count}
-use Rattle.vg_cost.proofs.running.Running.cost_with.Goals as goal
+use Rattle.vg_cost.proofs.running.Running.cost_tried.Goals as goal
 
 pub recipes_with-requires : goal.recipes_with-requires
 recipes_with-requires c =
@@ -24,15 +22,15 @@ recipes_with-requires c =
       short = c.requires.short;
       stands = c.requires.stands;
       marks = subst (MarkUnits (plan ++ p ∷ [])) (sym c.as_slice-marks.ensures.value)
-          (own_count _ _ _ (marked_longer (arguments ssa + length ssa.units) plan p _ _ c.requires.room.plan c.enter.ensures.longer));
+          (own_count _ _ _ (marked_longer (arguments ssa + length ssa.units) plan p _ _ c.requires.marks c.enter.ensures.longer));
       own = subst (λ l. Has (length l) (units_of p) l) (sym c.as_slice-own.ensures.value) (own_count _ _ _ c.enter.ensures.own);
     }
 
 pub whole_cost-requires : goal.whole_cost-requires
 whole_cost-requires c = record {
-  marks = ap length c.as_slice-marks.ensures.value ∙ c.enter.ensures.longer.long ∙ c.requires.room.plan.long;
+  marks = ap length c.as_slice-marks.ensures.value ∙ c.enter.ensures.longer.long ∙ c.requires.marks.long;
   needed = c.in_ok-recipes.ensures.marks.long ∙ ap length (c.as_mut_slice-needed.ensures.value ∙ c.enter.ensures.needed)
-      ∙ length-replicate (length c.args.room.now.needed.items) false ∙ c.requires.room.needed;
+      ∙ length-replicate (length c.args.tried.now.needed.items) false ∙ c.requires.tried.needed;
 }
 
 pub returns : goal.returns
@@ -42,22 +40,21 @@ returns c =
     let p = c.args.pack.now in
     let plan = c.args.self.now.packs.items in
     record {
-      room = record {
-        plan = subst (λ l. Has (arguments ssa + length ssa.units) (flat_map units_of plan) l) (sym c.enter.ensures.plan) c.requires.room.plan;
-        longer = c.enter.ensures.longer.long ∙ c.requires.room.plan.long;
-        own = c.enter.ensures.own.long ∙ c.requires.room.own;
+      tried = record {
+        longer = c.enter.ensures.longer.long ∙ c.requires.marks.long;
+        own = c.enter.ensures.own.long ∙ c.requires.tried.own;
         needed =
             let new = (with_items c.enter.new.self.needed c.whole_cost.new.needed).ok.0 in
             let old = c.enter.new.self.needed.ok.0 in
             let long = ap length c.enter.ensures.needed
-            ∙ length-replicate (length c.args.room.now.needed.items) false ∙ c.requires.room.needed in
+            ∙ length-replicate (length c.args.tried.now.needed.items) false ∙ c.requires.tried.needed in
             omega (arith, new, old, long);
       };
       cost = λ deps.
           costs-longer ds c.args.table.now ssa deps c.args.self.now p c.enter.new.self.longer.items c.as_mut_slice-needed.result.now
-          c.recipes_with.new.needed c.in_ok-price.price c.in_ok-recipes.recipes c.in_ok-cost.cost (length c.args.room.now.needed.items)
-          c.requires.stands c.requires.room.needed
-          (marked_longer (arguments ssa + length ssa.units) plan p _ _ c.requires.room.plan c.enter.ensures.longer)
+          c.recipes_with.new.needed c.in_ok-price.price c.in_ok-recipes.recipes c.in_ok-cost.cost (length c.args.tried.now.needed.items)
+          c.requires.stands c.requires.tried.needed
+          (marked_longer (arguments ssa + length ssa.units) plan p _ _ c.requires.marks c.enter.ensures.longer)
           (c.as_mut_slice-needed.ensures.value ∙ c.enter.ensures.needed)
           c.in_ok-recipes.ensures.marks
           (c.in_ok-price.ensures ∙ ap (λ n. c.args.self.now.price + n) c.price_of.ensures)
