@@ -1,5 +1,6 @@
 pub mod Had
 pub mod Lines
+pub mod LongerPlan
 pub mod Marks
 pub mod Places
 pub mod Room

@@ -7,8 +7,9 @@
 //! A plan that grows keeps its cost (`specs/Running.antt`): what is known of each operand that its
 //! packs take (`specs/Taken.antt`), and which descriptions are shuffles (`specs/Shuffling.antt`). By
 //! marks of the units of packs most operands need not be looked at again (`specs/Touch.antt`), and by
-//! the places where packs have values (`specs/Places.antt`) most shuffles need not. A pack behind a
-//! plan is priced in room that is made once for the plan (`specs/Room.antt`).
+//! the places where packs have values (`specs/Places.antt`) most shuffles need not. What is known of a
+//! plan with a pack behind it stands together (`specs/LongerPlan.antt`); such a pack is priced in room
+//! that is made once for the plan (`specs/Room.antt`).
 //!
 //! An `AllocError` is want of memory; nothing else is.
 #![tactic(auto)]
@@ -16,6 +17,7 @@
 mod copies;
 mod cost;
 mod lines;
+mod longer_plan;
 mod marks;
 mod places;
 mod price;

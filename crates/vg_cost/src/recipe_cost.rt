@@ -1,26 +1,24 @@
 //! What the recipe of an operand costs.
 
-ghost use Rattle.std.specs.Prelude.{◌≡◌, ◌&&◌, ◌++◌, ◌∷◌, [], IfOk, false, filter, length, map, nat_eq, nat_lt};
+ghost use Rattle.std.specs.Prelude.{◌≡◌, ◌&&◌, [], IfOk, false, filter, length, nat_eq, nat_lt};
 ghost use Rattle.vg_cost.specs.Had.{costs_had};
-ghost use Rattle.vg_cost.specs.Shuffling.{AreShuffles};
+ghost use Rattle.vg_cost.specs.LongerPlan.{IsKnown, all_packs, described};
 ghost use Rattle.vg_cost.specs.Taken.{inserts_for, recipe_for};
-ghost use Rattle.vg_cost.specs.Touch.{MarkUnits};
 ghost use Rattle.vg_packing.specs.Packing.{packing};
 ghost use Rattle.vg_packing.specs.Shuffles.{shuffles};
 ghost use Rattle.vg_packing.specs.Wants.{is_constant, wants_value};
 ghost use Rattle.vg_plans.specs.World.{is_reused};
-ghost use Rattle.vg_shapes.specs.Description.{description_of};
 
 use crate::copies::longer;
+use crate::longer_plan::LongerPlan;
 use crate::price::plus;
 use crate::recipes::{is_reused, least_of};
 use crate::scan::costs_among;
-use crate::shuffles::Shuffles;
 use crate::touch::may_be_met;
 use std::alloc::{AllocError, Global};
 use vg_packing::held::holds;
 use vg_packing::wants::{is_constant, wanted_values, wants_value};
-use vg_shapes::{Description, Operand, Pack, Slot, Ssa};
+use vg_shapes::{Operand, Slot};
 
 /// What the recipe of an operand costs, and whether it inserts the operand's values.
 #[derive(Clone, Copy)]
@@ -37,44 +35,34 @@ fn is_inserted(values: usize, shuffles: usize) -> bool
 }
 
 /// What the shuffles that make an operand and can be had cost, by a plan with a pack behind it.
-fn costs_behind(
-    alloc: Global,
-    descriptions: &[Description],
-    ssa: &Ssa,
-    plan: &[Pack],
-    pack: &Pack,
-    known: &Shuffles,
-    operand: &Operand,
-) -> Result<Vec<u32>, AllocError>
-    requires { AreShuffles (map description_of descriptions.now) known.now }
-    ensures { IfOk result (λ costs. costs.items ≡ costs_had (map description_of descriptions.now)
-        ssa.now (plan.now ++ pack.now ∷ [])
-        (shuffles (map description_of descriptions.now) operand.now)) }
+fn costs_behind(alloc: Global, plan: &LongerPlan, operand: &Operand) -> Result<Vec<u32>, AllocError>
+    requires { IsKnown plan.now }
+    ensures { IfOk result (λ costs. costs.items ≡ costs_had (described plan.now)
+        plan.now.ssa.now (all_packs plan.now) (shuffles (described plan.now) operand.now)) }
 {
-    let packs = longer(alloc, plan, pack)?;
-    costs_among(alloc, descriptions, ssa, packs.as_slice(), known, operand)
+    let packs = longer(alloc, plan.packs, plan.last)?;
+    costs_among(
+        alloc,
+        plan.descriptions,
+        plan.ssa,
+        packs.as_slice(),
+        plan.shuffles,
+        operand,
+    )
 }
 
 /// What the recipe of an operand costs that is neither reused nor constant.
-fn made_cost(
-    alloc: Global,
-    descriptions: &[Description],
-    ssa: &Ssa,
-    plan: &[Pack],
-    pack: &Pack,
-    known: &Shuffles,
-    operand: &Operand,
-) -> Result<RecipeCost, AllocError>
-    requires shuffles { AreShuffles (map description_of descriptions.now) known.now }
-    requires free { is_reused (packing (map description_of descriptions.now) [] ssa.now [])
-        (plan.now ++ pack.now ∷ []) operand.now ≡ false }
+fn made_cost(alloc: Global, plan: &LongerPlan, operand: &Operand) -> Result<RecipeCost, AllocError>
+    requires known { IsKnown plan.now }
+    requires free { is_reused (packing (described plan.now) [] plan.now.ssa.now [])
+        (all_packs plan.now) operand.now ≡ false }
     requires some { is_constant operand.now ≡ false }
-    ensures { IfOk result (λ r. r ≡ recipe_for (map description_of descriptions.now) ssa.now
-        (plan.now ++ pack.now ∷ []) operand.now) }
+    ensures { IfOk result (λ r. r ≡ recipe_for (described plan.now) plan.now.ssa.now
+        (all_packs plan.now) operand.now) }
 {
     let wanted = wanted_values(alloc, operand)?;
     let wanted = wanted.as_slice();
-    let costs = costs_behind(alloc, descriptions, ssa, plan, pack, known, operand)?;
+    let costs = costs_behind(alloc, plan, operand)?;
     let costs = costs.as_slice();
     let inserts = plus(1, wanted.len() as u64)?;
     Ok(RecipeCost {
@@ -85,34 +73,21 @@ fn made_cost(
 
 #[tactic(auto, using(crate::proofs::MarkTests::any_behind))]
 /// Whether a pack, or one of a plan, holds an operand.
-fn is_reused_behind(
-    descriptions: &[Description],
-    ssa: &Ssa,
-    plan: &[Pack],
-    pack: &Pack,
-    operand: &Operand,
-) -> bool
-    ensures { result ≡ is_reused (packing (map description_of descriptions.now) [] ssa.now [])
-        (plan.now ++ pack.now ∷ []) operand.now }
+fn is_reused_behind(plan: &LongerPlan, operand: &Operand) -> bool
+    ensures { result ≡ is_reused (packing (described plan.now) [] plan.now.ssa.now [])
+        (all_packs plan.now) operand.now }
 {
-    holds(descriptions, ssa, pack, operand) || is_reused(descriptions, ssa, plan, operand)
+    holds(plan.descriptions, plan.ssa, plan.last, operand)
+        || is_reused(plan.descriptions, plan.ssa, plan.packs, operand)
 }
 
 /// What the recipe of an operand costs of which packs may have all values.
-fn met_cost(
-    alloc: Global,
-    descriptions: &[Description],
-    ssa: &Ssa,
-    plan: &[Pack],
-    pack: &Pack,
-    known: &Shuffles,
-    operand: &Operand,
-) -> Result<RecipeCost, AllocError>
-    requires { AreShuffles (map description_of descriptions.now) known.now }
-    ensures { IfOk result (λ r. r ≡ recipe_for (map description_of descriptions.now) ssa.now
-        (plan.now ++ pack.now ∷ []) operand.now) }
+fn met_cost(alloc: Global, plan: &LongerPlan, operand: &Operand) -> Result<RecipeCost, AllocError>
+    requires { IsKnown plan.now }
+    ensures { IfOk result (λ r. r ≡ recipe_for (described plan.now) plan.now.ssa.now
+        (all_packs plan.now) operand.now) }
 {
-    if is_reused_behind(descriptions, ssa, plan, pack, operand) {
+    if is_reused_behind(plan, operand) {
         return Ok(RecipeCost {
             lines: 0,
             is_inserted: false,
@@ -124,7 +99,7 @@ fn met_cost(
             is_inserted: false,
         });
     }
-    made_cost(alloc, descriptions, ssa, plan, pack, known, operand)
+    made_cost(alloc, plan, operand)
 }
 
 /// How many values an operand wants.
@@ -151,21 +126,15 @@ fn unmet_cost(operand: &Operand) -> Result<RecipeCost, AllocError>
 /// holds it.
 pub(crate) fn recipe_cost(
     alloc: Global,
-    descriptions: &[Description],
-    ssa: &Ssa,
-    plan: &[Pack],
-    pack: &Pack,
-    marks: &[bool],
-    known: &Shuffles,
+    plan: &LongerPlan,
     operand: &Operand,
 ) -> Result<RecipeCost, AllocError>
-    requires shuffles { AreShuffles (map description_of descriptions.now) known.now }
-    requires marks { MarkUnits (plan.now ++ pack.now ∷ []) marks.now }
-    ensures { IfOk result (λ r. r ≡ recipe_for (map description_of descriptions.now) ssa.now
-        (plan.now ++ pack.now ∷ []) operand.now) }
+    requires { IsKnown plan.now }
+    ensures { IfOk result (λ r. r ≡ recipe_for (described plan.now) plan.now.ssa.now
+        (all_packs plan.now) operand.now) }
 {
-    if known.are_tight && !may_be_met(marks, operand) {
+    if plan.shuffles.are_tight && !may_be_met(plan.marks, operand) {
         return unmet_cost(operand);
     }
-    met_cost(alloc, descriptions, ssa, plan, pack, known, operand)
+    met_cost(alloc, plan, operand)
 }

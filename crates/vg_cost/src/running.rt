@@ -2,22 +2,22 @@
 
 ghost use Rattle.std.specs.Prelude.{◌≡◌, ◌+◌, ◌++◌, ◌∷◌, [], ℕ, IfOk, List, OnOk, flat_map, length, map, sum_by};
 ghost use Rattle.vg_cost.specs.Lines.{Costs};
-ghost use Rattle.vg_cost.specs.Marks.{Has, Marked};
+ghost use Rattle.vg_cost.specs.LongerPlan.{IsKnown, all_packs, described};
+ghost use Rattle.vg_cost.specs.Marks.{Marked};
 ghost use Rattle.vg_cost.specs.Room.{IsRoomFor};
 ghost use Rattle.vg_cost.specs.Running.{StandsFor, taken_by};
 ghost use Rattle.vg_cost.specs.Taken.{inserted_for};
-ghost use Rattle.vg_cost.specs.Touch.{MarkUnits};
 ghost use Rattle.vg_cost.specs.Tried.{AreMarksFor};
 ghost use Rattle.vg_packing.specs.Laws.{IsPlanFor};
 ghost use Rattle.vg_packing.specs.Packing.{packing};
 ghost use Rattle.vg_packing.specs.Taken.{IsShort, MatchesNear};
 ghost use Rattle.vg_plans.specs.World.{plan_cost};
 ghost use Rattle.vg_shapes.specs.Description.{description_of};
-ghost use Rattle.vg_shapes.specs.Pack.{units_of};
 ghost use Rattle.vg_shapes.specs.Units.{arguments};
 
 use crate::copies::longer;
 use crate::lines::{end_of_units, lines_below, scalar_lines};
+use crate::longer_plan::LongerPlan;
 use crate::price::{plus, price_of};
 use crate::room::Room;
 use crate::shuffles::Shuffles;
@@ -106,11 +106,20 @@ impl Running {
         let mut room = Room::new(alloc, ssa, plan)?;
         let before = room.plan.as_slice();
         room.tried.enter(before, pack);
+        let price = plus(self.price, price_of(descriptions, pack))?;
         let marks = room.tried.longer.as_slice();
         let own = room.tried.own.as_slice();
-        let taken = self.taken_with(alloc, marks, own, pack, descriptions, table, ssa)?;
-        let price = plus(self.price, price_of(descriptions, pack))?;
         let needed = room.tried.needed.as_mut_slice();
+        let grown = LongerPlan {
+            descriptions,
+            ssa,
+            packs: plan,
+            last: pack,
+            marks,
+            own,
+            shuffles: &self.shuffles,
+        };
+        let taken = self.taken_with(alloc, &grown, table)?;
         let recipes = recipes_cost(needed, taken.as_slice())?;
         let cost = whole_cost(ssa, marks, needed, price, recipes)?;
         Ok(Running {
@@ -152,15 +161,15 @@ impl Running {
     }
 
     /// What the plan with a pack behind it costs, by the marks of the units of the plan.
-    fn cost_tried(
-        &self,
+    fn cost_tried<'a>(
+        &'a self,
         alloc: Global,
         plan: &[bool],
         tried: &mut Tried,
-        pack: &Pack,
-        descriptions: &[Description],
+        pack: &'a Pack,
+        descriptions: &'a [Description],
         table: &MatchTable,
-        ssa: &Ssa,
+        ssa: &'a Ssa,
     ) -> Result<u64, AllocError>
         requires near { MatchesNear table.now }
         requires short { IsShort pack.now }
@@ -177,10 +186,20 @@ impl Running {
     {
         tried.enter(plan, pack);
         let price = plus(self.price, price_of(descriptions, pack))?;
+        let packs = self.packs.as_slice();
         let marks = tried.longer.as_slice();
         let own = tried.own.as_slice();
         let needed = tried.needed.as_mut_slice();
-        let recipes = self.recipes_with(alloc, marks, own, needed, pack, descriptions, table, ssa)?;
+        let grown = LongerPlan {
+            descriptions,
+            ssa,
+            packs,
+            last: pack,
+            marks,
+            own,
+            shuffles: &self.shuffles,
+        };
+        let recipes = self.recipes_with(alloc, &grown, needed, table)?;
         let cost = whole_cost(ssa, marks, needed, price, recipes)?;
         Ok(cost)
     }
@@ -189,39 +208,21 @@ impl Running {
     fn taken_with(
         &self,
         alloc: Global,
-        marks: &[bool],
-        own: &[bool],
-        pack: &Pack,
-        descriptions: &[Description],
+        plan: &LongerPlan,
         table: &MatchTable,
-        ssa: &Ssa,
     ) -> Result<Vec<Taken>, AllocError>
         requires near { MatchesNear table.now }
-        requires short { IsShort pack.now }
-        requires stands { StandsFor (map description_of descriptions.now) table.now ssa.now
-            self.now }
-        requires marks { MarkUnits (self.now.packs.items ++ pack.now ∷ []) marks.now }
-        requires own { Has (length own.now) (units_of pack.now) own.now }
-        ensures { IfOk result (λ taken. taken.items ≡ taken_by (map description_of
-            descriptions.now) table.now ssa.now (self.now.packs.items ++ pack.now ∷ [])) }
+        requires short { IsShort plan.now.last.now }
+        requires stands { StandsFor (described plan.now) table.now plan.now.ssa.now self.now }
+        requires packs { plan.now.packs.now ≡ self.now.packs.items }
+        requires plan { IsKnown plan.now }
+        ensures { IfOk result (λ taken. taken.items ≡ taken_by (described plan.now) table.now
+            plan.now.ssa.now (all_packs plan.now)) }
     {
-        let plan = self.packs.as_slice();
-        let known = &self.shuffles;
         let old = self.taken.as_slice();
-        let operands = operands_of(alloc, descriptions, table, ssa, pack)?;
-        let mut taken = keep_all(alloc, descriptions, ssa, plan, pack, marks, own, known, old)?;
-        add_all(
-            alloc,
-            &mut taken,
-            descriptions,
-            ssa,
-            plan,
-            pack,
-            marks,
-            known,
-            &[],
-            operands,
-        )?;
+        let operands = operands_of(alloc, plan.descriptions, table, plan.ssa, plan.last)?;
+        let mut taken = keep_all(alloc, plan, old)?;
+        add_all(alloc, plan, &mut taken, &[], operands)?;
         Ok(taken)
     }
 
@@ -230,56 +231,25 @@ impl Running {
     fn recipes_with(
         &self,
         alloc: Global,
-        marks: &[bool],
-        own: &[bool],
+        plan: &LongerPlan,
         needed: &mut [bool],
-        pack: &Pack,
-        descriptions: &[Description],
         table: &MatchTable,
-        ssa: &Ssa,
     ) -> Result<u64, AllocError>
         requires near { MatchesNear table.now }
-        requires short { IsShort pack.now }
-        requires stands { StandsFor (map description_of descriptions.now) table.now ssa.now
-            self.now }
-        requires marks { MarkUnits (self.now.packs.items ++ pack.now ∷ []) marks.now }
-        requires own { Has (length own.now) (units_of pack.now) own.now }
-        ensures cost { IfOk result (λ c. c ≡ sum_by (λ t. t.recipe.lines) (taken_by
-            (map description_of descriptions.now) table.now ssa.now
-            (self.now.packs.items ++ pack.now ∷ []))) }
-        ensures marks { OnOk result (Marked (flat_map inserted_for (taken_by
-            (map description_of descriptions.now) table.now ssa.now
-            (self.now.packs.items ++ pack.now ∷ []))) needed.old needed.new) }
+        requires short { IsShort plan.now.last.now }
+        requires stands { StandsFor (described plan.now) table.now plan.now.ssa.now self.now }
+        requires packs { plan.now.packs.now ≡ self.now.packs.items }
+        requires plan { IsKnown plan.now }
+        ensures cost { IfOk result (λ c. c ≡ sum_by (λ t. t.recipe.lines)
+            (taken_by (described plan.now) table.now plan.now.ssa.now (all_packs plan.now))) }
+        ensures marks { OnOk result (Marked (flat_map inserted_for (taken_by (described plan.now)
+            table.now plan.now.ssa.now (all_packs plan.now))) needed.old needed.new) }
     {
-        let plan = self.packs.as_slice();
-        let known = &self.shuffles;
         let old = self.taken.as_slice();
-        let operands = operands_of(alloc, descriptions, table, ssa, pack)?;
+        let operands = operands_of(alloc, plan.descriptions, table, plan.ssa, plan.last)?;
         let mut fresh = Vec::new(alloc);
-        add_all(
-            alloc,
-            &mut fresh,
-            descriptions,
-            ssa,
-            plan,
-            pack,
-            marks,
-            known,
-            old,
-            operands,
-        )?;
-        let kept = kept_cost(
-            alloc,
-            needed,
-            descriptions,
-            ssa,
-            plan,
-            pack,
-            marks,
-            own,
-            known,
-            old,
-        )?;
+        add_all(alloc, plan, &mut fresh, old, operands)?;
+        let kept = kept_cost(alloc, plan, needed, old)?;
         let added = recipes_cost(needed, fresh.as_slice())?;
         let recipes = plus(kept, added)?;
         Ok(recipes)

@@ -1,24 +1,23 @@
 //! The operands that a plan takes.
 
-ghost use Rattle.std.specs.Prelude.{◌≡◌, ◌||◌, ◌++◌, ◌∷◌, [], IfOk, OnOk, filter_map, flat_map, map, sum_by};
+ghost use Rattle.std.specs.Prelude.{◌≡◌, ◌||◌, ◌++◌, IfOk, OnOk, filter_map, flat_map, map, sum_by};
 ghost use Rattle.std.specs.List.{list_any, AllByRecursion};
+ghost use Rattle.vg_cost.specs.LongerPlan.{IsKnown, all_packs, described};
 ghost use Rattle.vg_cost.specs.Marks.{Marked};
-ghost use Rattle.vg_cost.specs.Shuffling.{AreShuffles};
 ghost use Rattle.vg_cost.specs.Taken.{add_all, add_taken, inserted_for, kept_for, recipe_for, taken_for, taken_of};
-ghost use Rattle.vg_cost.specs.Touch.{IsKnownBy, MarkUnits};
+ghost use Rattle.vg_cost.specs.Touch.{IsKnownBy};
 ghost use Rattle.vg_packing.specs.SameAs.{same_operand};
 ghost use Rattle.vg_packing.specs.Wants.{value_of};
-ghost use Rattle.vg_shapes.specs.Description.{description_of};
 
 use crate::copies::copy_operand;
 use crate::lines::mark_wanted;
+use crate::longer_plan::LongerPlan;
 use crate::price::plus;
 use crate::recipe_cost::{RecipeCost, recipe_cost};
-use crate::shuffles::Shuffles;
 use crate::touch::may_be_touched;
 use std::alloc::{AllocError, Global};
 use vg_packing::same::is_same_operand;
-use vg_shapes::{Description, Operand, Pack, Slot, Ssa};
+use vg_shapes::{Operand, Slot};
 
 /// An operand that a plan takes, and what its recipe costs.
 #[derive(Drop)]
@@ -27,90 +26,50 @@ pub(crate) struct Taken {
     pub(crate) recipe: RecipeCost,
 }
 
-/// What the recipe of an operand of a plan costs in a longer one, of which the units are marked, and
-/// those of the pack behind the plan. It is looked at again only if the pack may have one of the
-/// operand's values.
-fn kept_recipe(
-    alloc: Global,
-    descriptions: &[Description],
-    ssa: &Ssa,
-    plan: &[Pack],
-    pack: &Pack,
-    marks: &[bool],
-    own: &[bool],
-    known: &Shuffles,
-    taken: &Taken,
-) -> Result<RecipeCost, AllocError>
-    requires shuffles { AreShuffles (map description_of descriptions.now) known.now }
-    requires marks { MarkUnits (plan.now ++ pack.now ∷ []) marks.now }
-    requires known { IsKnownBy (map description_of descriptions.now) ssa.now
-        (plan.now ++ pack.now ∷ []) own.now taken.now }
-    ensures { IfOk result (λ r. r ≡ recipe_for (map description_of descriptions.now) ssa.now
-        (plan.now ++ pack.now ∷ []) taken.now.operand) }
+/// What the recipe of an operand of a plan costs in a longer one. It is looked at again only if the
+/// pack behind the plan may have one of the operand's values.
+fn kept_recipe(alloc: Global, plan: &LongerPlan, taken: &Taken) -> Result<RecipeCost, AllocError>
+    requires plan { IsKnown plan.now }
+    requires known { IsKnownBy (described plan.now) plan.now.ssa.now (all_packs plan.now)
+        plan.now.own.now taken.now }
+    ensures { IfOk result (λ r. r ≡ recipe_for (described plan.now) plan.now.ssa.now
+        (all_packs plan.now) taken.now.operand) }
 {
-    if may_be_touched(own, &taken.operand) {
-        let operand = &taken.operand;
-        return recipe_cost(alloc, descriptions, ssa, plan, pack, marks, known, operand);
+    let operand = &taken.operand;
+    if may_be_touched(plan.own, operand) {
+        return recipe_cost(alloc, plan, operand);
     }
     Ok(taken.recipe)
 }
 
 /// An operand of a plan in a longer one.
-fn keep(
-    alloc: Global,
-    descriptions: &[Description],
-    ssa: &Ssa,
-    plan: &[Pack],
-    pack: &Pack,
-    marks: &[bool],
-    own: &[bool],
-    known: &Shuffles,
-    taken: &Taken,
-) -> Result<Taken, AllocError>
-    requires shuffles { AreShuffles (map description_of descriptions.now) known.now }
-    requires marks { MarkUnits (plan.now ++ pack.now ∷ []) marks.now }
-    requires known { IsKnownBy (map description_of descriptions.now) ssa.now
-        (plan.now ++ pack.now ∷ []) own.now taken.now }
-    ensures { IfOk result (λ t. t ≡ kept_for (map description_of descriptions.now) ssa.now
-        (plan.now ++ pack.now ∷ []) taken.now) }
+fn keep(alloc: Global, plan: &LongerPlan, taken: &Taken) -> Result<Taken, AllocError>
+    requires plan { IsKnown plan.now }
+    requires known { IsKnownBy (described plan.now) plan.now.ssa.now (all_packs plan.now)
+        plan.now.own.now taken.now }
+    ensures { IfOk result (λ t. t ≡ kept_for (described plan.now) plan.now.ssa.now
+        (all_packs plan.now) taken.now) }
 {
     let operand = copy_operand(alloc, &taken.operand)?;
-    let recipe = kept_recipe(
-        alloc,
-        descriptions,
-        ssa,
-        plan,
-        pack,
-        marks,
-        own,
-        known,
-        taken,
-    )?;
+    let recipe = kept_recipe(alloc, plan, taken)?;
     Ok(Taken { operand, recipe })
 }
 
 /// The operands of a plan in a longer one.
 pub(crate) fn keep_all(
     alloc: Global,
-    descriptions: &[Description],
-    ssa: &Ssa,
-    plan: &[Pack],
-    pack: &Pack,
-    marks: &[bool],
-    own: &[bool],
-    known: &Shuffles,
+    plan: &LongerPlan,
     taken: &[Taken],
 ) -> Result<Vec<Taken>, AllocError>
-    requires shuffles { AreShuffles (map description_of descriptions.now) known.now }
-    requires marks { MarkUnits (plan.now ++ pack.now ∷ []) marks.now }
-    requires known { AllByRecursion (IsKnownBy (map description_of descriptions.now) ssa.now
-        (plan.now ++ pack.now ∷ []) own.now) taken.now }
+    requires plan { IsKnown plan.now }
+    requires known { AllByRecursion (IsKnownBy (described plan.now) plan.now.ssa.now
+        (all_packs plan.now) plan.now.own.now) taken.now }
     ensures { IfOk result (λ kept. kept.items ≡ map (kept_for
-        (map description_of descriptions.now) ssa.now (plan.now ++ pack.now ∷ [])) taken.now) }
+        (described plan.now) plan.now.ssa.now (all_packs plan.now)) taken.now) }
 {
     let mut kept = Vec::new(alloc);
     'taken: for one in taken {
-        let longer = keep(alloc, descriptions, ssa, plan, pack, marks, own, known, one)?;
+        let longer = keep(alloc, plan, one)?;
         kept.push(longer)?;
     }
     Ok(kept)
@@ -133,28 +92,22 @@ fn is_there(taken: &[Taken], fresh: &[Taken], operand: &Operand) -> bool
 /// Appends an operand, if it is neither there nor among the operands of a plan.
 fn add_taken(
     alloc: Global,
+    plan: &LongerPlan,
     fresh: &mut Vec<Taken>,
-    descriptions: &[Description],
-    ssa: &Ssa,
-    plan: &[Pack],
-    pack: &Pack,
-    marks: &[bool],
-    known: &Shuffles,
     taken: &[Taken],
     operand: Operand,
 ) -> Result<(), AllocError>
-    requires shuffles { AreShuffles (map description_of descriptions.now) known.now }
-    requires marks { MarkUnits (plan.now ++ pack.now ∷ []) marks.now }
-    ensures { OnOk result (map (kept_for (map description_of descriptions.now) ssa.now
-        (plan.now ++ pack.now ∷ [])) taken.now ++ fresh.new.items ≡ add_taken
-        (taken_for (map description_of descriptions.now) ssa.now (plan.now ++ pack.now ∷ []))
-        (map (kept_for (map description_of descriptions.now) ssa.now (plan.now ++ pack.now ∷ []))
+    requires { IsKnown plan.now }
+    ensures { OnOk result (map (kept_for (described plan.now) plan.now.ssa.now
+        (all_packs plan.now)) taken.now ++ fresh.new.items ≡ add_taken
+        (taken_for (described plan.now) plan.now.ssa.now (all_packs plan.now))
+        (map (kept_for (described plan.now) plan.now.ssa.now (all_packs plan.now))
         taken.now ++ fresh.old.items) operand) }
 {
     if is_there(taken, fresh.as_slice(), &operand) {
         return Ok(());
     }
-    let recipe = recipe_cost(alloc, descriptions, ssa, plan, pack, marks, known, &operand)?;
+    let recipe = recipe_cost(alloc, plan, &operand)?;
     fresh.push(Taken { operand, recipe })?;
     Ok(())
 }
@@ -162,37 +115,20 @@ fn add_taken(
 /// Appends operands, those that are neither there nor among the operands of a plan.
 pub(crate) fn add_all(
     alloc: Global,
+    plan: &LongerPlan,
     fresh: &mut Vec<Taken>,
-    descriptions: &[Description],
-    ssa: &Ssa,
-    plan: &[Pack],
-    pack: &Pack,
-    marks: &[bool],
-    known: &Shuffles,
     taken: &[Taken],
     operands: Vec<Operand>,
 ) -> Result<(), AllocError>
-    requires shuffles { AreShuffles (map description_of descriptions.now) known.now }
-    requires marks { MarkUnits (plan.now ++ pack.now ∷ []) marks.now }
-    ensures { OnOk result (map (kept_for (map description_of descriptions.now) ssa.now
-        (plan.now ++ pack.now ∷ [])) taken.now ++ fresh.new.items ≡ add_all
-        (taken_for (map description_of descriptions.now) ssa.now (plan.now ++ pack.now ∷ []))
-        (map (kept_for (map description_of descriptions.now) ssa.now (plan.now ++ pack.now ∷ []))
+    requires { IsKnown plan.now }
+    ensures { OnOk result (map (kept_for (described plan.now) plan.now.ssa.now
+        (all_packs plan.now)) taken.now ++ fresh.new.items ≡ add_all
+        (taken_for (described plan.now) plan.now.ssa.now (all_packs plan.now))
+        (map (kept_for (described plan.now) plan.now.ssa.now (all_packs plan.now))
         taken.now ++ fresh.old.items) operands.items) }
 {
     'operands: for operand in operands {
-        add_taken(
-            alloc,
-            fresh,
-            descriptions,
-            ssa,
-            plan,
-            pack,
-            marks,
-            known,
-            taken,
-            operand,
-        )?;
+        add_taken(alloc, plan, fresh, taken, operand)?;
     }
     Ok(())
 }
@@ -232,29 +168,20 @@ pub(crate) fn recipes_cost(needed: &mut [bool], taken: &[Taken]) -> Result<u64, 
 /// take.
 pub(crate) fn kept_cost(
     alloc: Global,
+    plan: &LongerPlan,
     needed: &mut [bool],
-    descriptions: &[Description],
-    ssa: &Ssa,
-    plan: &[Pack],
-    pack: &Pack,
-    marks: &[bool],
-    own: &[bool],
-    known: &Shuffles,
     taken: &[Taken],
 ) -> Result<u64, AllocError>
-    requires shuffles { AreShuffles (map description_of descriptions.now) known.now }
-    requires marks { MarkUnits (plan.now ++ pack.now ∷ []) marks.now }
-    requires known { AllByRecursion (IsKnownBy (map description_of descriptions.now) ssa.now
-        (plan.now ++ pack.now ∷ []) own.now) taken.now }
-    ensures cost { IfOk result (λ c. c ≡ sum_by (λ t. (kept_for (map description_of
-        descriptions.now) ssa.now (plan.now ++ pack.now ∷ []) t).recipe.lines) taken.now) }
-    ensures marks { OnOk result (Marked (flat_map (λ t. inserted_for (kept_for (map description_of
-        descriptions.now) ssa.now (plan.now ++ pack.now ∷ []) t)) taken.now) needed.old
+    requires plan { IsKnown plan.now }
+    requires known { AllByRecursion (IsKnownBy (described plan.now) plan.now.ssa.now
+        (all_packs plan.now) plan.now.own.now) taken.now }
+    ensures cost { IfOk result (λ c. c ≡ sum_by (λ t. (kept_for (described plan.now) plan.now.ssa.now (all_packs plan.now) t).recipe.lines) taken.now) }
+    ensures marks { OnOk result (Marked (flat_map (λ t. inserted_for (kept_for (described plan.now) plan.now.ssa.now (all_packs plan.now) t)) taken.now) needed.old
         needed.new) }
 {
     let mut sum = 0u64;
     'taken: for one in taken {
-        let recipe = kept_recipe(alloc, descriptions, ssa, plan, pack, marks, own, known, one)?;
+        let recipe = kept_recipe(alloc, plan, one)?;
         mark_inserted(needed, &one.operand, recipe);
         sum = plus(sum, recipe.lines)?;
     }

@@ -1,15 +1,15 @@
-use Rattle.std.proofs.Common.{◌≡◌, ◌∙◌, ◌++◌, ◌∷◌, [], map, subst, sym}
+use Rattle.std.proofs.Common.{◌≡◌, ◌∙◌, subst, sym}
 use Rattle.std.specs.Result.{IfOk}
-use Rattle.vg_shapes.specs.Description.{description_of}
+use Rattle.vg_cost.specs.LongerPlan.{all_packs, described}
 use Rattle.vg_cost.proofs.Known.{unmet_is}
 use Rattle.vg_cost.proofs.MarkTests.{unmet_by}
 use Rattle.vg_cost.proofs.recipe_cost.recipe_cost.Goals as goal
 
 pub returns-then-not-may_be_met : goal.returns-then-not-may_be_met
 returns-then-not-may_be_met c =
-    let plan = c.args.plan.now ++ c.args.pack.now ∷ [] in
+    let plan = all_packs c.args.plan.now in
     subst (λ k. IfOk c.unmet_cost.result (λ r. r ≡ k))
-    (unmet_is (map description_of c.args.descriptions.now) c.args.ssa.now plan c.args.operand.now
-    (unmet_by plan c.args.marks.now c.args.operand.now c.requires.marks
-    (sym c.may_be_met.ensures ∙ c.if-not-may_be_met.true)) (sym c.requires.shuffles.tight ∙ c.if-known.true))
+    (unmet_is (described c.args.plan.now) c.args.plan.now.ssa.now plan c.args.operand.now
+    (unmet_by plan c.args.plan.now.marks.now c.args.operand.now c.requires.marks
+    (sym c.may_be_met.ensures ∙ c.if-not-may_be_met.true)) (sym c.requires.shuffles.tight ∙ c.if-plan.true))
     c.unmet_cost.ensures

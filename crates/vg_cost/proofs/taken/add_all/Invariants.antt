@@ -1,13 +1,13 @@
-use Rattle.std.proofs.Common.{◌≡◌, ◌++◌, ◌∷◌, [], map}
+use Rattle.std.proofs.Common.{◌≡◌, ◌++◌, map}
 use Rattle.std.specs.Vec.Iter.{into_iter_items}
-use Rattle.vg_shapes.specs.Description.{description_of}
+use Rattle.vg_cost.specs.LongerPlan.{all_packs, described}
 use Rattle.vg_cost.specs.Taken.{add_all, kept_for, taken_for}
 use Rattle.vg_cost.proofs.taken.add_all.Given as goal
 
 abbrev pub invariant-operands : goal.invariant-operands
 invariant-operands l =
-    let ds = map description_of l.descriptions in
-    let longer = l.plan ++ l.pack ∷ [] in
-    let kept = map (kept_for ds l.ssa longer) l.taken in
-    add_all (taken_for ds l.ssa longer) (kept ++ l.fresh.items) (into_iter_items l.operand-iterator)
-    ≡ add_all (taken_for ds l.ssa longer) (kept ++ l.initial.fresh.items) l.fn.operands.items
+    let ds = described l.plan in
+    let longer = all_packs l.plan in
+    let kept = map (kept_for ds l.plan.ssa.now longer) l.taken in
+    add_all (taken_for ds l.plan.ssa.now longer) (kept ++ l.fresh.items) (into_iter_items l.operand-iterator)
+    ≡ add_all (taken_for ds l.plan.ssa.now longer) (kept ++ l.initial.fresh.items) l.fn.operands.items

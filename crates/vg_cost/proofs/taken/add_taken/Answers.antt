@@ -1,7 +1,7 @@
-use Rattle.std.proofs.Common.{◌∙◌, ◌++◌, ◌∷◌, [], ap, map}
+use Rattle.std.proofs.Common.{◌∙◌, ◌++◌, ap, map}
 use Rattle.std.specs.List.{list_any}
 use Rattle.std.specs.Prelude.{◌||◌}
-use Rattle.vg_shapes.specs.Description.{description_of}
+use Rattle.vg_cost.specs.LongerPlan.{all_packs, described}
 use Rattle.vg_packing.specs.SameAs.{same_operand}
 use Rattle.vg_cost.specs.Taken.{kept_for, taken_for, taken_of}
 use Rattle.vg_cost.proofs.Growing.{added_fresh, not_added, there}
@@ -9,24 +9,24 @@ use Rattle.vg_cost.proofs.taken.add_taken.Goals as goal
 
 pub returns-then-is_there : goal.returns-then-is_there
 returns-then-is_there c =
-    let ds = map description_of c.args.descriptions.now in
-    let longer = c.args.plan.now ++ c.args.pack.now ∷ [] in
+    let ds = described c.args.plan.now in
+    let longer = all_packs c.args.plan.now in
     let old = c.args.taken.now in
-    not_added (taken_for ds c.args.ssa.now longer)
-    (map (kept_for ds c.args.ssa.now longer) old ++ c.args.fresh.now.items) c.args.operand
-    (there ds c.args.ssa.now longer c.args.operand old c.args.fresh.now.items c.is_there.result
+    not_added (taken_for ds c.args.plan.now.ssa.now longer)
+    (map (kept_for ds c.args.plan.now.ssa.now longer) old ++ c.args.fresh.now.items) c.args.operand
+    (there ds c.args.plan.now.ssa.now longer c.args.operand old c.args.fresh.now.items c.is_there.result
     (c.is_there.ensures ∙ ap (λ f. list_any (λ t. same_operand c.args.operand t.operand) old
     || list_any (λ t. same_operand c.args.operand t.operand) f) c.as_slice.ensures.value)
     ∙ c.if-is_there.true)
 
 pub returns : goal.returns
 returns c =
-    let ds = map description_of c.args.descriptions.now in
-    let longer = c.args.plan.now ++ c.args.pack.now ∷ [] in
+    let ds = described c.args.plan.now in
+    let longer = all_packs c.args.plan.now in
     let old = c.args.taken.now in
-    added_fresh (taken_for ds c.args.ssa.now longer) (map (kept_for ds c.args.ssa.now longer) old)
+    added_fresh (taken_for ds c.args.plan.now.ssa.now longer) (map (kept_for ds c.args.plan.now.ssa.now longer) old)
     c.args.fresh.now.items _ c.args.operand (taken_of c.args.operand c.in_ok-recipe.recipe)
-    (there ds c.args.ssa.now longer c.args.operand old c.args.fresh.now.items c.is_there.result
+    (there ds c.args.plan.now.ssa.now longer c.args.operand old c.args.fresh.now.items c.is_there.result
     (c.is_there.ensures ∙ ap (λ f. list_any (λ t. same_operand c.args.operand t.operand) old
     || list_any (λ t. same_operand c.args.operand t.operand) f) c.as_slice.ensures.value)
     ∙ c.if-is_there.false)

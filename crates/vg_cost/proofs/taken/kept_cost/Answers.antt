@@ -1,8 +1,8 @@
-use Rattle.std.proofs.Common.{◌∙◌, ◌++◌, ◌∷◌, [], ap, map, refl, subst, sym}
+use Rattle.std.proofs.Common.{◌∙◌, ap, refl, subst, sym}
 use Rattle.std.specs.List.{flat_map, sum_by}
 use Rattle.std.proofs.lemmas.Grind.{flat_map-append}
 use Rattle.std.proofs.lemmas.List.{append-nil, take_all}
-use Rattle.vg_shapes.specs.Description.{description_of}
+use Rattle.vg_cost.specs.LongerPlan.{all_packs, described}
 use Rattle.vg_cost.specs.Marks.{Marked}
 use Rattle.vg_cost.specs.Taken.{inserted_for, kept_for, taken_of}
 use Rattle.vg_cost.specs.Touch.{IsKnownBy}
@@ -12,10 +12,9 @@ use Rattle.vg_cost.proofs.taken.kept_cost.Goals as goal
 
 pub kept_recipe-requires : goal.kept_recipe-requires
 kept_recipe-requires c = record {
-  shuffles = c.requires.shuffles;
-  marks = c.requires.marks;
-  known = all_at (IsKnownBy (map description_of c.args.descriptions.now) c.args.ssa.now
-      (c.args.plan.now ++ c.args.pack.now ∷ []) c.args.own.now)
+  plan = c.requires.plan;
+  known = all_at (IsKnownBy (described c.args.plan.now) c.args.plan.now.ssa.now
+      (all_packs c.args.plan.now) c.args.plan.now.own.now)
       c.args.taken.now c.taken.one-index c.one-item.result c.one-item.result c.requires.known c.taken-test.true c.one-item.is;
 }
 
@@ -25,7 +24,7 @@ taken-init c = (refl, marked_none _)
 pub taken-preserved : goal.taken-preserved
 taken-preserved c =
     let x = c.one-item.result in
-    let kept = kept_for (map description_of c.args.descriptions.now) c.args.ssa.now (c.args.plan.now ++ c.args.pack.now ∷ []) in
+    let kept = kept_for (described c.args.plan.now) c.args.plan.now.ssa.now (all_packs c.args.plan.now) in
     let same = ap (taken_of x.operand) c.in_ok-recipe.ensures in (
       sum_more c.args.taken.now c.taken.one-index x x c.taken-test.true c.one-item.is
           (λ t. (kept t).recipe.lines) _ _ _ c.taken.invariant.0 (ap (λ t. t.lines) c.in_ok-recipe.ensures) c.in_ok-sum.ensures,
@@ -37,7 +36,7 @@ taken-preserved c =
 
 pub returns : goal.returns
 returns c =
-    let kept = kept_for (map description_of c.args.descriptions.now) c.args.ssa.now (c.args.plan.now ++ c.args.pack.now ∷ []) in
+    let kept = kept_for (described c.args.plan.now) c.args.plan.now.ssa.now (all_packs c.args.plan.now) in
     record {
       cost = c.taken.invariant.0 ∙ ap (sum_by (λ t. (kept t).recipe.lines)) (take_all c.taken.one-index c.args.taken.now c.taken-test.false);
       marks = marked_all (flat_map (λ t. inserted_for (kept t))) c.args.taken.now c.taken.one-index _ _ c.taken-test.false

@@ -1,9 +1,10 @@
 use Rattle.std.proofs.Common.{◌≡◌, ◌∙◌, ◌+◌, ◌++◌, ◌∷◌, [], ap, length, map, subst, sym}
 use Rattle.std.specs.List.{flat_map, sum_by}
 use Rattle.vg_shapes.specs.Description.{description_of}
+use Rattle.vg_shapes.specs.Pack.{units_of}
 use Rattle.vg_shapes.specs.Units.{arguments}
 use Rattle.vg_cost.specs.Lines.{Costs}
-use Rattle.vg_cost.specs.Marks.{Marked}
+use Rattle.vg_cost.specs.Marks.{Has, Marked}
 use Rattle.vg_cost.specs.Taken.{inserted_for}
 use Rattle.vg_cost.specs.Touch.{MarkUnits}
 use Rattle.vg_cost.proofs.Growing.{costs-longer, stands-longer}
@@ -12,17 +13,20 @@ use Rattle.vg_cost.proofs.running.Running.with.Goals as goal
 use Rattle.vg_cost.specs.Room.{IsRoomFor}
 use Rattle.vg_cost.specs.Running.{taken_by}
 
-pub taken_with-requires-clause-marks : goal.taken_with-requires-clause-marks
-taken_with-requires-clause-marks c =
+pub taken_with-requires-clause-plan : goal.taken_with-requires-clause-plan
+taken_with-requires-clause-plan c =
     let ssa = c.args.ssa.now in
     let p = c.args.pack.now in
-    let plan = c.args.self.now.packs.items in
+    let plan = c.as_slice-plan.result.now in
     let room : IsRoomFor ssa plan c.as_slice-before.result.now =
-    subst (λ m. IsRoomFor ssa plan m) (sym (c.as_slice-before.ensures.value ∙ c.room.view_is))
-    (subst (λ l. IsRoomFor ssa l c.in_ok-room.room) c.as_slice-plan.ensures.value c.in_ok-room.ensures)
+    subst (λ m. IsRoomFor ssa plan m) (sym (c.as_slice-before.ensures.value ∙ c.room.view_is)) c.in_ok-room.ensures
     in
-    subst (MarkUnits (plan ++ p ∷ [])) (sym c.as_slice-marks.ensures.value)
-    (own_count _ _ _ (marked_longer (arguments ssa + length ssa.units) plan p _ _ room c.enter.ensures.longer))
+    record {
+      shuffles = c.requires.stands.shuffles;
+      marks = subst (MarkUnits (plan ++ p ∷ [])) (sym c.as_slice-marks.ensures.value)
+          (own_count _ _ _ (marked_longer (arguments ssa + length ssa.units) plan p _ _ room c.enter.ensures.longer));
+      own = subst (λ l. Has (length l) (units_of p) l) (sym c.as_slice-own.ensures.value) (own_count _ _ _ c.enter.ensures.own);
+    }
 
 pub returns-clause-stands : goal.returns-clause-stands
 returns-clause-stands c =
@@ -35,13 +39,14 @@ returns-clause-stands c =
     subst (λ m. IsRoomFor ssa plan m) (sym (c.as_slice-before.ensures.value ∙ c.room.view_is))
     (subst (λ l. IsRoomFor ssa l c.in_ok-room.room) c.as_slice-plan.ensures.value c.in_ok-room.ensures)
     in
-    let taken : c.as_slice.result.now ≡ taken_by ds matches ssa (plan ++ p ∷ []) = c.as_slice.ensures.value ∙ c.in_ok-taken.ensures in
+    let taken : c.as_slice.result.now ≡ taken_by ds matches ssa (plan ++ p ∷ []) = c.as_slice.ensures.value ∙ c.in_ok-taken.ensures
+    ∙ ap (λ q. taken_by ds matches ssa (q ++ p ∷ [])) c.as_slice-plan.ensures.value in
     let paid = c.in_ok-price.ensures ∙ ap (λ n. c.args.self.now.price + n) c.price_of.ensures in
     stands-longer ds matches ssa c.args.self.now p
     record { packs = c.in_ok-longer.field-0; taken = c.in_ok-taken.taken; shuffles = c.in_ok-copy.field-0; price = c.in_ok-price.price; cost = c.in_ok-cost.cost }
     c.requires.stands c.requires.short c.in_ok-copy.ensures.numbers c.in_ok-copy.ensures.tight
     (c.in_ok-longer.ensures ∙ ap (λ l. l ++ p ∷ []) c.as_slice-plan.ensures.value)
-    c.in_ok-taken.ensures paid
+    (c.in_ok-taken.ensures ∙ ap (λ q. taken_by ds matches ssa (q ++ p ∷ [])) c.as_slice-plan.ensures.value) paid
     (λ deps.
     costs-longer ds matches ssa deps c.args.self.now p c.enter.new.self.longer.items c.as_mut_slice-needed.result.now
     c.recipes_cost.new.needed c.in_ok-price.price c.in_ok-recipes.recipes c.in_ok-cost.cost (length c.room.inside.tried.needed.items)
