@@ -6,3 +6,4 @@ pub mod Kept
 pub mod Key
 pub mod Met
 pub mod Priced
+pub mod SearchSpace

@@ -4,7 +4,6 @@ ghost use Rattle.std.specs.Prelude.{◌≡◌, ◌<◌, [], IfOk, None, OnOk, ge
 ghost use Rattle.std.specs.List.{position};
 ghost use Rattle.vg_packing.specs.SameAs.{same_pack};
 ghost use Rattle.vg_packing.specs.Taken.{MatchesNear};
-ghost use Rattle.vg_shapes.specs.Description.{description_of};
 ghost use Rattle.vg_beam.specs.Board.{
   AreNumbered,
   IsBoard,
@@ -14,13 +13,15 @@ ghost use Rattle.vg_beam.specs.Board.{
   produced_at,
 };
 ghost use Rattle.vg_beam.specs.Key.{first_place};
+ghost use Rattle.vg_beam.specs.SearchSpace.{described};
 
 use crate::packs::copy_pack;
+use crate::search_space::SearchSpace;
 use std::alloc::{AllocError, Global};
 use vg_base::Items;
 use vg_packing::same::is_same_pack;
 use vg_packs::produced;
-use vg_shapes::{Description, MatchTable, Pack, Ssa};
+use vg_shapes::Pack;
 
 /// The greatest number of packs.
 const MOST: usize = 1 << 24;
@@ -69,17 +70,11 @@ impl Board {
 
     /// The number of a pack, which is put on the board if it is not there. Where there are some 2^24
     /// packs there is no memory.
-    fn number(
-        &mut self,
-        alloc: Global,
-        pack: &Pack,
-        descriptions: &[Description],
-        table: &MatchTable,
-        ssa: &Ssa,
-    ) -> Result<u32, AllocError>
-        requires board { IsBoard (map description_of descriptions.now) table.now ssa.now self.old }
-        ensures { IfOk result (IsNumbered (map description_of descriptions.now) table.now ssa.now
-            self.old self.new pack.now) }
+    fn number(&mut self, alloc: Global, pack: &Pack, space: &SearchSpace) -> Result<u32, AllocError>
+        requires board { IsBoard (described space.now) space.now.table.now space.now.ssa.now
+            self.old }
+        ensures { IfOk result (IsNumbered (described space.now) space.now.table.now
+            space.now.ssa.now self.old self.new pack.now) }
     {
         let place = place_of(self.packs.as_slice(), pack);
         if place >= MOST {
@@ -99,17 +94,16 @@ impl Board {
         &mut self,
         alloc: Global,
         packs: &[Pack],
-        descriptions: &[Description],
-        table: &MatchTable,
-        ssa: &Ssa,
+        space: &SearchSpace,
     ) -> Result<Vec<u32>, AllocError>
-        requires board { IsBoard (map description_of descriptions.now) table.now ssa.now self.old }
-        ensures { IfOk result (λ numbers. AreNumbered (map description_of descriptions.now)
-            table.now ssa.now self.old self.new packs.now numbers.items) }
+        requires board { IsBoard (described space.now) space.now.table.now space.now.ssa.now
+            self.old }
+        ensures { IfOk result (λ numbers. AreNumbered (described space.now)
+            space.now.table.now space.now.ssa.now self.old self.new packs.now numbers.items) }
     {
         let mut numbers = Vec::new(alloc);
         'packs: for pack in packs {
-            let number = self.number(alloc, pack, descriptions, table, ssa)?;
+            let number = self.number(alloc, pack, space)?;
             numbers.push(number)?;
         }
         Ok(numbers)
@@ -127,21 +121,26 @@ impl Board {
         &mut self,
         alloc: Global,
         number: u32,
-        descriptions: &[Description],
-        table: &MatchTable,
-        ssa: &Ssa,
+        space: &SearchSpace,
     ) -> Result<(), AllocError>
-        requires near { MatchesNear table.now }
+        requires near { MatchesNear space.now.table.now }
         requires number { number < length self.old.packs.items }
-        requires board { IsBoard (map description_of descriptions.now) table.now ssa.now self.old }
-        ensures { OnOk result (IsOpened (map description_of descriptions.now) table.now ssa.now
+        requires board { IsBoard (described space.now) space.now.table.now space.now.ssa.now
+            self.old }
+        ensures { OnOk result (IsOpened (described space.now) space.now.table.now space.now.ssa.now
             self.old self.new number) }
     {
         if self.is_open(number) {
             return Ok(());
         }
-        let packs = produced(alloc, descriptions, table, ssa, self.pack(number))?;
-        let numbers = self.number_all(alloc, packs.as_slice(), descriptions, table, ssa)?;
+        let packs = produced(
+            alloc,
+            space.descriptions,
+            space.table,
+            space.ssa,
+            self.pack(number),
+        )?;
+        let numbers = self.number_all(alloc, packs.as_slice(), space)?;
         self.produced[number as usize] = Some(Items::from_vec(numbers));
         Ok(())
     }

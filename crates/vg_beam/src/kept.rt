@@ -3,19 +3,19 @@
 ghost use Rattle.std.specs.Prelude.{◌≡◌, ◌<◌, ◌++◌, [], IfOk, OnOk, length, map};
 ghost use Rattle.vg_packing.specs.Taken.{MatchesNear};
 ghost use Rattle.vg_plans.specs.Members.{Every, Has};
-ghost use Rattle.vg_shapes.specs.Description.{description_of};
 ghost use Rattle.vg_beam.specs.Board.{IsBoard};
 ghost use Rattle.vg_beam.specs.Candidate.{AreGrown, CanGrow, IsGrown};
 ghost use Rattle.vg_beam.specs.Kept.{IsKept, plan_at, plan_of};
+ghost use Rattle.vg_beam.specs.SearchSpace.{described};
 
 use crate::board::Board;
 use crate::candidate::Candidate;
 use crate::key::with_number;
+use crate::search_space::SearchSpace;
 use std::alloc::{AllocError, Global};
 use vg_base::Items;
 use vg_cost::Running;
 use vg_packs::store_groups;
-use vg_shapes::{Description, MatchTable, Ssa};
 
 /// A plan that may grow: the plan with its cost, the numbers of its packs, rising, and the numbers of
 /// the packs that are tried behind it.
@@ -39,21 +39,19 @@ pub(crate) fn kept_at(level: &[Kept], place: usize) -> &Kept
 pub(crate) fn empty_plan(
     alloc: Global,
     board: &mut Board,
-    descriptions: &[Description],
-    table: &MatchTable,
-    ssa: &Ssa,
+    space: &SearchSpace,
 ) -> Result<Kept, AllocError>
-    requires near { MatchesNear table.now }
-    requires board { IsBoard (map description_of descriptions.now) table.now ssa.now board.old }
-    ensures board { OnOk result (IsBoard (map description_of descriptions.now) table.now ssa.now
+    requires near { MatchesNear space.now.table.now }
+    requires board { IsBoard (described space.now) space.now.table.now space.now.ssa.now board.old }
+    ensures board { OnOk result (IsBoard (described space.now) space.now.table.now space.now.ssa.now
         board.new) }
-    ensures kept { IfOk result (IsKept (map description_of descriptions.now) table.now ssa.now
+    ensures kept { IfOk result (IsKept (described space.now) space.now.table.now space.now.ssa.now
         board.new.packs.items) }
     ensures plan { IfOk result (λ kept. plan_of kept ≡ []) }
 {
-    let running = Running::new(alloc, descriptions, table, ssa)?;
-    let groups = store_groups(alloc, ssa)?;
-    let tried = board.number_all(alloc, groups.as_slice(), descriptions, table, ssa)?;
+    let running = Running::new(alloc, space.descriptions, space.table, space.ssa)?;
+    let groups = store_groups(alloc, space.ssa)?;
+    let tried = board.number_all(alloc, groups.as_slice(), space)?;
     Ok(Kept {
         running,
         key: Items::from_vec(Vec::new(alloc)),
@@ -76,24 +74,24 @@ fn grow(
     board: &mut Board,
     level: &[Kept],
     candidate: &Candidate,
-    descriptions: &[Description],
-    table: &MatchTable,
-    ssa: &Ssa,
+    space: &SearchSpace,
 ) -> Result<Kept, AllocError>
-    requires near { MatchesNear table.now }
-    requires board { IsBoard (map description_of descriptions.now) table.now ssa.now board.old }
-    requires level { Every (IsKept (map description_of descriptions.now) table.now ssa.now
+    requires near { MatchesNear space.now.table.now }
+    requires board { IsBoard (described space.now) space.now.table.now space.now.ssa.now board.old }
+    requires level { Every (IsKept (described space.now) space.now.table.now space.now.ssa.now
         board.old.packs.items) level.now }
-    requires candidate { CanGrow (map description_of descriptions.now) table.now ssa.now
+    requires candidate { CanGrow (described space.now) space.now.table.now space.now.ssa.now
         board.old.packs.items level.now candidate.now }
-    ensures { IfOk result (IsGrown (map description_of descriptions.now) table.now ssa.now
+    ensures { IfOk result (IsGrown (described space.now) space.now.table.now space.now.ssa.now
         board.old board.new level.now candidate.now) }
 {
     let parent = kept_at(level, candidate.parent);
     let pack = board.pack(candidate.pack);
-    let running = parent.running.with(alloc, pack, descriptions, table, ssa)?;
+    let running = parent
+        .running
+        .with(alloc, pack, space.descriptions, space.table, space.ssa)?;
     let key = with_number(alloc, parent.key.as_slice(), candidate.pack)?;
-    board.open(alloc, candidate.pack, descriptions, table, ssa)?;
+    board.open(alloc, candidate.pack, space)?;
     let produced = board.produced(candidate.pack);
     let tried = joined(alloc, parent.tried.as_slice(), produced)?;
     Ok(Kept {
@@ -109,22 +107,20 @@ pub(crate) fn grow_all(
     board: &mut Board,
     level: &[Kept],
     candidates: &[Candidate],
-    descriptions: &[Description],
-    table: &MatchTable,
-    ssa: &Ssa,
+    space: &SearchSpace,
 ) -> Result<Vec<Kept>, AllocError>
-    requires near { MatchesNear table.now }
-    requires board { IsBoard (map description_of descriptions.now) table.now ssa.now board.old }
-    requires level { Every (IsKept (map description_of descriptions.now) table.now ssa.now
+    requires near { MatchesNear space.now.table.now }
+    requires board { IsBoard (described space.now) space.now.table.now space.now.ssa.now board.old }
+    requires level { Every (IsKept (described space.now) space.now.table.now space.now.ssa.now
         board.old.packs.items) level.now }
-    requires candidates { Every (CanGrow (map description_of descriptions.now) table.now ssa.now
+    requires candidates { Every (CanGrow (described space.now) space.now.table.now space.now.ssa.now
         board.old.packs.items level.now) candidates.now }
-    ensures { IfOk result (λ next. AreGrown (map description_of descriptions.now) table.now
-        ssa.now board.old board.new level.now candidates.now next.items) }
+    ensures { IfOk result (λ next. AreGrown (described space.now) space.now.table.now
+        space.now.ssa.now board.old board.new level.now candidates.now next.items) }
 {
     let mut next = Vec::new(alloc);
     'candidates: for candidate in candidates {
-        let kept = grow(alloc, board, level, candidate, descriptions, table, ssa)?;
+        let kept = grow(alloc, board, level, candidate, space)?;
         next.push(kept)?;
     }
     Ok(next)

@@ -14,5 +14,6 @@ mod met;
 mod packs;
 mod priced_plan;
 mod search;
+mod search_space;
 
 pub use choosing::choose;

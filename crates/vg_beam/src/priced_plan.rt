@@ -7,19 +7,20 @@ ghost use Rattle.vg_packing.specs.Taken.{MatchesNear};
 ghost use Rattle.vg_packs.specs.Walk.{NameEarlierUnits};
 ghost use Rattle.vg_plans.specs.Levels.{first_least};
 ghost use Rattle.vg_plans.specs.Members.{Every};
-ghost use Rattle.vg_shapes.specs.Description.{description_of};
 ghost use Rattle.vg_beam.specs.Candidate.{IsPlaced, grown_plan};
 ghost use Rattle.vg_beam.specs.Chosen.{HaveShortPacks};
 ghost use Rattle.vg_beam.specs.Priced.{priced_plans};
+ghost use Rattle.vg_beam.specs.SearchSpace.{described};
 
 use crate::board::Board;
 use crate::candidate::{Candidate, least_below};
 use crate::kept::{Kept, kept_at};
 use crate::packs::{copy_pack, copy_packs};
+use crate::search_space::SearchSpace;
 use std::alloc::{AllocError, Global};
 use vg_cost::plan_cost;
 use vg_packs::plain_plan;
-use vg_shapes::{DepList, Description, MatchTable, Plan, Ssa};
+use vg_shapes::Plan;
 
 /// A plan and its cost.
 #[derive(Drop)]
@@ -29,27 +30,27 @@ pub(crate) struct PricedPlan {
 }
 
 /// The empty plan, or the plain plan where that costs less.
-pub(crate) fn first_plan(
-    alloc: Global,
-    descriptions: &[Description],
-    table: &MatchTable,
-    ssa: &Ssa,
-    deps: &DepList,
-) -> Result<PricedPlan, AllocError>
-    requires near { MatchesNear table.now }
-    requires earlier { NameEarlierUnits ssa.now deps.now }
-    requires short { HaveShortPacks (map description_of descriptions.now) table.now ssa.now
-        deps.now }
-    ensures plan { IfOk result (λ first. first.plan ≡ first_least (cost_of (map description_of
-        descriptions.now) table.now ssa.now deps.now) [] (plain_of (map description_of
-        descriptions.now) table.now ssa.now deps.now ∷ [])) }
-    ensures cost { IfOk result (λ first. first.cost ≡ cost_of (map description_of
-        descriptions.now) table.now ssa.now deps.now first.plan) }
+pub(crate) fn first_plan(alloc: Global, space: &SearchSpace) -> Result<PricedPlan, AllocError>
+    requires near { MatchesNear space.now.table.now }
+    requires earlier { NameEarlierUnits space.now.ssa.now space.now.deps.now }
+    requires short { HaveShortPacks (described space.now) space.now.table.now space.now.ssa.now
+        space.now.deps.now }
+    ensures plan { IfOk result (λ first. first.plan ≡ first_least (cost_of (described space.now)
+        space.now.table.now space.now.ssa.now space.now.deps.now) [] (plain_of (described space.now)
+        space.now.table.now space.now.ssa.now space.now.deps.now ∷ [])) }
+    ensures cost { IfOk result (λ first. first.cost ≡ cost_of (described space.now)
+        space.now.table.now space.now.ssa.now space.now.deps.now first.plan) }
 {
-    let plain = plain_plan(alloc, descriptions, table, ssa, deps)?;
+    let plain = plain_plan(
+        alloc,
+        space.descriptions,
+        space.table,
+        space.ssa,
+        space.deps,
+    )?;
     let empty = Plan::from_vec(Vec::new(alloc));
-    let plain_cost = plan_cost(alloc, &plain, descriptions, table, ssa)?;
-    let empty_cost = plan_cost(alloc, &empty, descriptions, table, ssa)?;
+    let plain_cost = plan_cost(alloc, &plain, space.descriptions, space.table, space.ssa)?;
+    let empty_cost = plan_cost(alloc, &empty, space.descriptions, space.table, space.ssa)?;
     if plain_cost < empty_cost {
         Ok(PricedPlan {
             plan: plain,

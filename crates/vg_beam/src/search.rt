@@ -3,29 +3,28 @@
 ghost use Rattle.std.specs.Prelude.{◌≡◌, ◌<◌, ◌∷◌, [], IfOk, OnOk, length, map};
 ghost use Rattle.vg_cost.specs.Room.{IsRoomFor};
 ghost use Rattle.vg_packing.specs.Laws.{IsPlanFor};
-ghost use Rattle.vg_packing.specs.Packing.{packing};
 ghost use Rattle.vg_packing.specs.Taken.{MatchesNear};
 ghost use Rattle.vg_packs.specs.PlanMarks.{MarksPlan};
 ghost use Rattle.vg_packs.specs.Walk.{NameEarlierUnits};
 ghost use Rattle.vg_plans.specs.Levels.{candidates};
 ghost use Rattle.vg_plans.specs.Members.{Every, Has};
 ghost use Rattle.vg_plans.specs.World.{follows, same_packs, tried};
-ghost use Rattle.vg_shapes.specs.Description.{description_of};
 ghost use Rattle.vg_beam.specs.Board.{IsBoard, pack_at};
 ghost use Rattle.vg_beam.specs.Candidate.{IsCandidate, grown_plans};
 ghost use Rattle.vg_beam.specs.Chosen.{HaveShortPacks};
 ghost use Rattle.vg_beam.specs.Kept.{IsKept, plan_at, plans_of};
 ghost use Rattle.vg_beam.specs.Met.{IsMet, Meets};
+ghost use Rattle.vg_beam.specs.SearchSpace.{described, world_of};
 
 use crate::board::Board;
 use crate::candidate::Candidate;
 use crate::kept::{Kept, kept_at};
 use crate::key::with_number;
 use crate::met::Met;
+use crate::search_space::SearchSpace;
 use std::alloc::{AllocError, Global};
 use vg_cost::Room;
 use vg_packs::PlanMarks;
-use vg_shapes::{DepList, Description, MatchTable, Ssa};
 
 /// Meets a plan of a level with a pack behind it that is tried there, if it stays a plan and none of the
 /// same packs was met.
@@ -38,31 +37,28 @@ fn meet(
     room: &mut Room,
     pack: u32,
     met: &mut Met,
-    descriptions: &[Description],
-    table: &MatchTable,
-    ssa: &Ssa,
-    deps: &DepList,
+    space: &SearchSpace,
 ) -> Result<(), AllocError>
-    requires near { MatchesNear table.now }
-    requires earlier { NameEarlierUnits ssa.now deps.now }
-    requires short { HaveShortPacks (map description_of descriptions.now) table.now ssa.now
-        deps.now }
-    requires board { IsBoard (map description_of descriptions.now) table.now ssa.now board.now }
-    requires level { Every (IsKept (map description_of descriptions.now) table.now ssa.now
+    requires near { MatchesNear space.now.table.now }
+    requires earlier { NameEarlierUnits space.now.ssa.now space.now.deps.now }
+    requires short { HaveShortPacks (described space.now) space.now.table.now space.now.ssa.now
+        space.now.deps.now }
+    requires board { IsBoard (described space.now) space.now.table.now space.now.ssa.now board.now }
+    requires level { Every (IsKept (described space.now) space.now.table.now space.now.ssa.now
         board.now.packs.items) level.now }
     requires parent { parent < length level.now }
-    requires plan { IsPlanFor (map description_of descriptions.now) table.now ssa.now deps.now
-        (plan_at level.now parent) }
-    requires marks { MarksPlan ssa.now (plan_at level.now parent) marks.now }
-    requires room { IsRoomFor ssa.now (plan_at level.now parent) room.old }
+    requires plan { IsPlanFor (described space.now) space.now.table.now space.now.ssa.now
+        space.now.deps.now (plan_at level.now parent) }
+    requires marks { MarksPlan space.now.ssa.now (plan_at level.now parent) marks.now }
+    requires room { IsRoomFor space.now.ssa.now (plan_at level.now parent) room.old }
     requires pack { pack < length board.now.packs.items }
-    requires tried { Has (pack_at board.now.packs.items pack) (tried (packing (map description_of
-        descriptions.now) table.now ssa.now deps.now) (plan_at level.now parent)) }
-    requires met { IsMet (map description_of descriptions.now) table.now ssa.now deps.now
-        board.now.packs.items level.now met.old }
+    requires tried { Has (pack_at board.now.packs.items pack) (tried (world_of space.now) (plan_at
+        level.now parent)) }
+    requires met { IsMet (described space.now) space.now.table.now space.now.ssa.now
+        space.now.deps.now board.now.packs.items level.now met.old }
     ensures room { room.new ≡ room.old }
-    ensures met { OnOk result (Meets (map description_of descriptions.now) table.now ssa.now
-        deps.now board.now.packs.items level.now (plan_at level.now parent) (pack_at
+    ensures met { OnOk result (Meets (described space.now) space.now.table.now space.now.ssa.now
+        space.now.deps.now board.now.packs.items level.now (plan_at level.now parent) (pack_at
         board.now.packs.items pack ∷ []) met.old met.new) }
 {
     let kept = kept_at(level, parent);
@@ -77,13 +73,18 @@ fn meet(
     if known {
         return Ok(());
     }
-    let stays = marks.stays_plan(alloc, packs, last, table, ssa, deps)?;
+    let stays = marks.stays_plan(alloc, packs, last, space.table, space.ssa, space.deps)?;
     if !stays {
         return Ok(());
     }
-    let cost = kept
-        .running
-        .cost_with(alloc, room, last, descriptions, table, ssa)?;
+    let cost = kept.running.cost_with(
+        alloc,
+        room,
+        last,
+        space.descriptions,
+        space.table,
+        space.ssa,
+    )?;
     met.add(key, Candidate { parent, pack, cost })?;
     Ok(())
 }
@@ -95,47 +96,32 @@ fn meet_all(
     level: &[Kept],
     parent: usize,
     met: &mut Met,
-    descriptions: &[Description],
-    table: &MatchTable,
-    ssa: &Ssa,
-    deps: &DepList,
+    space: &SearchSpace,
 ) -> Result<(), AllocError>
-    requires near { MatchesNear table.now }
-    requires earlier { NameEarlierUnits ssa.now deps.now }
-    requires short { HaveShortPacks (map description_of descriptions.now) table.now ssa.now
-        deps.now }
-    requires board { IsBoard (map description_of descriptions.now) table.now ssa.now board.now }
-    requires level { Every (IsKept (map description_of descriptions.now) table.now ssa.now
+    requires near { MatchesNear space.now.table.now }
+    requires earlier { NameEarlierUnits space.now.ssa.now space.now.deps.now }
+    requires short { HaveShortPacks (described space.now) space.now.table.now space.now.ssa.now
+        space.now.deps.now }
+    requires board { IsBoard (described space.now) space.now.table.now space.now.ssa.now board.now }
+    requires level { Every (IsKept (described space.now) space.now.table.now space.now.ssa.now
         board.now.packs.items) level.now }
     requires parent { parent < length level.now }
-    requires plan { IsPlanFor (map description_of descriptions.now) table.now ssa.now deps.now
-        (plan_at level.now parent) }
-    requires met { IsMet (map description_of descriptions.now) table.now ssa.now deps.now
-        board.now.packs.items level.now met.old }
-    ensures { OnOk result (Meets (map description_of descriptions.now) table.now ssa.now deps.now
-        board.now.packs.items level.now (plan_at level.now parent) (tried (packing
-        (map description_of descriptions.now) table.now ssa.now deps.now) (plan_at level.now
-        parent)) met.old met.new) }
+    requires plan { IsPlanFor (described space.now) space.now.table.now space.now.ssa.now
+        space.now.deps.now (plan_at level.now parent) }
+    requires met { IsMet (described space.now) space.now.table.now space.now.ssa.now
+        space.now.deps.now board.now.packs.items level.now met.old }
+    ensures { OnOk result (Meets (described space.now) space.now.table.now space.now.ssa.now
+        space.now.deps.now board.now.packs.items level.now (plan_at level.now parent) (tried
+        (world_of space.now) (plan_at level.now parent)) met.old met.new) }
 {
     let kept = kept_at(level, parent);
     let packs = kept.running.packs();
-    let marks = PlanMarks::new(alloc, ssa, packs)?;
-    let mut room = Room::new(alloc, ssa, packs)?;
+    let marks = PlanMarks::new(alloc, space.ssa, packs)?;
+    let mut room = Room::new(alloc, space.ssa, packs)?;
     let numbers = kept.tried.as_slice();
     'packs: for pack in numbers {
         meet(
-            alloc,
-            board,
-            level,
-            parent,
-            &marks,
-            &mut room,
-            *pack,
-            met,
-            descriptions,
-            table,
-            ssa,
-            deps,
+            alloc, board, level, parent, &marks, &mut room, *pack, met, space,
         )?;
     }
     Ok(())
@@ -146,40 +132,27 @@ pub(crate) fn candidates(
     alloc: Global,
     board: &Board,
     level: &[Kept],
-    descriptions: &[Description],
-    table: &MatchTable,
-    ssa: &Ssa,
-    deps: &DepList,
+    space: &SearchSpace,
 ) -> Result<Vec<Candidate>, AllocError>
-    requires near { MatchesNear table.now }
-    requires earlier { NameEarlierUnits ssa.now deps.now }
-    requires short { HaveShortPacks (map description_of descriptions.now) table.now ssa.now
-        deps.now }
-    requires board { IsBoard (map description_of descriptions.now) table.now ssa.now board.now }
-    requires level { Every (IsKept (map description_of descriptions.now) table.now ssa.now
+    requires near { MatchesNear space.now.table.now }
+    requires earlier { NameEarlierUnits space.now.ssa.now space.now.deps.now }
+    requires short { HaveShortPacks (described space.now) space.now.table.now space.now.ssa.now
+        space.now.deps.now }
+    requires board { IsBoard (described space.now) space.now.table.now space.now.ssa.now board.now }
+    requires level { Every (IsKept (described space.now) space.now.table.now space.now.ssa.now
         board.now.packs.items) level.now }
-    requires plans { Every (IsPlanFor (map description_of descriptions.now) table.now ssa.now
-        deps.now) (plans_of level.now) }
-    ensures candidates { IfOk result (λ met. Every (IsCandidate (map description_of
-        descriptions.now) table.now ssa.now deps.now board.now.packs.items level.now) met.items) }
-    ensures plans { IfOk result (λ met. grown_plans board.now.packs.items level.now met.items
-        ≡ candidates (follows (packing (map description_of descriptions.now) table.now ssa.now
-        deps.now)) (same_packs (packing (map description_of descriptions.now) table.now ssa.now
-        deps.now)) (plans_of level.now)) }
+    requires plans { Every (IsPlanFor (described space.now) space.now.table.now space.now.ssa.now
+        space.now.deps.now) (plans_of level.now) }
+    ensures candidates { IfOk result (λ met. Every (IsCandidate (described space.now)
+        space.now.table.now space.now.ssa.now space.now.deps.now board.now.packs.items level.now)
+        met.items) }
+    ensures plans { IfOk result (λ met. grown_plans board.now.packs.items level.now met.items ≡
+        candidates (follows (world_of space.now)) (same_packs (world_of space.now)) (plans_of
+        level.now)) }
 {
     let mut met = Met::new(alloc);
     'plans: for parent in 0..level.len() {
-        meet_all(
-            alloc,
-            board,
-            level,
-            parent,
-            &mut met,
-            descriptions,
-            table,
-            ssa,
-            deps,
-        )?;
+        meet_all(alloc, board, level, parent, &mut met, space)?;
     }
     Ok(met.candidates)
 }

@@ -175,9 +175,10 @@ pub(crate) fn kept_cost(
     requires plan { IsKnown plan.now }
     requires known { AllByRecursion (IsKnownBy (described plan.now) plan.now.ssa.now
         (all_packs plan.now) plan.now.own.now) taken.now }
-    ensures cost { IfOk result (λ c. c ≡ sum_by (λ t. (kept_for (described plan.now) plan.now.ssa.now (all_packs plan.now) t).recipe.lines) taken.now) }
-    ensures marks { OnOk result (Marked (flat_map (λ t. inserted_for (kept_for (described plan.now) plan.now.ssa.now (all_packs plan.now) t)) taken.now) needed.old
-        needed.new) }
+    ensures cost { IfOk result (λ c. c ≡ sum_by (λ t. (kept_for (described plan.now)
+        plan.now.ssa.now (all_packs plan.now) t).recipe.lines) taken.now) }
+    ensures marks { OnOk result (Marked (flat_map (λ t. inserted_for (kept_for (described plan.now)
+        plan.now.ssa.now (all_packs plan.now) t)) taken.now) needed.old needed.new) }
 {
     let mut sum = 0u64;
     'taken: for one in taken {

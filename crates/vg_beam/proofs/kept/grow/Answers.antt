@@ -1,8 +1,8 @@
-use Rattle.std.proofs.Common.{◌∙◌, ◌++◌, ◌∷◌, [], ap, map, subst, sym}
+use Rattle.std.proofs.Common.{◌∙◌, ◌++◌, ◌∷◌, [], ap, subst, sym}
 use Rattle.vg_packing.specs.Laws.{IsPlanFor}
 use Rattle.vg_packing.specs.Taken.{IsShort}
 use Rattle.vg_plans.proofs.Lists.{every-has}
-use Rattle.vg_shapes.specs.Description.{description_of}
+use Rattle.vg_beam.specs.SearchSpace.{described}
 use Rattle.vg_beam.specs.Board.{pack_at}
 use Rattle.vg_beam.specs.Kept.{IsKept, plan_of}
 use Rattle.vg_beam.specs.Key.{with_number}
@@ -14,13 +14,13 @@ with-requires-clause-short c = subst IsShort (sym c.pack-pack.ensures) c.require
 
 pub with-requires-clause-stands : goal.with-requires-clause-stands
 with-requires-clause-stands c =
-    (every-has (IsKept (map description_of c.args.descriptions.now) c.args.table.now c.args.ssa.now c.args.board.now.packs.items) _ c.args.level.now c.requires.level c.kept_at-parent.ensures.member).stands
+    (every-has (IsKept (described c.args.space.now) c.args.space.now.table.now c.args.space.now.ssa.now c.args.board.now.packs.items) _ c.args.level.now c.requires.level c.kept_at-parent.ensures.member).stands
 
 pub with-requires-clause-plan : goal.with-requires-clause-plan
 with-requires-clause-plan c =
     let plan = plan_of c.kept_at-parent.result.now in
     let p = pack_at c.args.board.now.packs.items c.args.candidate.now.pack in
-    let is = IsPlanFor (map description_of c.args.descriptions.now) c.args.table.now c.args.ssa.now c.requires.candidate.plan.0 in (
+    let is = IsPlanFor (described c.args.space.now) c.args.space.now.table.now c.args.space.now.ssa.now c.requires.candidate.plan.0 in (
       c.requires.candidate.plan.0,
       subst (λ q. is (plan ++ q ∷ [])) (sym c.pack-pack.ensures)
           (subst is (ap (λ l. l ++ p ∷ []) (sym c.kept_at-parent.ensures.plan)) c.requires.candidate.plan.1),
@@ -35,8 +35,8 @@ returns c =
     record {
       board = c.in_ok-open.ensures.board;
       grows = c.in_ok-open.ensures.grows;
-      kept = kept-grown (map description_of c.args.descriptions.now) c.args.table.now c.args.ssa.now c.args.board.now c.open.new.self parent _ c.args.candidate.now.pack c.requires.candidate.placed.pack
-          (every-has (IsKept (map description_of c.args.descriptions.now) c.args.table.now c.args.ssa.now c.args.board.now.packs.items) parent c.args.level.now c.requires.level c.kept_at-parent.ensures.member)
+      kept = kept-grown (described c.args.space.now) c.args.space.now.table.now c.args.space.now.ssa.now c.args.board.now c.open.new.self parent _ c.args.candidate.now.pack c.requires.candidate.placed.pack
+          (every-has (IsKept (described c.args.space.now) c.args.space.now.table.now c.args.space.now.ssa.now c.args.board.now.packs.items) parent c.args.level.now c.requires.level c.kept_at-parent.ensures.member)
           c.in_ok-open.ensures packs c.in_ok-running.ensures.stands
           (c.from_vec.ensures ∙ c.in_ok-key.ensures ∙ ap (with_number c.args.candidate.now.pack) c.as_slice.ensures)
           (c.in_ok-tried.ensures ∙ ap (λ l. l ++ c.produced-produced.result.now) c.as_slice-2.ensures

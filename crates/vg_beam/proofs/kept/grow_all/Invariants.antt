@@ -1,8 +1,8 @@
-use Rattle.std.proofs.Common.{map, take}
-use Rattle.vg_shapes.specs.Description.{description_of}
+use Rattle.std.proofs.Common.{take}
+use Rattle.vg_beam.specs.SearchSpace.{described}
 use Rattle.vg_beam.specs.Candidate.{AreGrown}
 use Rattle.vg_beam.proofs.kept.grow_all.Given as goal
 
 abbrev pub invariant-candidates : goal.invariant-candidates
 invariant-candidates l =
-    AreGrown (map description_of l.descriptions) l.table l.ssa l.initial.board l.board l.level (take l.candidate-index l.candidates) l.next.items
+    AreGrown (described l.space) l.space.table.now l.space.ssa.now l.initial.board l.board l.level (take l.candidate-index l.candidates) l.next.items

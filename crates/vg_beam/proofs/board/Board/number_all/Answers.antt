@@ -1,19 +1,18 @@
-use Rattle.std.proofs.Common.{map}
-use Rattle.vg_shapes.specs.Description.{description_of}
+use Rattle.vg_beam.specs.SearchSpace.{described}
 use Rattle.vg_beam.proofs.Boards.{all-end, all-first, all-next}
 use Rattle.vg_beam.proofs.board.Board.number_all.Goals as goal
 
 pub packs-init : goal.packs-init
-packs-init c = all-first (map description_of c.args.descriptions.now) c.args.table.now c.args.ssa.now c.args.self.now c.new-numbers.result.items c.new-numbers.ensures.items c.requires.board
+packs-init c = all-first (described c.args.space.now) c.args.space.now.table.now c.args.space.now.ssa.now c.args.self.now c.new-numbers.result.items c.new-numbers.ensures.items c.requires.board
 
 pub number-requires : goal.number-requires
 number-requires c = record { board = c.packs.invariant.board }
 
 pub packs-preserved : goal.packs-preserved
 packs-preserved c =
-    all-next (map description_of c.args.descriptions.now) c.args.table.now c.args.ssa.now c.args.self.now c.packs.self _ c.packs.numbers.items _ c.args.packs.now c.packs.pack-index c.pack-item.result c.in_ok-number.number
+    all-next (described c.args.space.now) c.args.space.now.table.now c.args.space.now.ssa.now c.args.self.now c.packs.self _ c.packs.numbers.items _ c.args.packs.now c.packs.pack-index c.pack-item.result c.in_ok-number.number
     c.packs-test.true c.pack-item.is c.packs.invariant c.in_ok-number.ensures c.in_ok-push.ensures.items
 
 pub returns : goal.returns
 returns c =
-    all-end (map description_of c.args.descriptions.now) c.args.table.now c.args.ssa.now c.args.self.now c.packs.self c.packs.numbers.items c.args.packs.now c.packs.pack-index c.packs-test.false c.packs.invariant
+    all-end (described c.args.space.now) c.args.space.now.table.now c.args.space.now.ssa.now c.args.self.now c.packs.self c.packs.numbers.items c.args.packs.now c.packs.pack-index c.packs-test.false c.packs.invariant
