@@ -17,7 +17,7 @@ use Rattle.vg_shapes.specs.Pack.{AreStores, behind, is_pack_size, IsStoreGroup}
 use Rattle.vg_shapes.specs.Sound.{IsNumber, IsSound}
 use Rattle.vg_shapes.specs.Units.{unit_at}
 use Rattle.vg_packing.specs.Taken.{first_width, group_operand, register_for, register_of_bytes, slots_from, stored, unit_width}
-use Rattle.vg_plan_laws.proofs.Made.{bytes-same}
+use Rattle.vg_plan_relations.proofs.Loading.{bytes-same}
 use Rattle.vg_plan_laws.proofs.Terms.{unit-is}
 
 -- the width of the register of so many bytes

@@ -12,4 +12,4 @@ pub mod Recipes
 pub mod Shuffles
 pub mod Slots
 pub mod Terms
-pub mod TwoSums
+pub mod TwoSumsProgram

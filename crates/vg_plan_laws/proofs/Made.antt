@@ -1,17 +1,15 @@
 -- The packs of a plan are store groups, loads beside each other and matched calls, and no unit
 -- stands twice in one of them.
-use Rattle.std.proofs.Common.{◌≡◌, ℕ, zero, suc, ◌+◌, ◌*◌, ◌/◌, ◌<◌, ◌≤◌, Bool, true, false, List, [], ◌∷◌, length, map, Option, Some, None, refl, sym, ap, subst, ◌∙◌, inl, inr, arith}
-use Rattle.std.specs.Prelude.{ℤ, pos, ◌+ℤ◌, not, filter, flat_map, nat_eq, nat_le, slice_get, IsTrue}
+use Rattle.std.proofs.Common.{◌≡◌, ℕ, suc, ◌+◌, ◌/◌, ◌<◌, List, [], ◌∷◌, Some, refl, sym, ap, subst, ◌∙◌, inl, inr, arith}
+use Rattle.std.specs.Prelude.{ℤ, pos, ◌+ℤ◌, flat_map, nat_eq, slice_get}
 use Rattle.std.specs.Cmp.Lexicographic.{pointwise}
-use Rattle.std.specs.List.{filter_map, list_all, list_any}
+use Rattle.std.specs.List.{filter_map}
 use Rattle.std.proofs.Math.IntN.{+ℤ_assoc, pos-+ℤ-pos}
-use Rattle.std.proofs.lemmas.Bool.{cases_Bool}
-use Rattle.std.proofs.lemmas.Bool.Decides.{nat_tests}
 use Rattle.std.proofs.lemmas.Int.{ints}
 use Rattle.vg_base.specs.declared.address.Address.{Address}
 use Rattle.vg_base.specs.declared.width.Width.{Width}
 use Rattle.vg_base.specs.declared.width.Width.TheVariants.{W8, W16, W32, W64}
-use Rattle.vg_base.specs.Width.{bits_of, size_of}
+use Rattle.vg_base.specs.Width.{size_of}
 use Rattle.vg_plans.specs.Crowded.{IsPlan, empty, more}
 use Rattle.vg_plans.specs.Members.{Every, Has}
 use Rattle.vg_plans.specs.World.{follows, stays_plan, tried}
@@ -19,28 +17,29 @@ use Rattle.vg_plans.proofs.Lists.{every-append}
 use Rattle.vg_plans.proofs.Members.{from-filter, from-flat_map, has-append, Unique}
 use Rattle.vg_shapes.specs.declared.match_table.Match.{Match}
 use Rattle.vg_shapes.specs.declared.operand.Operand.{Operand}
-use Rattle.vg_shapes.specs.declared.operand.Slot.{Slot}
 use Rattle.vg_shapes.specs.declared.pack.Pack.{Pack as Packed}
 use Rattle.vg_shapes.specs.declared.pack.Pack.TheVariants.{Stores, Loads, Call}
 use Rattle.vg_shapes.specs.declared.ssa.Ssa.{Ssa}
-use Rattle.vg_shapes.specs.declared.unit.Unit.{Unit as Work}
-use Rattle.vg_shapes.specs.declared.unit.Unit.TheVariants.{Load, Store, Operation}
+use Rattle.vg_shapes.specs.declared.unit.Unit.TheVariants.{Store}
 use Rattle.vg_shapes.specs.declared.wanted.Wanted.{Wanted}
-use Rattle.vg_shapes.specs.declared.wanted.Wanted.TheVariants.{Value, Constant, Nothing}
 use Rattle.vg_shapes.specs.Description.{Description}
-use Rattle.vg_shapes.specs.Pack.{AreLoads, AreStores, behind, is_pack_size, units_of}
+use Rattle.vg_shapes.specs.Pack.{AreStores, behind, units_of}
 use Rattle.vg_shapes.specs.Units.{unit_at}
 use Rattle.vg_packing.specs.Groups.{store_groups}
 use Rattle.vg_packing.specs.Held.{lanes_from}
 use Rattle.vg_packing.specs.Packing.{packing}
-use Rattle.vg_packing.specs.Producers.{all_differ, are_beside, are_loads, are_matched, begin_loads, call_producer, call_producers, can_be_produced, lanes_for, load_producer, loads_from, producers}
+use Rattle.vg_packing.specs.Producers.{are_matched, call_producer, call_producers, can_be_produced, lanes_for, load_producer, producers}
 use Rattle.vg_packing.specs.SameAs.{same_slot}
-use Rattle.vg_packing.specs.Taken.{first_width, operands_of, register_for}
-use Rattle.vg_packing.specs.Wants.{is_wanted, slot, value_of, wanted_slots, wanted_values, wants_value}
+use Rattle.vg_packing.specs.Taken.{operands_of}
+use Rattle.vg_packing.specs.Wants.{wanted_slots, wanted_values}
 use Rattle.vg_packing.proofs.SameTests.{both-true, eq-itself, list-is, slot-is}
 use Rattle.vg_packing.proofs.Tried.{if-has}
 use Rattle.vg_packs.proofs.Once.{groups-listed}
-use Rattle.vg_packs.proofs.Placing.{place-is}
+use Rattle.vg_plan_relations.specs.Produces.{Produces}
+use Rattle.vg_plan_relations.proofs.Calling.{lanes-count}
+use Rattle.vg_plan_relations.proofs.Exact.{has-once}
+use Rattle.vg_plan_relations.proofs.Lists.{differ-unique}
+use Rattle.vg_plan_relations.proofs.Loading.{load-right}
 use Rattle.vg_plan_laws.specs.Made.{IsMade}
 
 -- a pack that is made, no unit of which stands twice
@@ -49,30 +48,6 @@ pub record IsSingle
     : Type 0 where
   pub made : IsMade ds matches ssa p
   pub once : Unique (units_of p)
-
--- ---- numbers that differ
-
-none-in : (v : ℕ) (vs : List ℕ) → list_any (nat_eq v) vs ≡ false → Has v vs → ⊥
-none-in v [] e h = h
-none-in v (u ∷ vs) e h = elim (cases_Bool (nat_eq v u)) [
-  | inl t ↦ (let f : list_any (nat_eq v) (u ∷ vs) ≡ true = rw t refl in absurd (cc))
-  | inr n ↦ elim h [
-    | inl s ↦
-        (let t : nat_eq v u ≡ true = subst (λ x. nat_eq v x ≡ true) (sym s) (eq-itself v) in absurd
-        (cc))
-    | inr rest ↦ none-in v vs (rw n at e) rest
-  ]
-]
-
-not-true : (b : Bool) → not b ≡ true → b ≡ false
-not-true true e = absurd (cc)
-not-true false e = refl
-
-differ-unique : (vs : List ℕ) → all_differ vs ≡ true → Unique vs
-differ-unique [] e = tt
-differ-unique (v ∷ vs) e =
-    let b = both-true (not (list_any (nat_eq v) vs)) (all_differ vs) e in
-    (none-in v vs (not-true _ b.0), differ-unique vs b.1)
 
 -- ---- store groups
 
@@ -125,133 +100,18 @@ stores-unique ssa w a (u ∷ us) (x ∷ xs) are = (
   stores-unique ssa w (behind a (size_of w)) us xs are.1,
 )
 
--- ---- loads
-
-loads-are : (ssa : Ssa) (a : Address) (w : Width) (us : List ℕ) → are_loads ssa a w us ≡ true
-    → AreLoads ssa w a us
-loads-are ssa a w [] e = tt
-loads-are ssa a w (v ∷ vs) e =
-    let b =
-    both-true (loads_from a w (unit_at ssa v)) (are_loads ssa (behind a (size_of w)) w vs) e in
-    (from (unit_at ssa v) b.0, loads-are ssa (behind a (size_of w)) w vs b.1)
-  where
-    from : (u : Option Work) → loads_from a w u ≡ true → u ≡ Some (Load a w)
-    from None t = absurd (cc)
-    from (Some (Store b x y)) t = absurd (cc)
-    from (Some (Operation op x k xs)) t = absurd (cc)
-    from (Some (Load b x)) t = let p = place-is a b w x t in λ i. Some (Load (p.0 i) (p.1 i))
-
--- loads beside each other, and the width of the first
-abbrev AreBeside : Ssa → List ℕ → Type 0
-AreBeside ssa us =
-    (w : Width) × (a : Address) × AreLoads ssa w a us × (first_width ssa us ≡ bits_of w)
-
-beside-are : (ssa : Ssa) (us : List ℕ) → are_beside ssa us ≡ true → AreBeside ssa us
-beside-are ssa [] e = absurd (cc)
-beside-are ssa (v ∷ vs) e = from (unit_at ssa v) refl e
-  where
-    from : (u : Option Work) → unit_at ssa v ≡ u → begin_loads ssa u (v ∷ vs) ≡ true
-        → AreBeside ssa (v ∷ vs)
-    from None is t = absurd (cc)
-    from (Some (Store a w x)) is t = absurd (cc)
-    from (Some (Operation op w k xs)) is t = absurd (cc)
-    from (Some (Load a w)) is t =
-        (w, a, loads-are ssa a w (v ∷ vs) t, ap Rattle.vg_packing.specs.Taken.unit_width is)
-
-pub bytes-same : (n : ℕ) (w : Width) → n * bits_of w / 8 ≡ n * size_of w
-bytes-same n W8 = omega arith
-bytes-same n W16 = omega arith
-bytes-same n W32 = omega arith
-bytes-same n W64 = omega arith
-
--- ---- the values that an operand wants
-
--- where each slot that wants something wants a value, there are as many values as such slots
-values-long : (slots : List Slot)
-    → list_all (λ s. wants_value s.wanted) (filter (λ s. is_wanted s.wanted) slots) ≡ true
-    → length (filter_map (λ s. value_of s.wanted) slots)
-    ≡ length (filter (λ s. is_wanted s.wanted) slots)
-values-long [] e = refl
-values-long (s ∷ slots) e = first s.low s.width s.wanted (λ t. values-long slots t) e
-  where
-    first : (l w : ℕ) (x : Wanted)
-        → (list_all (λ s. wants_value s.wanted) (filter (λ s. is_wanted s.wanted) slots) ≡ true
-        → length (filter_map (λ s. value_of s.wanted) slots)
-        ≡ length (filter (λ s. is_wanted s.wanted) slots))
-        → list_all (λ s. wants_value s.wanted)
-        (filter (λ s. is_wanted s.wanted) (slot l w x ∷ slots)) ≡ true
-        → length (filter_map (λ s. value_of s.wanted) (slot l w x ∷ slots))
-        ≡ length (filter (λ s. is_wanted s.wanted) (slot l w x ∷ slots))
-    first l w (Value v) rest t = ap suc (rest t)
-    first l w (Constant m n) rest t = absurd (cc)
-    first l w Nothing rest t = rest t
-
--- slots that want nothing have no values
-values-wanted : (slots : List Slot)
-    → filter_map (λ s. value_of s.wanted)
-    (filter (λ s. is_wanted s.wanted) slots) ≡ filter_map (λ s. value_of s.wanted) slots
-values-wanted [] = refl
-values-wanted (s ∷ slots) = first s.low s.width s.wanted (values-wanted slots)
-  where
-    first : (l w : ℕ) (x : Wanted)
-        → filter_map (λ s. value_of s.wanted)
-        (filter (λ s. is_wanted s.wanted) slots) ≡ filter_map (λ s. value_of s.wanted) slots
-        → filter_map (λ s. value_of s.wanted)
-        (filter (λ s. is_wanted s.wanted) (slot l w x ∷ slots))
-        ≡ filter_map (λ s. value_of s.wanted) (slot l w x ∷ slots)
-    first l w (Value v) rest = ap (λ vs. v ∷ vs) rest
-    first l w (Constant m n) rest = rest
-    first l w Nothing rest = rest
-
--- the values of lanes are those of their slots
-lanes-values : (low w : ℕ) (lanes : List (Option ℕ))
-    → filter_map (λ s. value_of s.wanted) (lanes_from low w lanes) ≡ filter_map (λ v. v) lanes
-lanes-values low w [] = refl
-lanes-values low w (None ∷ lanes) = lanes-values (low + w) w lanes
-lanes-values low w (Some v ∷ lanes) = ap (λ vs. v ∷ vs) (lanes-values (low + w) w lanes)
-
--- what an operand has that can be produced
-record IsProducible (o : Operand) : Type 0 where
-  many : 2 ≤ length (wanted_values o)
-  once : all_differ (wanted_values o) ≡ true
-
-producible : (o : Operand) → can_be_produced o ≡ true → IsProducible o
-producible o e =
-    let b = both-true (nat_le 2 (length (wanted_slots o))) _ e in
-    let d =
-    both-true (list_all (λ s. wants_value s.wanted) (wanted_slots o))
-    (all_differ (wanted_values o)) b.1 in
-    let long = values-long o.slots d.0 in
-    let two : 2 ≤ length (wanted_slots o) = grind (arith, nat_tests, b.0) in
-    record { many = omega arith; once = d.1 }
-
 -- ---- packs that are tried
 
 load-single : (ds : List Description) (matches : List Match) (ssa : Ssa) (o : Operand) (p : Packed)
     → Has p (load_producer ssa o) → IsSingle ds matches ssa p
 load-single ds matches ssa o p h =
-    let us = wanted_values o in
-    let width = first_width ssa us in
-    let a = if-has _ (Loads us) p h in
-    let b = both-true (can_be_produced o) _ a.0 in
-    let b2 = both-true (is_pack_size (length us * width / 8)) _ b.1 in
-    let b3 = both-true (nat_eq (register_for us width) o.register) _ b2.1 in
-    let b4 =
-    both-true (pointwise same_slot (wanted_slots o) (lanes_from 0 width (map Some us)))
-    (are_beside ssa us) b3.1 in
-    let good = producible o b.0 in
-    let l = beside-are ssa us b4.1 in
-    let size : IsTrue (is_pack_size (length us * size_of l.0)) =
-    ap is_pack_size (sym (bytes-same (length us) l.0) ∙ ap (λ n. length us * n / 8) (sym l.3))
-    ∙ b2.0 in
+    let a = if-has _ (Loads (wanted_values o)) p h in
+    let is : Produces ds matches ssa (Loads (wanted_values o)) o =
+    subst (λ q. Produces ds matches ssa q o) (sym a.1) (load-right ds matches ssa o p h) in
     subst (IsSingle ds matches ssa) a.1 (record {
-      made = (l.0, l.1, l.2, good.many, size);
-      once = differ-unique us good.once;
+      made = is.pack;
+      once = differ-unique nat_eq eq-itself (wanted_values o) is.once;
     })
-
-lanes-long : (n low w : ℕ) (slots : List Slot) → length (lanes_for n low w slots) ≡ n
-lanes-long zero low w slots = refl
-lanes-long (suc n) low w slots = ap suc (lanes-long n (low + w) w slots)
 
 call-single : (ds : List Description) (matches : List Match) (ssa : Ssa) (o : Operand) (p : Packed)
     (d : ℕ) (es : List Description)
@@ -272,19 +132,17 @@ call-single ds matches ssa o p d (e ∷ es) there h =
           let b4 = both-true (are_matched matches d 0 lanes) _ b3.1 in
           let same =
           list-is same_slot slot-is (wanted_slots o) (lanes_from 0 e.lane_width lanes) b3.0 in
-          let values : wanted_values o ≡ filter_map (λ v. v) lanes =
-          sym (values-wanted o.slots) ∙ ap (filter_map (λ s. value_of s.wanted)) same
-          ∙ lanes-values 0 e.lane_width lanes in
           let start : d + 0 ≡ d = omega arith in
           subst (IsSingle ds matches ssa) a.1 (record {
             made = record {
               entry = e;
               there = subst (λ n. slice_get ds n ≡ Some e) start (there 0 e refl);
-              long = lanes-long (e.register / e.lane_width) 0 e.lane_width o.slots;
+              long = lanes-count (e.register / e.lane_width) 0 e.lane_width o.slots;
               matched = b4.0;
               agreed = b4.1;
             };
-            once = subst Unique values (differ-unique (wanted_values o) (producible o b.0).once);
+            once = differ-unique nat_eq eq-itself (filter_map (λ v. v) lanes)
+                (has-once o e.lane_width lanes same b.0);
           })
       | inr r ↦ call-single ds matches ssa o p (suc d) es
           (λ k x g. let same : d + suc k

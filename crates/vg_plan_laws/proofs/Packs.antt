@@ -2,7 +2,7 @@
 use Rattle.std.proofs.Common.{◌≡◌, ℕ, zero, suc, ◌+◌, ◌<◌, ◌≤◌, Bool, true, false, List, [], ◌∷◌, ◌++◌, Option, Some, None, refl, sym, ap, subst, ◌∙◌, inl, inr, arith}
 use Rattle.std.specs.Prelude.{◌==◌, ◌||◌, not, is_some, nat_eq}
 use Rattle.std.specs.List.{AllByRecursion, filter_map, list_any}
-use Rattle.std.proofs.lemmas.Bool.{cases_Bool, eqb-true}
+use Rattle.std.proofs.lemmas.Bool.{cases_Bool, eqb-true, not-true}
 use Rattle.vg_base.specs.Trap.{◌>>=◌}
 use Rattle.vg_plans.specs.Crowded.{empty, more}
 use Rattle.vg_plans.specs.Members.{Every, Has}
@@ -25,8 +25,8 @@ use Rattle.vg_packing.specs.Packing.{packing}
 use Rattle.vg_packing.specs.Producers.{are_matched}
 use Rattle.vg_packing.proofs.Inside.{tried-inside}
 use Rattle.vg_packing.proofs.SameTests.{both-true, eq-itself}
+use Rattle.vg_plan_relations.proofs.Fitting.{found-fit}
 use Rattle.vg_plan_laws.specs.Made.{IsMade}
-use Rattle.vg_plan_laws.proofs.Filled.{found}
 use Rattle.vg_plan_laws.proofs.Fitted.{fitted}
 use Rattle.vg_plan_laws.proofs.Made.{IsSingle, plan-made, tried-single}
 
@@ -79,10 +79,6 @@ packed-push v (q ∷ plan) p =
     omega arith
 
 -- ---- units of packs
-
-not-true : (b : Bool) → not b ≡ true → b ≡ false
-not-true true e = absurd (cc)
-not-true false e = refl
 
 -- a unit that is in no pack of a plan does not stand in them
 outside : (v : ℕ) (plan : List Packed) → list_any (λ p. is_in v (units_of p)) plan ≡ false
@@ -166,8 +162,8 @@ matched-operations ds matches ssa d n (None ∷ lanes) sound are t =
 matched-operations ds matches ssa d n (Some v ∷ lanes) sound are t =
     let both =
     both-true (is_some (match_at matches d n v)) (are_matched matches d (suc n) lanes) t in
-    let f = found ds matches ssa d n v are both.0 in
-    let k = fitted ssa f.2 v (f.0).bound sound f.4 in (
+    let f = found-fit ds matches ssa d n v are both.0 in
+    let k = fitted ssa f.term v (f.found).bound sound f.fits in (
       ap (λ o. o >>= access_of) k.at,
       matched-operations ds matches ssa d
           (suc n) lanes sound are both.1,

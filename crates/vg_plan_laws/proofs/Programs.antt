@@ -35,9 +35,10 @@ use Rattle.vg_gather.proofs.Fits.{constants-fit, holders-fit}
 use Rattle.vg_gather.proofs.Jobs.{plans-count-recipes}
 use Rattle.vg_gather.proofs.Takes.{first-passes}
 use Rattle.vg_emission.specs.Truth.{IsCallable, IsRegisterWidth}
+use Rattle.vg_plan_relations.proofs.Fitting.{found-fit, lane-term}
 use Rattle.vg_plan_laws.specs.Laws.{AreKnown, ProgramsCallDescribed, ProgramsCostTheirPlans, ProgramsKeepTheRules, ProgramsMeanTheirUnits}
 use Rattle.vg_plan_laws.specs.Made.{IsMade, IsMatchedCall}
-use Rattle.vg_plan_laws.proofs.Filled.{all-get, found, lane-of}
+use Rattle.vg_plan_laws.proofs.Filled.{all-get}
 use Rattle.vg_plan_laws.proofs.Fitted.{fitted-width}
 use Rattle.vg_plan_laws.proofs.Keeping.{plans-keep}
 use Rattle.vg_plan_laws.proofs.Planned.{operands-are-sound, plans-are-made, plans-are-planned}
@@ -100,12 +101,12 @@ lanes-wide ds matches ssa d x n (None ∷ lanes) known there t =
 lanes-wide ds matches ssa d x n (Some v ∷ lanes) known there t =
     let both =
     both-true (is_some (match_at matches d n v)) (are_matched matches d (suc n) lanes) t in
-    let f = found ds matches ssa d n v known.matched both.0 in
+    let f = found-fit ds matches ssa d n v known.matched both.0 in
     let own = all-get IsCallable ds d x known.described there in
     let lane =
-    all-get (IsLane x.params x.lane_width) x.lanes n f.2 own.packable.lanes
-    (lane-of ds d n x f.2 there f.3) in (
-      fitted-width ssa f.2 v (f.0).bound known.sound f.4 ∙ ap Some lane.wide,
+    all-get (IsLane x.params x.lane_width) x.lanes n f.term own.packable.lanes
+    (lane-term ds d n x f.term there f.lane) in (
+      fitted-width ssa f.term v (f.found).bound known.sound f.fits ∙ ap Some lane.wide,
       lanes-wide ds matches ssa d x (suc n) lanes known there both.1,
     )
 

@@ -1,6 +1,6 @@
 -- A shuffle fills its operand: each lane is a leaf, whose bits stand in the pack that is given for
 -- its parameter.
-use Rattle.std.proofs.Common.{◌≡◌, ℕ, zero, suc, ◌+◌, ◌*◌, ◌/◌, ◌%◌, ◌^◌, ◌<◌, ◌≤◌, Bool, true, false, cond, List, [], ◌∷◌, length, map, Option, Some, None, refl, sym, ap, subst, ◌∙◌, inl, inr, arith, get_or}
+use Rattle.std.proofs.Common.{◌≡◌, ℕ, zero, suc, ◌+◌, ◌*◌, ◌/◌, ◌%◌, ◌^◌, ◌<◌, ◌≤◌, true, false, cond, List, [], ◌∷◌, length, map, Option, Some, None, refl, sym, ap, subst, ◌∙◌, inl, inr, arith, get_or}
 use Rattle.std.specs.Prelude.{filter, flat_map, nat_eq, slice_get}
 use Rattle.std.specs.List.{AllByRecursion, list_all, list_any}
 use Rattle.std.proofs.Math.Nat.{mod-add-div'}
@@ -37,19 +37,9 @@ use Rattle.vg_gather.proofs.Fits.{holders-fit}
 use Rattle.vg_gather.proofs.Held.{holders-fill}
 use Rattle.vg_gather.proofs.Prices.{can_make, made, makes}
 use Rattle.vg_gather.proofs.Takes.{first-passes, in-use, moved-below, moved_of, not-constant, value-wanted}
-use Rattle.vg_plan_laws.proofs.Filled.{all-get, all-has, FillEach, lane-mean, parameter-there}
-
--- ---- tests of all
-
-all-true : {X : Type 0} (test : X → Bool) (xs : List X) (x : X) → list_all test xs ≡ true → Has x xs
-    → test x ≡ true
-all-true test [] x t has = absurd has
-all-true test (y ∷ xs) x t has =
-    let b = both-true (test y) (list_all test xs) t in
-    elim has [
-      | inl e ↦ subst (λ z. test z ≡ true) e b.0
-      | inr rest ↦ all-true test xs x b.1 rest
-    ]
+use Rattle.vg_plan_relations.proofs.Fitting.{param-there}
+use Rattle.vg_plan_relations.proofs.Lists.{all-has, all-true}
+use Rattle.vg_plan_laws.proofs.Filled.{all-get, FillEach, lane-mean}
 
 all-from : {X : Type 0} (P : X → Type 0) (xs : List X) → ((x : X) → Has x xs → P x)
     → AllByRecursion P xs
@@ -295,7 +285,7 @@ module _ (numbers : ℕ → ℕ) (o : Operand) (e : Description) (rs : List (Lis
       (let start : parameter ≡ 0 + parameter = omega arith in start) in
       let got =
       part-has numbers (moved_of o e) 0 e.params rs taken parameter fill there
-      (parameter-there e.params parameter (omega arith)) of in
+      (param-there e.params parameter (omega arith)) of in
       let reg = get_or rs parameter [] in
       let bits = (parts-registers numbers (moved_of o e) 0 e.params rs fill).bits in
       let read : num (range (bit_number l.key.second) l.width reg) ≡ value (env_of rs)

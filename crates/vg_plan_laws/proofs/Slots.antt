@@ -1,10 +1,10 @@
 -- The operands of calls are sound: their slots are inside their registers, aligned, sorted and
 -- apart.
-use Rattle.std.proofs.Common.{◌≡◌, ℕ, zero, suc, ◌+◌, ◌%◌, ◌≤◌, Bool, true, false, List, [], ◌∷◌, map, Option, Some, None, refl, sym, ap, subst, ◌∙◌, inl, inr, arith, get_or}
+use Rattle.std.proofs.Common.{◌≡◌, ℕ, suc, ◌+◌, ◌%◌, ◌≤◌, Bool, true, false, List, [], ◌∷◌, map, Option, Some, None, refl, sym, ap, subst, ◌∙◌, inl, inr, arith, get_or}
 use Rattle.std.specs.Prelude.{◌||◌, not, flat_map, is_some, nat_eq, slice_get, IsTrue}
 use Rattle.std.specs.List.{AllByRecursion, list_all, list_any}
 use Rattle.std.specs.Option.{option_map_or}
-use Rattle.std.proofs.lemmas.Bool.{cases_Bool}
+use Rattle.std.proofs.lemmas.Bool.{cases_Bool, not-false, not-true}
 use Rattle.std.proofs.lemmas.Bool.Decides.{nat_tests}
 use Rattle.vg_plans.specs.Levels.{distinct}
 use Rattle.vg_plans.specs.Members.{Every, Has}
@@ -29,7 +29,10 @@ use Rattle.vg_packing.specs.Producers.{agree, are_matched}
 use Rattle.vg_packing.specs.SameAs.{same_slot}
 use Rattle.vg_packing.specs.Taken.{operands_from, slot_of, slots_of}
 use Rattle.vg_packing.proofs.SameTests.{both-true}
-use Rattle.vg_plan_laws.proofs.Filled.{all-get, all-has, entries, found, lane-of}
+use Rattle.vg_plan_relations.proofs.Agreeing.{entries}
+use Rattle.vg_plan_relations.proofs.Fitting.{found-fit, lane-term}
+use Rattle.vg_plan_relations.proofs.Lists.{all-has, get-has}
+use Rattle.vg_plan_laws.proofs.Filled.{all-get}
 use Rattle.vg_plan_laws.proofs.Fitted.{each-inside, each-may, entry-is, IsInside, leaf-holds, leaf-listed}
 
 -- ---- slots that are apart
@@ -90,10 +93,6 @@ apart-all ssa ls k register (s ∷ ss) c all rise agreed =
       behind-all ssa ls k register s ss c all.0 all.1 rise.0 (not-true _ b.0),
       apart-all ssa ls k register ss c all.1 rise.1 b.1,
     )
-  where
-    not-true : (b : Bool) → not b ≡ true → b ≡ false
-    not-true true e = absurd (cc)
-    not-true false e = refl
 
 slots-from : (ssa : Ssa) (ls : List Leaf) (k register low : ℕ) (ss : List Slot)
     → Every (IsLeafSlot ssa ls k register) ss
@@ -114,11 +113,6 @@ pub record IsGoodEntry (ssa : Ssa) (x : Description) (b : Bound) : Type 0 where
   pub leaf : Has (leaf_of b.width b.key) (flat_map leaves x.lanes)
   pub inside : IsInside x.params b.width b.key
   pub may : MayBeWanted ssa b.width b.wanted
-
-get-has : {X : Type 0} (xs : List X) (k : ℕ) (x : X) → slice_get xs k ≡ Some x → Has x xs
-get-has [] k x e = absurd (cc)
-get-has (y ∷ xs) zero x e = inl (cc)
-get-has (y ∷ xs) (suc k) x e = inr (get-has xs k x e)
 
 good-match : (ssa : Ssa) (x : Description) (lane v : ℕ) (t : Tree) (bound : List Bound) (b : Bound)
     → IsSound ssa → IsPackable x
@@ -151,13 +145,13 @@ module _ (ds : List Description) (matches : List Match) (ssa : Ssa) (d : ℕ) (x
       let next : suc n ≡ n + 1 = omega arith in
       let both =
       both-true (is_some (match_at matches d n v)) (are_matched matches d (suc n) lanes) t in
-      let f = found ds matches ssa d n v are both.0 in
+      let f = found-fit ds matches ssa d n v are both.0 in
       elim (has-append b (option_map_or (λ (m : Match). m.bound) (match_at matches d n v) [])
       (bounds_from matches d (n + 1) lanes) has) [
         | inl own ↦
-            good-match ssa x n v f.2 (f.0).bound b sound packable
-            (lane-of ds d n x f.2 there f.3) f.4
-            (subst (λ o. Has b (option_map_or (λ (m : Match). m.bound) o [])) f.1 own)
+            good-match ssa x n v f.term (f.found).bound b sound packable
+            (lane-term ds d n x f.term there f.lane) f.fits
+            (subst (λ o. Has b (option_map_or (λ (m : Match). m.bound) o [])) f.is own)
         | inr rest ↦
             good-entries (n + 1) lanes b
             (subst (λ k. are_matched matches d k lanes ≡ true) next both.1) rest
@@ -169,10 +163,6 @@ even-width : (l : Leaf) → is_odd l ≡ false → (is_value_width l.width ≡ t
 even-width l e =
     let b = both-true (is_value_width l.width) (nat_eq (l.low % l.width) 0) (not-false _ e) in
     (b.0, grind (arith, nat_tests, b.1))
-  where
-    not-false : (b : Bool) → not b ≡ false → b ≡ true
-    not-false true e = refl
-    not-false false e = absurd (cc)
 
 width-listed : (w : ℕ) → is_value_width w ≡ true
     → IsTrue (list_any (nat_eq w) (8 ∷ 16 ∷ 32 ∷ 64 ∷ []))

@@ -1,3 +1,3 @@
 pub mod Laws
 pub mod Made
-pub mod TwoSums
+pub mod TwoSumsProgram

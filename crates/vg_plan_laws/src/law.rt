@@ -1,7 +1,7 @@
 //! What plans of kernels promise of the programs that are emitted for them.
 
 ghost use Rattle.vg_plan_laws.specs.Laws.{CallsHold, ChosenProgramsAreRight, KernelsAreSmall, OperandsAreSound, PacksAreRight, PlansAreMade, PlansArePlanned, PlansKeepPromises, ProgramsCallDescribed, ProgramsCostTheirPlans, ProgramsKeepTheRules, ProgramsMeanTheirUnits, RecipesFill, RunsStayInWidths, ShufflesFill};
-ghost use Rattle.vg_plan_laws.specs.TwoSums.{TwoSumsLines, TwoSumsMeanUnits};
+ghost use Rattle.vg_plan_laws.specs.TwoSumsProgram.{TwoSumsLines, TwoSumsMeanUnits};
 
 /// A law that costs nothing to call: each pack of a plan is a store group, loads that stand beside
 /// each other in memory, or the call of a description whose lanes match.

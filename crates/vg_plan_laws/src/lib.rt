@@ -2,7 +2,8 @@
 //! take, meets all that the laws on emitted programs want.
 //!
 //! `specs/Made.antt` says what the packs of plans are, and `specs/Laws.antt` what plans promise.
-//! `specs/TwoSums.antt` has a small plan with a call, which meets all that the laws want.
+//! `specs/TwoSumsProgram.antt` has the program of a small plan with a call (`TwoSums` of
+//! `vg_plan_relations`), which meets all that the laws want.
 #![tactic(auto)]
 
 mod law;

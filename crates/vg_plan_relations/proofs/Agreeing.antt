@@ -3,10 +3,10 @@ use Rattle.std.proofs.Common.{◌≡◌, ℕ, zero, suc, ◌+◌, ◌<◌, ◌�
 use Rattle.std.specs.Prelude.{not, nat_eq, nat_le, Option, Some, slice_get}
 use Rattle.std.specs.List.{list_all, list_any}
 use Rattle.std.specs.Option.{option_map_or}
-use Rattle.std.proofs.lemmas.Bool.{cases_Bool}
+use Rattle.std.proofs.lemmas.Bool.{cases_Bool, not-true}
 use Rattle.std.proofs.lemmas.Bool.Decides.{nat_tests}
 use Rattle.vg_plans.specs.Levels.{distinct, insert_by, sort_by}
-use Rattle.vg_plans.specs.Members.{AllDiffer, Every, Has}
+use Rattle.vg_plans.specs.Members.{Every, Has}
 use Rattle.vg_plans.proofs.Lists.{distinct-differ, every-distinct, every-has, every-map, every-sort, has-map, has-sort, stays}
 use Rattle.vg_plans.proofs.Members.{Unique, any-found, any-is, from-filter, has-filter}
 use Rattle.vg_plans.proofs.Sorting.{Rises, sort-rises}
@@ -26,7 +26,7 @@ use Rattle.vg_packing.specs.Taken.{operands_from, operands_of, params_of, slot_o
 use Rattle.vg_packing.proofs.SameTests.{both-true, operand-itself, slot-is}
 use Rattle.vg_plan_relations.specs.Produces.{AreRising, Binds, LanesAgree}
 use Rattle.vg_plan_relations.proofs.Fitting.{binds-param, bound-binds, bound-there}
-use Rattle.vg_plan_relations.proofs.Rising.{not-true}
+use Rattle.vg_plan_relations.proofs.Lists.{differ-unique}
 
 pub slot-itself : (s : Slot) → same_slot s s ≡ true
 slot-itself s = (both-true (same_slot s s) true (operand-itself (record { register = 0; slots = s ∷ [] }))).0
@@ -118,29 +118,22 @@ unique-sort : {X : Type 0} (key : X → ℕ) (xs : List X) → Unique xs → Uni
 unique-sort key [] u = tt
 unique-sort key (x ∷ xs) u = unique-insert key x (sort_by key xs) (λ h. u.0 (from-sort key x xs h)) (unique-sort key xs u.1)
 
-differ-unique : (ss : List Slot) → AllDiffer same_slot ss → Unique ss
-differ-unique [] d = tt
-differ-unique (s ∷ ss) d = (
-  (λ h. let f = every-has (λ y. same_slot s y ≡ false) s ss d.0 h in let t = slot-itself s in absurd (cc)),
-  differ-unique ss d.1,
-)
-
 slot-turned : (a b : Slot) → same_slot a b ≡ true → same_slot b a ≡ true
 slot-turned a b t = let e = slot-is a b t in subst (λ x. same_slot x a ≡ true) e (slot-itself a)
 
 -- ---- the slots of a parameter
 
 -- the entries of a parameter
-abbrev entries : List Bound → ℕ → List Bound
+abbrev pub entries : List Bound → ℕ → List Bound
 entries bounds k = filter (λ (b : Bound). nat_eq b.key.first k) bounds
 
 slots-once : (bounds : List Bound) (k : ℕ) → Unique (slots_of bounds k)
 slots-once bounds k =
     unique-sort (λ (s : Slot). s.low) (distinct same_slot (map slot_of (entries bounds k)))
-    (differ-unique (distinct same_slot (map slot_of (entries bounds k)))
+    (differ-unique same_slot slot-itself (distinct same_slot (map slot_of (entries bounds k)))
     (distinct-differ same_slot slot-turned [] (map slot_of (entries bounds k))))
 
-slot-there : (bounds : List Bound) (b : Bound) (k : ℕ) → Has b bounds → b.key.first ≡ k → Has (slot_of b) (slots_of bounds k)
+pub slot-there : (bounds : List Bound) (b : Bound) (k : ℕ) → Has b bounds → b.key.first ≡ k → Has (slot_of b) (slots_of bounds k)
 slot-there bounds b k has e =
     let here : nat_eq b.key.first k ≡ true = grind (arith, nat_tests, e) in
     let all = map slot_of (entries bounds k) in

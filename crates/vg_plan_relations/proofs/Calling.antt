@@ -34,7 +34,7 @@ use Rattle.vg_plan_relations.proofs.Rising.{one-at}
 
 -- ---- the lanes of a call
 
-lanes-count : (n low w : ℕ) (slots : List Slot) → length (lanes_for n low w slots) ≡ n
+pub lanes-count : (n low w : ℕ) (slots : List Slot) → length (lanes_for n low w slots) ≡ n
 lanes-count zero low w slots = refl
 lanes-count (suc n) low w slots = ap suc (lanes-count n (low + w) w slots)
 

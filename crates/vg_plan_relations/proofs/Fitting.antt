@@ -1,7 +1,7 @@
 -- What matched lanes tell: their terms fit, lanes are wide, and their leaves are those of parameters.
 use Rattle.std.proofs.Common.{◌≡◌, ℕ, zero, suc, ◌+◌, ◌<◌, ◌≤◌, true, List, [], ◌∷◌, length, refl, sym, ◌∙◌, ap, subst, inl, inr, arith, get_or}
 use Rattle.std.specs.Prelude.{◌||◌, is_some, Option, Some, None, slice_get}
-use Rattle.std.specs.List.{AllByRecursion, filter_map}
+use Rattle.std.specs.List.{filter_map}
 use Rattle.std.specs.Option.{option_map_or}
 use Rattle.std.proofs.lemmas.Bool.{or_cases}
 use Rattle.vg_base.specs.Trap.{◌>>=◌}
@@ -23,15 +23,7 @@ use Rattle.vg_match.proofs.Laws.{found-fit as fit-found}
 use Rattle.vg_packing.specs.Producers.{are_matched}
 use Rattle.vg_packing.proofs.SameTests.{both-true}
 use Rattle.vg_plan_relations.specs.Produces.{Binds, HasLane}
-
-pub all-has : {X : Type 0} (P : X → Type 0) (xs : List X) (x : X) → AllByRecursion P xs → Has x xs → P x
-all-has P [] x a h = absurd h
-all-has P (y ∷ xs) x a h = elim h [ inl e ↦ subst P e a.0 | inr k ↦ all-has P xs x a.1 k ]
-
-pub get-has : {X : Type 0} (xs : List X) (k : ℕ) (x : X) → slice_get xs k ≡ Some x → Has x xs
-get-has [] k x e = absurd (cc)
-get-has (y ∷ xs) zero x e = inl (cc)
-get-has (y ∷ xs) (suc k) x e = inr (get-has xs k x e)
+use Rattle.vg_plan_relations.proofs.Lists.{all-has, get-has}
 
 -- ---- matches
 
@@ -165,7 +157,7 @@ lane-with [] l = absurd (omega (arith, l))
 lane-with (None ∷ lanes) l = let k = lane-with lanes l in (suc k.0, k.1, k.2)
 lane-with (Some v ∷ lanes) l = (zero, v, refl)
 
-param-there : (ws : List ℕ) (k : ℕ) → 0 < get_or ws k 0 → k < length ws
+pub param-there : (ws : List ℕ) (k : ℕ) → 0 < get_or ws k 0 → k < length ws
 param-there [] k h = absurd (omega (arith, h))
 param-there (w ∷ ws) zero h = omega arith
 param-there (w ∷ ws) (suc k) h = let r = param-there ws k h in omega (arith, r)

@@ -19,13 +19,8 @@ use Rattle.vg_plan_relations.specs.Laws.{HoldsIsTold}
 use Rattle.vg_plan_relations.specs.Produces.{IsLaneSlot}
 use Rattle.vg_plan_relations.proofs.Agreeing.{slot-itself}
 use Rattle.vg_plan_relations.proofs.Exact.{and-true, from-none}
+use Rattle.vg_plan_relations.proofs.Lists.{all-true}
 use Rattle.vg_plan_relations.proofs.Rising.{lane-of, lane-there}
-
-all-true : {X : Type 0} (test : X → Bool) (xs : List X) (x : X) → list_all test xs ≡ true → Has x xs → test x ≡ true
-all-true test [] x t h = absurd h
-all-true test (y ∷ xs) x t h =
-    let b = both-true (test y) (list_all test xs) t in
-    elim h [ inl e ↦ subst (λ z. test z ≡ true) e b.0 | inr k ↦ all-true test xs x b.1 k ]
 
 true-all : {X : Type 0} (test : X → Bool) (xs : List X) → ((x : X) → Has x xs → test x ≡ true) → list_all test xs ≡ true
 true-all test [] f = refl

@@ -1,11 +1,12 @@
-mod Agreeing
-mod Calling
-mod Exact
-mod Fitting
+pub mod Agreeing
+pub mod Calling
+pub mod Exact
+pub mod Fitting
 mod Held
-mod Loading
+pub mod Lists
+pub mod Loading
 mod Planning
 mod Producing
 mod Rising
-mod TwoSums
+pub mod TwoSums
 mod Waiting

@@ -1,8 +1,7 @@
 -- The load pack of the list produces the operand, and a load pack that does is that of the list.
-use Rattle.std.proofs.Common.{◌≡◌, ℕ, ◌*◌, ◌/◌, ◌<◌, ◌≤◌, Bool, true, List, [], ◌∷◌, length, map, refl, sym, ◌∙◌, ap, ap₂, subst, arith, ℤ}
-use Rattle.std.specs.Prelude.{◌&&◌, if◌then◌else◌, nat_eq, Option, Some, None, IsTrue}
+use Rattle.std.proofs.Common.{◌≡◌, ℕ, ◌*◌, ◌/◌, ◌<◌, ◌≤◌, Bool, true, List, [], ◌∷◌, length, map, refl, sym, ◌∙◌, ap, subst, arith}
+use Rattle.std.specs.Prelude.{◌&&◌, nat_eq, Option, Some, None, IsTrue}
 use Rattle.std.specs.Cmp.Lexicographic.{pointwise}
-use Rattle.std.specs.Ordering.{int_eq}
 use Rattle.std.proofs.lemmas.Bool.Decides.{nat_tests, Decides-int_eq}
 use Rattle.vg_base.specs.declared.address.Address.{Address}
 use Rattle.vg_base.specs.declared.width.Width.{Width}
@@ -27,36 +26,18 @@ use Rattle.vg_packing.specs.Taken.{first_width, register_for, unit_width}
 use Rattle.vg_packing.specs.Wants.{wanted_slots, wanted_values}
 use Rattle.vg_packing.proofs.SameTests.{both-true, eq-itself, list-is, operand-itself, slot-is}
 use Rattle.vg_packing.proofs.Tried.{if-has}
+use Rattle.vg_packs.proofs.Placing.{place-is}
 use Rattle.vg_plan_relations.specs.Produces.{AreRising, Produces}
 use Rattle.vg_plan_relations.proofs.Exact.{and-true, can-be, exact, has-once, has-two, lane-wanted, one-if, same-values, wanted-lane}
 use Rattle.vg_plan_relations.proofs.Rising.{some-lanes}
 
 -- ---- loads beside each other
 
--- the width of so many bits
-width_from : ℕ → Width
-width_from n = if nat_eq n 8 then W8 else if nat_eq n 16 then W16 else if nat_eq n 32 then W32 else W64
-
-width-back : (w : Width) → width_from (bits_of w) ≡ w
-unfolding width_from
-width-back W8 = refl
-width-back W16 = refl
-width-back W32 = refl
-width-back W64 = refl
-
 load-is : (a : Address) (w : Width) (o : Option Work) → loads_from a w o ≡ true → o ≡ Some (Load a w)
 load-is a w None t = absurd (cc)
 load-is a w (Some (Store b v x)) t = absurd (cc)
 load-is a w (Some (Operation op v k xs)) t = absurd (cc)
-load-is a w (Some (Load b v)) t =
-    let k = both-true (nat_eq b.pointer a.pointer) (int_eq b.offset a.offset && nat_eq (bits_of v) (bits_of w)) t in
-    let m = both-true (int_eq b.offset a.offset) (nat_eq (bits_of v) (bits_of w)) k.1 in
-    let p : b.pointer ≡ a.pointer = grind (arith, nat_tests, k.0) in
-    let o : b.offset ≡ a.offset = (Decides-int_eq b.offset a.offset).0 m.0 in
-    let made : ℕ → ℤ → Address = λ x y. record { pointer = x; offset = y } in
-    let bits : bits_of v ≡ bits_of w = grind (arith, nat_tests, m.1) in
-    let wide : v ≡ w = sym (width-back v) ∙ ap width_from bits ∙ width-back w in
-    ap (λ c. Some (Load c v)) (ap₂ made p o) ∙ ap (λ x. Some (Load a x)) wide
+load-is a w (Some (Load b v)) t = let k = place-is a b w v t in λ i. Some (Load (k.0 i) (k.1 i))
 
 own-load : (a : Address) (w : Width) → loads_from a w (Some (Load a w)) ≡ true
 own-load a w = rw (eq-itself a.pointer, (Decides-int_eq a.offset a.offset).1 refl, eq-itself (bits_of w)) refl
@@ -94,7 +75,7 @@ are-beside : (ssa : Ssa) (w : Width) (a : Address) (us : List ℕ) → AreLoads 
 are-beside ssa w a [] h l = absurd (omega (arith, l))
 are-beside ssa w a (u ∷ us) h l = ap (λ o. begin_loads ssa o (u ∷ us)) h.0 ∙ are-loads ssa w a (u ∷ us) h
 
-bytes-same : (n : ℕ) (w : Width) → n * bits_of w / 8 ≡ n * size_of w
+pub bytes-same : (n : ℕ) (w : Width) → n * bits_of w / 8 ≡ n * size_of w
 bytes-same n W8 = omega arith
 bytes-same n W16 = omega arith
 bytes-same n W32 = omega arith

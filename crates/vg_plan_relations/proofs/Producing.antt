@@ -20,7 +20,7 @@ use Rattle.vg_packing.proofs.Tried.{if-has}
 use Rattle.vg_plan_relations.specs.Laws.{ProducersAreListed}
 use Rattle.vg_plan_relations.specs.Produces.{AreRising, Produces}
 use Rattle.vg_plan_relations.proofs.Calling.{call-right, call-whole}
-use Rattle.vg_plan_relations.proofs.Fitting.{all-has, get-has}
+use Rattle.vg_plan_relations.proofs.Lists.{all-has, get-has}
 use Rattle.vg_plan_relations.proofs.Loading.{load-right, load-whole}
 
 module _ (ds : List Description) (matches : List Match) (ssa : Ssa) (o : Operand) where

@@ -2,7 +2,7 @@
 use Rattle.std.proofs.Common.{◌≡◌, ℕ, zero, suc, ◌+◌, ◌*◌, ◌<◌, ◌≤◌, Bool, true, false, List, [], ◌∷◌, length, map, filter, refl, sym, ◌∙◌, ap, subst, inl, inr, arith, lit<}
 use Rattle.std.specs.Prelude.{not, nat_eq, Option, Some, None}
 use Rattle.std.specs.List.{filter_map, list_all, list_any}
-use Rattle.std.proofs.lemmas.Bool.{cases_Bool}
+use Rattle.std.proofs.lemmas.Bool.{cases_Bool, not-true}
 use Rattle.std.proofs.lemmas.Bool.Decides.{nat_tests}
 use Rattle.vg_plans.specs.Members.{AllDiffer, Every, Has}
 use Rattle.vg_plans.proofs.Lists.{every-has, none-found}
@@ -191,10 +191,6 @@ values-wanted (s ∷ slots) = by (values-wanted slots) s.wanted refl
     by rest Nothing e = rw e rest
 
 -- ---- numbers none of which stands twice
-
-pub not-true : (b : Bool) → not b ≡ true → b ≡ false
-not-true true e = absurd (cc)
-not-true false e = refl
 
 pub differ-all : (vs : List ℕ) → all_differ vs ≡ true → AllDiffer nat_eq vs
 differ-all [] t = tt

@@ -32,7 +32,7 @@ sum-lane low inside = record {
   inside = ((0, low, refl, inside), (1, low, refl, inside));
 }
 
-sums-packable : IsPackable four_sums
+pub sums-packable : IsPackable four_sums
 sums-packable = record {
   fill = refl;
   lanes = (
@@ -137,7 +137,7 @@ each-sum t zero (suc (suc zero)) v x bound there f = at-sum t 2 v x bound (cc) f
 each-sum t zero (suc (suc (suc zero))) v x bound there f = at-sum t 3 v x bound (cc) f refl refl
 each-sum t zero (suc (suc (suc (suc lane)))) v x bound there f = absurd (none-some x there)
 
-sums-matched : (t : Term) → tree t ≡ sum_tree → AreMatches (four_sums ∷ []) (two_sums t) sum_matches
+pub sums-matched : (t : Term) → tree t ≡ sum_tree → AreMatches (four_sums ∷ []) (two_sums t) sum_matches
 sums-matched t is =
     let e0 = λ (v : ℕ). sums-entered v 0 (inl refl) in
     let e1 = λ (v : ℕ). sums-entered v 1 (inr (inl refl)) in
@@ -173,7 +173,7 @@ sums-matched t is =
 
 -- ---- the plan
 
-sums-grown : (t : Term) → IsPlanFor (four_sums ∷ []) sum_matches (two_sums t) (dependences (two_sums t)) sum_plan
+pub sums-grown : (t : Term) → IsPlanFor (four_sums ∷ []) sum_matches (two_sums t) (dependences (two_sums t)) sum_plan
 sums-grown t =
     let ways = follows (packing (four_sums ∷ []) sum_matches (two_sums t) (dependences (two_sums t))) in
     let stores : IsPlan ways (Stores (4 ∷ 5 ∷ []) ∷ []) = more [] (Stores (4 ∷ 5 ∷ [])) empty (inl refl) in

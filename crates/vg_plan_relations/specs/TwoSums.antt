@@ -21,6 +21,8 @@ use Rattle.vg_terms.specs.declared.term.TwoOp.TheVariants as term
 use Rattle.vg_terms.specs.Term.{leaf, tree, Tree, two}
 use Rattle.vg_plan_relations.specs.Plans.{IsPlanByNodes}
 
+-- ---- the kernel
+
 abbrev pub argument : ℕ → Tree
 argument v = leaf 32 (argument_key v)
 
@@ -58,6 +60,8 @@ two_sums t = record {
       ∷ Const 8 0
       ∷ [];
 }
+
+-- ---- the instance
 
 -- the sum of what stands from a bit on in two registers
 abbrev pub sum_lane : ℕ → Tree
@@ -98,6 +102,8 @@ sum_matches =
     ∷ sum_match 3 2
     ∷ sum_match 3 3
     ∷ []
+
+-- ---- the plan
 
 -- both stores in one line, and both sums by one call, in lanes 0 and 1
 abbrev pub sum_plan : List Packed

@@ -3,7 +3,8 @@
 //!
 //! `specs/Produces.antt` says when a pack produces an operand and when it holds one, and
 //! `specs/Plans.antt` when a list of packs is a plan. The laws join them to the lists and tests of
-//! `vg_packing`, by which packs are found and plans grow. `specs/TwoSums.antt` has a plan with a call.
+//! `vg_packing`, by which packs are found and plans grow. `specs/TwoSums.antt` has a small kernel, an
+//! instance, and a plan with a call.
 #![tactic(auto)]
 
 mod law;

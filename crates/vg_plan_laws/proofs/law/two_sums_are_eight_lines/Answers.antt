@@ -1,4 +1,4 @@
-use Rattle.vg_plan_laws.proofs.TwoSums.{two-sums-lines}
+use Rattle.vg_plan_laws.proofs.TwoSumsProgram.{two-sums-lines}
 use Rattle.vg_plan_laws.proofs.law.two_sums_are_eight_lines.Goals as goal
 
 pub returns : goal.returns
