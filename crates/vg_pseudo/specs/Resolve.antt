@@ -207,6 +207,7 @@ one_element _ = None
 abbrev pub assigned_to : List ℕ → List Assignment → List Assignment
 assigned_to n as' = filter (λ a. bytes_eq a.name n) as'
 
+-- a local that is a register, by the assignments to such locals
 abbrev pub local_register : List Register → List Assignment → List ℕ → Register
 local_register given as' n = record {
   name = n;
@@ -217,11 +218,21 @@ local_register given as' n = record {
   span = one_element (map (λ a. a.form) (assigned_to n as'));
 }
 
+-- The assignments by which signs go. The name of a number variable is unsigned, so those to number
+-- variables do not count.
+abbrev pub register_assignments : List (List ℕ) → List Assignment → List Assignment
+register_assignments marked as' = filter (λ a. has_name marked a.name) as'
+
+-- the locals of a body that are registers, by its assignments to locals
+abbrev pub local_registers : List Register → List (List ℕ) → List Assignment → List Register
+local_registers given marked as' =
+    map (local_register given (register_assignments marked as')) (register_locals marked as')
+
 -- the names of a body that begins with these registers, in which these names stand with brackets
 abbrev pub scope_of : List Register → List (List ℕ) → List (List ℕ) → Statements → Scope
 scope_of given marked functions body =
     let as' = local_assignments given body in record {
-      registers = given ++ map (local_register given as') (register_locals marked as');
+      registers = given ++ local_registers given marked as';
       variables = number_locals marked as';
       turns = [];
       functions = functions;

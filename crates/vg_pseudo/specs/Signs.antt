@@ -1,5 +1,6 @@
--- Which expressions are read as signed, and with them which locals: a local is signed where some
--- assignment to it has a signed right side, and that is shown in finitely many steps.
+-- Which expressions are read as signed, and with them which locals: a local that is a register is
+-- signed where some assignment to it has a signed right side, and that is shown in finitely many
+-- steps. The name of a number variable is unsigned.
 use Rattle.std.specs.Prelude.{ℕ, zero, suc, Bool, true, false, not, ◌&&◌, ◌||◌, List, IsTrue}
 use Rattle.std.specs.List.{list_any}
 use Rattle.std.specs.Str.{bytes_eq}
@@ -58,7 +59,7 @@ is_signed_register signed rs n = list_any (λ r. bytes_eq r.name n && signed r) 
 
 -- Whether a name is shown to be signed in at most so many steps: a register that is given, or a
 -- local by an assignment whose right side is signed in one step less. The assignments are those to
--- locals.
+-- locals that are registers.
 abbrev pub signed_in : List Register → List Assignment → ℕ → List ℕ → Bool
 signed_in given as' zero n = is_signed_register (λ r. r.signed_whole) given n
 signed_in given as' (suc k) n =
@@ -68,6 +69,7 @@ signed_in given as' (suc k) n =
       whole = signed_in given as' k;
     }) a.turns a.value) as'
 
--- what is signed is shown so in finitely many steps
+-- What is signed is shown so in finitely many steps. As many as there are assignments decide it, by
+-- the law `signs_are_decided` of vg_names.
 abbrev pub IsSigned : List Register → List Assignment → List ℕ → Type 0
 IsSigned given as' n = (k : ℕ) × IsTrue (signed_in given as' k n)
