@@ -20,7 +20,7 @@ use Rattle.vg_pseudo.specs.declared.header.ImmRange.{ImmRange}
 use Rattle.vg_pseudo.specs.Tree.{Operation}
 use Rattle.vg_pseudo.specs.Names.{bracketed_in, Register}
 use Rattle.vg_pseudo.specs.Resolved.{Resolved}
-use Rattle.vg_pseudo.specs.Resolve.{NameFault, functions_of, code_of, local_assignments, local_register, register_locals, param_register, imm_registers, result_register, operand_registers, operation_scope, resolve}
+use Rattle.vg_pseudo.specs.Resolve.{NameFault, functions_of, code_of, local_assignments, local_registers, param_register, imm_registers, result_register, operand_registers, operation_scope, resolve}
 use Rattle.vg_script.specs.Formed.{ScriptFormed}
 use Rattle.vg_script.specs.Views.{Whole}
 use Rattle.vg_interval.specs.declared.fault.RangeFault.{RangeFault}
@@ -88,7 +88,7 @@ stands h o imm i e =
     let is = same_resolved c.2 in
     let given = operand_registers h ++ result_register h ∷ [] in
     let named_there = local_assignments given o.body in
-    let locals = map (local_register given named_there) (register_locals (bracketed_in [] o.body) named_there) in
+    let locals = local_registers given (bracketed_in [] o.body) named_there in
     subst (Registered h) same (record {
       params = ap (λ (s : Resolved). take (length h.params) s.body.widths) (sym is)
           ∙ ap (λ (l : List Register). take (length h.params) (map (λ s. s.width) l)) (in_front (map param_register h.params) (imm_registers h.imm) (result_register h) locals)

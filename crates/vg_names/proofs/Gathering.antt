@@ -1,17 +1,16 @@
 -- One assignment more changes what is gathered of its name alone.
-use Rattle.std.proofs.Common.{◌≡◌, ℕ, ◌+◌, zero, suc, ◌<◌, Bool, true, false, ◌||◌, List, [], ◌∷◌, ◌++◌, map, length, get_or, Option, Some, None, refl, sym, ◌∙◌, ap, arith, true≢false, replicate, ◌&&◌, ◌≤◌, set}
+use Rattle.std.proofs.Common.{◌≡◌, ℕ, ◌+◌, zero, suc, ◌<◌, Bool, true, false, List, [], ◌∷◌, ◌++◌, map, length, get_or, Option, Some, None, refl, sym, ◌∙◌, ap, arith, replicate, ◌&&◌, ◌≤◌, set}
 use Rattle.std.specs.Prelude.{fold, filter, if◌then◌else◌}
-use Rattle.std.specs.List.{list_any, list_all}
+use Rattle.std.specs.List.{list_all}
 use Rattle.std.specs.Option.{option_map}
 use Rattle.std.proofs.lemmas.List.{append-nil}
 use Rattle.std.specs.Str.{bytes_eq}
 use Rattle.vg_base.specs.declared.width.Width.{Width}
 use Rattle.vg_base.specs.Width.{bits_of}
 use Rattle.vg_pseudo.specs.Same.{same_width}
-use Rattle.vg_pseudo.specs.Names.{Form, whole_element, other, Assignment, Register, first_place}
+use Rattle.vg_pseudo.specs.Names.{Form, whole_element, other, Assignment}
 use Rattle.vg_pseudo.specs.Resolve.{assigned_to, is_element, one_element}
-use Rattle.vg_pseudo.proofs.Taking.{same_text, text_is_itself}
-use Rattle.vg_names.specs.declared.forms.Forms.{Forms}
+use Rattle.vg_pseudo.proofs.Taking.{same_text}
 use Rattle.vg_names.specs.declared.forms.Forms.TheVariants.{Unseen, Element, Mixed}
 use Rattle.vg_names.specs.Distinct.{place_of, AreDistinct}
 use Rattle.vg_names.specs.Gathered.{gathered, changed, changed_at, form_behind, with_form, span_of_forms}

@@ -1,3 +1,4 @@
+mod Deciding
 mod Gathering
 mod LastOfNames
 mod Listing

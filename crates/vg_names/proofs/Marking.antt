@@ -1,9 +1,9 @@
 -- Names gathered one after the other are the names that stand in the text, each once.
 use Rattle.std.proofs.Common.{◌≡◌, List, ℕ, [], ◌∷◌, ◌++◌, Bool, true, false, Option, Some, None, refl, sym, ◌∙◌, ap}
-use Rattle.std.specs.Prelude.{if◌then◌else◌, filter}
+use Rattle.std.specs.Prelude.{if◌then◌else◌}
 use Rattle.vg_pseudo.specs.Tree.{Statements}
 use Rattle.vg_pseudo.specs.Tree as tree
-use Rattle.vg_pseudo.specs.Names.{Assignment, Register, assignments, has_name, distinct_behind, seen_name, bracketed, all_bracketed, bracketed_in}
+use Rattle.vg_pseudo.specs.Names.{assignments, has_name, distinct_behind, seen_name, bracketed, all_bracketed, bracketed_in}
 use Rattle.vg_names.specs.Assigned.{first_assigned, behind_first, assigned_behind}
 use Rattle.vg_names.specs.Distinct.{with_name}
 use Rattle.vg_names.specs.Marks.{with_seen, marked, all_marked, marked_in, first_marked}

@@ -1,5 +1,5 @@
 -- DEFINEs and operations are resolved one part after the other.
-use Rattle.std.proofs.Common.{◌≡◌, ℕ, Bool, true, false, List, [], ◌∷◌, ◌++◌, map, length, Result, Ok, Err, refl, sym, ◌∙◌, ap, subst, Option, append_assoc}
+use Rattle.std.proofs.Common.{◌≡◌, ℕ, Bool, List, [], ◌∷◌, ◌++◌, map, length, Result, Ok, Err, refl, sym, ◌∙◌, ap, subst, Option, append_assoc}
 use Rattle.std.specs.Prelude.{filter, not, if◌then◌else◌}
 use Rattle.std.proofs.lemmas.List.{append-nil}
 use Rattle.vg_base.specs.Bind.{◌>>=◌}
@@ -9,7 +9,7 @@ use Rattle.vg_pseudo.specs.declared.header.Header.{Header}
 use Rattle.vg_pseudo.specs.Tree.{Statements, Define, Operation}
 use Rattle.vg_pseudo.specs.Names.{Register, Scope, has_name, distinct_behind, bracketed_in}
 use Rattle.vg_pseudo.specs.Resolved.{Function, Resolved, Body, Code}
-use Rattle.vg_pseudo.specs.Resolve.{NameFault, code_of, resolved, define_scope, function_of, functions_of, operand_registers, result_register, operation_scope, resolve, scope_of, body_in, local_assignments, register_locals, number_locals, local_register, locals_of}
+use Rattle.vg_pseudo.specs.Resolve.{NameFault, code_of, resolved, define_scope, function_of, functions_of, operand_registers, result_register, operation_scope, resolve, scope_of, body_in, local_assignments, register_assignments, register_locals, number_locals, local_register, local_registers, locals_of}
 use Rattle.vg_names.specs.Pieces.{body_over, function_over}
 use Rattle.vg_names.specs.Scopes.{scope_over}
 use Rattle.vg_names.proofs.Signing.{has-behind}
@@ -22,11 +22,14 @@ filter-same p q e (x ∷ xs) =
 
 -- which names are marked is all that counts of marks
 pub registers_marked : (given : List Register) (marks : List (List ℕ)) (body : Statements)
-    → given ++ map (local_register given (local_assignments given body)) (register_locals (distinct_behind [] marks) (local_assignments given body))
-    ≡ (scope_of given marks [] body).registers
+    → given ++ local_registers given (distinct_behind [] marks) (local_assignments given body) ≡ (scope_of given marks [] body).registers
 registers_marked given marks body =
-    ap (λ ns. given ++ map (local_register given (local_assignments given body)) ns)
-    (filter-same (has_name (distinct_behind [] marks)) (has_name marks) (has-behind [] marks) (locals_of (local_assignments given body)))
+    let all = local_assignments given body in
+    let found = distinct_behind [] marks in
+    ap (λ ns. given ++ map (local_register given (register_assignments found all)) ns)
+    (filter-same (has_name found) (has_name marks) (has-behind [] marks) (locals_of all))
+    ∙ ap (λ as'. given ++ map (local_register given as') (register_locals marks all))
+    (filter-same (λ a. has_name found a.name) (λ a. has_name marks a.name) (λ a. has-behind [] marks a.name) all)
 
 pub variables_marked : (given : List Register) (marks : List (List ℕ)) (body : Statements)
     → number_locals (distinct_behind [] marks) (local_assignments given body) ≡ (scope_of given marks [] body).variables
@@ -93,11 +96,11 @@ resolve_fails h o fs fault e f =
 -- ---- names
 
 pub names_registers : (given g : List Register) (marks m : List (List ℕ)) (body : Statements) (registers : List Register) → g ≡ given → m ≡ distinct_behind [] marks
-    → registers ≡ g ++ map (local_register g (local_assignments g body)) (register_locals m (local_assignments g body))
+    → registers ≡ g ++ local_registers g m (local_assignments g body)
     → registers ≡ (scope_of given marks [] body).registers
 names_registers given g marks m body registers eg em e =
-    e ∙ ap (λ xs. xs ++ map (local_register xs (local_assignments xs body)) (register_locals m (local_assignments xs body))) eg
-    ∙ ap (λ ns. given ++ map (local_register given (local_assignments given body)) (register_locals ns (local_assignments given body))) em
+    e ∙ ap (λ xs. xs ++ local_registers xs m (local_assignments xs body)) eg
+    ∙ ap (λ ns. given ++ local_registers given ns (local_assignments given body)) em
     ∙ registers_marked given marks body
 
 pub names_variables : (given g : List Register) (marks m : List (List ℕ)) (body : Statements) (variables : List (List ℕ)) → g ≡ given → m ≡ distinct_behind [] marks

@@ -6,10 +6,10 @@ use Rattle.std.specs.Option.{option_map, option_map_or}
 use Rattle.std.specs.Str.{bytes_eq}
 use Rattle.vg_pseudo.specs.Tree.{Expression}
 use Rattle.vg_pseudo.specs.Tree as tree
-use Rattle.vg_pseudo.specs.Names.{Assignment, Register, has_name, first_place, distinct_behind}
+use Rattle.vg_pseudo.specs.Names.{Assignment, Register, has_name, distinct_behind}
 use Rattle.vg_pseudo.specs.Signs.{Signs, gives_signed, keeps_sign, joins_signs, is_signed, is_signed_register, signed_in}
 use Rattle.vg_pseudo.specs.Resolve.{assigned_to, locals_of}
-use Rattle.vg_pseudo.proofs.Taking.{same_text, text_is_itself}
+use Rattle.vg_pseudo.proofs.Taking.{same_text}
 use Rattle.vg_names.specs.Assigned.{is_local}
 use Rattle.vg_names.specs.Distinct.{place_of, with_name}
 use Rattle.vg_names.specs.Gathered.{whole_of, signs_of, with_sign, signed_next, signed_after}
@@ -99,7 +99,7 @@ filtered_local given (a ∷ as') = by (is_local given a) refl (filtered_local gi
     by true e h = rw e (e, h)
     by false e h = rw e h
 
-abbrev Apart : List Register → List ℕ → Type 0
+abbrev pub Apart : List Register → List ℕ → Type 0
 Apart given n = list_any (λ r. bytes_eq r.name n) given ≡ false
 
 not-true : (b : Bool) → not b ≡ true → b ≡ false
@@ -169,17 +169,17 @@ none-yet i zero = refl
 none-yet zero (suc n) = refl
 none-yet (suc i) (suc n) = none-yet i n
 
-module _ (given : List Register) (as' : List Assignment) (local : AllLocal given as') where
-  abbrev names : List (List ℕ)
-  names = locals_of as'
+-- a local is not given
+pub placed_apart : (given : List Register) (as' : List Assignment) → AllLocal given as' → (n : List ℕ) (i : ℕ) → place_of (locals_of as') n ≡ Some i → Apart given n
+placed_apart given as' local n i e = local-apart given as' n local (sym (has-behind [] (names_in as') n) ∙ found-has (locals_of as') n i e)
 
-  -- a local is not given
-  placed-apart : (n : List ℕ) (i : ℕ) → place_of names n ≡ Some i → Apart given n
-  placed-apart n i e = local-apart given as' n local (sym (has-behind [] (names_in as') n) ∙ found-has names n i e)
+-- and what is no local is not assigned
+pub unplaced : (as' : List Assignment) (t : Assignment → Bool) (n : List ℕ) → place_of (locals_of as') n ≡ None → list_any (λ a. bytes_eq a.name n && t a) as' ≡ false
+unplaced as' t n e = any-of t as' n (sym (has-behind [] (names_in as') n) ∙ nowhere (locals_of as') n e)
 
-  unplaced : (t : Assignment → Bool) (n : List ℕ) → place_of names n ≡ None → list_any (λ a. bytes_eq a.name n && t a) as' ≡ false
-  unplaced t n e = any-of t as' n (sym (has-behind [] (names_in as') n) ∙ nowhere names n e)
-
+-- the names are those of locals, and whatever is assigned is among them
+module _ (given : List Register) (names : List (List ℕ)) (as' : List Assignment) (placed-apart : (n : List ℕ) (i : ℕ) → place_of names n ≡ Some i → Apart given n)
+    (unassigned : (t : Assignment → Bool) (n : List ℕ) → place_of names n ≡ None → list_any (λ a. bytes_eq a.name n && t a) as' ≡ false) where
   abbrev Known : ℕ → Type 0
   Known k = (n : List ℕ) → whole_of given names (signed_after given names as' k) n ≡ signed_in given as' k n
 
@@ -206,7 +206,7 @@ module _ (given : List Register) (as' : List Assignment) (local : AllLocal given
       by : (o : Option ℕ) → place_of names n ≡ o
           → option_map_or (λ i. get_or (signed_after given names as' (suc k)) i false) o (is_signed_register (λ r. r.signed_whole) given n) ≡ signed_in given as' (suc k) n
       by None e =
-          sym (ap (λ b. is_signed_register (λ r. r.signed_whole) given n || b) (unplaced (λ a. is_signed meant a.turns a.value) n e)
+          sym (ap (λ b. is_signed_register (λ r. r.signed_whole) given n || b) (unassigned (λ a. is_signed meant a.turns a.value) n e)
           ∙ or-false (is_signed_register (λ r. r.signed_whole) given n))
       by (Some i) e =
           let at = place_found names n i e in

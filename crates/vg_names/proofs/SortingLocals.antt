@@ -1,23 +1,23 @@
 -- The locals of a body, one after the other, are its registers and its number variables.
-use Rattle.std.proofs.Common.{◌≡◌, ℕ, ◌+◌, zero, suc, ◌<◌, Bool, true, false, ◌||◌, ◌&&◌, List, [], ◌∷◌, ◌++◌, map, length, get_or, drop, replicate, Option, Some, None, refl, sym, ◌∙◌, ap, subst, arith, append_assoc, true≢false, Result, Ok, Err}
+use Rattle.std.proofs.Common.{◌≡◌, ℕ, ◌+◌, zero, suc, ◌<◌, Bool, true, false, ◌||◌, ◌&&◌, List, [], ◌∷◌, ◌++◌, map, length, get_or, drop, Option, Some, None, refl, sym, ◌∙◌, ap, subst, arith, append_assoc, true≢false, Result, Ok, Err}
 use Rattle.std.specs.Prelude.{fold, filter, not, if◌then◌else◌}
 use Rattle.std.specs.List.{list_any}
 use Rattle.std.specs.Result.{IfOk}
 use Rattle.std.specs.Option.{option_map}
 use Rattle.std.specs.Str.{bytes_eq}
 use Rattle.std.proofs.lemmas.List.{append-nil, length-append}
-use Rattle.vg_pseudo.specs.Tree.{Statements, Expression}
+use Rattle.vg_pseudo.specs.Tree.{Statements}
 use Rattle.vg_pseudo.specs.Names.{Assignment, Register, has_name, first_place, distinct_behind}
-use Rattle.vg_pseudo.specs.Signs.{Signs, is_signed, is_signed_register, signed_in}
-use Rattle.vg_pseudo.specs.Resolve.{assigned_to, locals_of, local_assignments, register_locals, number_locals, local_register}
+use Rattle.vg_pseudo.specs.Signs.{is_signed, is_signed_register, signed_in}
+use Rattle.vg_pseudo.specs.Resolve.{assigned_to, locals_of, local_assignments, register_assignments, number_locals, local_register, local_registers}
 use Rattle.vg_names.specs.declared.forms.Forms.{Forms}
 use Rattle.vg_names.specs.declared.forms.Forms.TheVariants.{Unseen}
 use Rattle.vg_names.specs.Registers.{has_sign}
-use Rattle.vg_names.specs.Bodies.{new_register, local_registers, with_variable, registers_from, variables_behind}
+use Rattle.vg_names.specs.Bodies.{new_register, registers_of_local, with_variable, registers_from, variables_behind}
 use Rattle.vg_names.specs.Distinct.{place_of, with_name, AreDistinct}
-use Rattle.vg_names.specs.Gathered.{gathered, signed_after, signed_next, with_form, span_of_forms}
+use Rattle.vg_names.specs.Gathered.{gathered, signed_after, with_form}
 use Rattle.vg_names.proofs.Gathering.{gathered_at, forms_span}
-use Rattle.vg_names.proofs.Signing.{AllLocal, filtered_local, signed_known, signs-same, any-same}
+use Rattle.vg_names.proofs.Signing.{AllLocal, filtered_local, placed_apart, unplaced, signed_known, signs-same, any-same}
 
 -- what is left at a place
 pub rest_at : {A : Type 0} (xs : List A) (i : ℕ) (d : A) → i < length xs → drop i xs ≡ get_or xs i d ∷ drop (i + 1) xs
@@ -38,11 +38,11 @@ mapped_item f (y ∷ xs) (suc i) x d h e = mapped_item f xs i x d (omega (arith,
 
 -- one local more is sorted
 pub one_sorted : (marked : List (List ℕ)) (flags : List Bool) (forms : List Forms) (k : ℕ) (names : List (List ℕ)) (done after : List Register) (n : List ℕ)
-    → k < length names → n ≡ get_or names k [] → after ≡ done ++ local_registers marked n (get_or flags k false) (get_or forms k Unseen)
+    → k < length names → n ≡ get_or names k [] → after ≡ done ++ registers_of_local marked n (get_or flags k false) (get_or forms k Unseen)
     → after ++ registers_from marked flags forms (k + 1) (drop (k + 1) names) ≡ done ++ registers_from marked flags forms k (drop k names)
 one_sorted marked flags forms k names done after n h is e =
     ap (λ xs. xs ++ registers_from marked flags forms (k + 1) (drop (k + 1) names)) e
-    ∙ append_assoc done (local_registers marked n (get_or flags k false) (get_or forms k Unseen)) (registers_from marked flags forms (k + 1) (drop (k + 1) names))
+    ∙ append_assoc done (registers_of_local marked n (get_or flags k false) (get_or forms k Unseen)) (registers_from marked flags forms (k + 1) (drop (k + 1) names))
     ∙ ap (λ m. done ++ registers_from marked flags forms k (m ∷ drop (k + 1) names)) is
     ∙ ap (λ xs. done ++ registers_from marked flags forms k xs) (sym (rest_at names k [] h))
 
@@ -140,33 +140,58 @@ local-kept given (a ∷ as') h = (ap not (apart given (not-true _ h.0)), local-k
         by k false f true = rw f (k (let q : list_any (λ r. bytes_eq r.name a.name) (r ∷ rs) ≡ list_any (λ r. bytes_eq r.name a.name) rs = rw f refl in sym q ∙ e))
         by k false f false = k (let q : list_any (λ r. bytes_eq r.name a.name) (r ∷ rs) ≡ list_any (λ r. bytes_eq r.name a.name) rs = rw f refl in sym q ∙ e)
 
+-- what is left of views is seen of what is left
+pub mapped_filter : {A B : Type 0} (f : A → B) (q : B → Bool) (xs : List A) → map f (filter (λ x. q (f x)) xs) ≡ filter q (map f xs)
+mapped_filter f q [] = refl
+mapped_filter f q (x ∷ xs) = by (q (f x)) (mapped_filter f q xs)
+  where
+    by : (b : Bool) → map f (filter (λ y. q (f y)) xs) ≡ filter q (map f xs)
+        → map f (if b then x ∷ filter (λ y. q (f y)) xs else filter (λ y. q (f y)) xs) ≡ (if b then f x ∷ filter q (map f xs) else filter q (map f xs))
+    by true e = ap (λ ys. f x ∷ ys) e
+    by false e = e
+
+-- none among them is none among fewer
+any-kept : {A : Type 0} (p q : A → Bool) (xs : List A) → list_any p xs ≡ false → list_any p (filter q xs) ≡ false
+any-kept p q [] e = refl
+any-kept p q (x ∷ xs) e = by (any-kept p q xs) (p x) refl (q x)
+  where
+    by : (list_any p xs ≡ false → list_any p (filter q xs) ≡ false) → (b : Bool) → p x ≡ b → (d : Bool)
+        → list_any p (if d then x ∷ filter q xs else filter q xs) ≡ false
+    by k true f d = absurd (true≢false (let h : list_any p (x ∷ xs) ≡ true = rw f refl in sym h ∙ e))
+    by k false f true = rw f (k (let h : list_any p (x ∷ xs) ≡ list_any p xs = rw f refl in sym h ∙ e))
+    by k false f false = k (let h : list_any p (x ∷ xs) ≡ list_any p xs = rw f refl in sym h ∙ e)
+
 -- the registers of a body are its own
-pub registers_are : (given : List Register) (marked : List (List ℕ)) (body : Statements) (count : ℕ) → let as' = local_assignments given body in
-    count ≡ length as' → AreDistinct (locals_of as')
-    → registers_from marked (signed_after (filter has_sign given) (locals_of as') as' count) (gathered with_form Unseen (locals_of as') as') 0 (locals_of as')
-    ≡ map (local_register given as') (register_locals marked as')
+pub registers_are : (given : List Register) (marked : List (List ℕ)) (body : Statements) (count : ℕ) → let all = local_assignments given body in
+    let kept = register_assignments marked all in
+    count ≡ length kept → AreDistinct (locals_of all)
+    → registers_from marked (signed_after (filter has_sign given) (locals_of all) kept count) (gathered with_form Unseen (locals_of all) kept) 0 (locals_of all)
+    ≡ local_registers given marked all
 registers_are given marked body count e d =
-    let as' = local_assignments given body in
-    let names = locals_of as' in
-    sorted marked _ _ (λ n. signed_in given as' (length as') n) (λ n. fold with_form Unseen (assigned_to n as')) 0 names
+    let all = local_assignments given body in
+    let kept = register_assignments marked all in
+    let names = locals_of all in
+    let signed = filter has_sign given in
+    sorted marked _ _ (λ n. signed_in given kept (length kept) n) (λ n. fold with_form Unseen (assigned_to n kept)) 0 names
     (λ i l.
     let zeroth : 0 + i ≡ i = omega arith in (
-      ap (λ j. get_or (signed_after (filter has_sign given) names as' count) j false) zeroth
-          ∙ signed_known (filter has_sign given) as' (local-kept given as' (filtered_local given _)) count i (d i l)
-          ∙ signed-same given as' count (get_or names i [])
-          ∙ ap (λ k. signed_in given as' k (get_or names i [])) e,
-      ap (λ j. get_or (gathered with_form Unseen names as') j Unseen) zeroth
-          ∙ gathered_at with_form Unseen Unseen names as' i l,
+      ap (λ j. get_or (signed_after signed names kept count) j false) zeroth
+          ∙ signed_known signed names kept (placed_apart signed all (local-kept given all (filtered_local given _)))
+          (λ t n h. any-kept (λ a. bytes_eq a.name n && t a) (λ a. has_name marked a.name) all (unplaced all t n h)) count i (d i l)
+          ∙ signed-same given kept count (get_or names i [])
+          ∙ ap (λ k. signed_in given kept k (get_or names i [])) e,
+      ap (λ j. get_or (gathered with_form Unseen names kept) j Unseen) zeroth
+          ∙ gathered_at with_form Unseen Unseen names kept i l,
     ))
-    ∙ spans (filter (has_name marked) names)
+    ∙ spans (register_assignments marked (local_assignments given body)) (filter (has_name marked) names)
   where
-    spans : (ns : List (List ℕ)) → map (λ n. new_register n (signed_in given (local_assignments given body) (length (local_assignments given body)) n) (fold with_form Unseen (assigned_to n (local_assignments given body)))) ns
-        ≡ map (local_register given (local_assignments given body)) ns
-    spans [] = refl
-    spans (n ∷ ns) =
-        ap (λ xs. new_register n (signed_in given (local_assignments given body) (length (local_assignments given body)) n) (fold with_form Unseen (assigned_to n (local_assignments given body))) ∷ xs) (spans ns)
-        ∙ ap (λ o. record { name = n; width = 512; is_variable = true; signed_slices = false; signed_whole = signed_in given (local_assignments given body) (length (local_assignments given body)) n; span = o } ∷ map (local_register given (local_assignments given body)) ns)
-        (forms_span (assigned_to n (local_assignments given body)))
+    spans : (kept : List Assignment) (ns : List (List ℕ)) → map (λ n. new_register n (signed_in given kept (length kept) n) (fold with_form Unseen (assigned_to n kept))) ns
+        ≡ map (local_register given kept) ns
+    spans kept [] = refl
+    spans kept (n ∷ ns) =
+        ap (λ xs. new_register n (signed_in given kept (length kept) n) (fold with_form Unseen (assigned_to n kept)) ∷ xs) (spans kept ns)
+        ∙ ap (λ o. record { name = n; width = 512; is_variable = true; signed_slices = false; signed_whole = signed_in given kept (length kept) n; span = o } ∷ map (local_register given kept) ns)
+        (forms_span (assigned_to n kept))
 
 -- ---- variables
 
@@ -262,22 +287,25 @@ variables_are marked as' d =
 
 -- ---- all together
 
-pub registers_in_all : (given : List Register) (marked : List (List ℕ)) (body : Statements) (as' : List Assignment) (names : List (List ℕ)) (flags : List Bool) (forms : List Forms) (count : ℕ)
-    (registers : List Register) → as' ≡ local_assignments given body → names ≡ locals_of as' → flags ≡ signed_after (filter has_sign given) names as' count → count ≡ length as'
-    → forms ≡ gathered with_form Unseen names as' → AreDistinct names → registers ≡ given ++ registers_from marked flags forms 0 names
-    → registers ≡ given ++ map (local_register given (local_assignments given body)) (register_locals marked (local_assignments given body))
-registers_in_all given marked body as' names flags forms count registers ea en ef ec eg d er =
+pub registers_in_all : (given : List Register) (marked : List (List ℕ)) (body : Statements) (as' kept : List Assignment) (names : List (List ℕ)) (flags : List Bool) (forms : List Forms) (count : ℕ)
+    (registers : List Register) → as' ≡ local_assignments given body → kept ≡ register_assignments marked as' → names ≡ locals_of as'
+    → flags ≡ signed_after (filter has_sign given) names kept count → count ≡ length kept
+    → forms ≡ gathered with_form Unseen names kept → AreDistinct names → registers ≡ given ++ registers_from marked flags forms 0 names
+    → registers ≡ given ++ local_registers given marked (local_assignments given body)
+registers_in_all given marked body as' kept names flags forms count registers ea ek en ef ec eg d er =
     let all = local_assignments given body in
+    let signed = filter has_sign given in
+    let ek' : kept ≡ register_assignments marked all = ek ∙ ap (register_assignments marked) ea in
     let en' : names ≡ locals_of all = en ∙ ap locals_of ea in
-    let ef' : flags ≡ signed_after (filter has_sign given) (locals_of all) all count =
-    ef ∙ ap (λ ns. signed_after (filter has_sign given) ns as' count) en' ∙ ap (λ xs. signed_after (filter has_sign given) (locals_of all) xs count) ea in
-    let eg' : forms ≡ gathered with_form Unseen (locals_of all) all =
-    eg ∙ ap (λ ns. gathered with_form Unseen ns as') en' ∙ ap (gathered with_form Unseen (locals_of all)) ea in
+    let ef' : flags ≡ signed_after signed (locals_of all) (register_assignments marked all) count =
+    ef ∙ ap (λ ns. signed_after signed ns kept count) en' ∙ ap (λ xs. signed_after signed (locals_of all) xs count) ek' in
+    let eg' : forms ≡ gathered with_form Unseen (locals_of all) (register_assignments marked all) =
+    eg ∙ ap (λ ns. gathered with_form Unseen ns kept) en' ∙ ap (gathered with_form Unseen (locals_of all)) ek' in
     er ∙ ap (λ xs. given ++ xs)
     (ap (λ fs. registers_from marked fs forms 0 names) ef'
-    ∙ ap (λ fs. registers_from marked (signed_after (filter has_sign given) (locals_of all) all count) fs 0 names) eg'
-    ∙ ap (registers_from marked (signed_after (filter has_sign given) (locals_of all) all count) (gathered with_form Unseen (locals_of all) all) 0) en'
-    ∙ registers_are given marked body count (ec ∙ ap length ea) (subst AreDistinct en' d))
+    ∙ ap (λ fs. registers_from marked (signed_after signed (locals_of all) (register_assignments marked all) count) fs 0 names) eg'
+    ∙ ap (registers_from marked (signed_after signed (locals_of all) (register_assignments marked all) count) (gathered with_form Unseen (locals_of all) (register_assignments marked all)) 0) en'
+    ∙ registers_are given marked body count (ec ∙ ap length ek') (subst AreDistinct en' d))
 
 pub variables_in_all : (given : List Register) (marked : List (List ℕ)) (body : Statements) (as' : List Assignment) (names variables : List (List ℕ))
     → as' ≡ local_assignments given body → names ≡ locals_of as' → AreDistinct names → variables ≡ variables_behind marked [] names

@@ -18,8 +18,8 @@ new_register n is_signed forms = record {
 }
 
 -- a local, where it is marked as a register
-abbrev pub local_registers : List (List ℕ) → List ℕ → Bool → Forms → List Register
-local_registers marked n is_signed forms =
+abbrev pub registers_of_local : List (List ℕ) → List ℕ → Bool → Forms → List Register
+registers_of_local marked n is_signed forms =
     if has_name marked n then new_register n is_signed forms ∷ [] else []
 
 -- the variables, and this local, where it is not
@@ -30,7 +30,7 @@ with_variable marked before n = if has_name marked n then before else with_name 
 abbrev pub registers_from : List (List ℕ) → List Bool → List Forms → ℕ → List (List ℕ) → List Register
 registers_from marked flags forms k [] = []
 registers_from marked flags forms k (n ∷ ns) =
-    local_registers marked n (get_or flags k false) (get_or forms k Unseen)
+    registers_of_local marked n (get_or flags k false) (get_or forms k Unseen)
     ++ registers_from marked flags forms (k + 1) ns
 
 abbrev pub variables_behind : List (List ℕ) → List (List ℕ) → List (List ℕ) → List (List ℕ)

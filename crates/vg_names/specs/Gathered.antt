@@ -1,10 +1,9 @@
 -- What is gathered of each name along assignments, from the first to the last.
 use Rattle.std.specs.Prelude.{ℕ, zero, suc, Bool, false, List, [], ◌∷◌, map, fold, length, get_or, replicate, Option, Some, None, ◌||◌, if◌then◌else◌}
 use Rattle.std.specs.Option.{option_map_or}
-use Rattle.vg_base.specs.declared.width.Width.{Width}
 use Rattle.vg_base.specs.Width.{bits_of}
 use Rattle.vg_pseudo.specs.Same.{same_width}
-use Rattle.vg_pseudo.specs.Names.{Form, whole_element, other, Assignment, Register}
+use Rattle.vg_pseudo.specs.Names.{Form, whole_element, Assignment, Register}
 use Rattle.vg_pseudo.specs.Signs.{Signs, is_signed, is_signed_register}
 use Rattle.vg_pseudo.specs.Resolve.{assigned_to}
 use Rattle.vg_names.specs.declared.forms.Forms.{Forms}

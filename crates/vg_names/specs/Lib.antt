@@ -1,5 +1,6 @@
 pub mod Assigned
 pub mod Bodies
+pub mod Decided
 pub mod Distinct
 pub mod Gathered
 pub mod LastPlaces

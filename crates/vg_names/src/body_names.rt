@@ -1,10 +1,12 @@
 //! The names of a body: its registers and its number variables.
 
 ghost use Rattle.std.specs.Prelude.{◌≡◌, ◌++◌, [], false, map, filter, length, get_or, IfOk};
-ghost use Rattle.vg_pseudo.specs.Resolve.{local_assignments, register_locals, number_locals, local_register};
+ghost use Rattle.std.specs.List.{list_any};
+ghost use Rattle.vg_pseudo.specs.Names.{has_name};
+ghost use Rattle.vg_pseudo.specs.Resolve.{local_assignments, local_registers, number_locals, register_assignments};
 ghost use Rattle.vg_pseudo.specs.Tree.{statements_of};
 ghost use Rattle.vg_names.specs.Assigned.{assignment_view};
-ghost use Rattle.vg_names.specs.Bodies.{local_registers, with_variable, registers_from, variables_behind, new_register};
+ghost use Rattle.vg_names.specs.Bodies.{registers_of_local, with_variable, registers_from, variables_behind, new_register};
 ghost use Rattle.vg_names.specs.declared.forms.Forms.TheVariants.{Unseen};
 ghost use Rattle.vg_names.specs.Gathered.{signed_after};
 ghost use Rattle.vg_names.specs.Registers.{has_sign, register_view};
@@ -54,7 +56,7 @@ fn with_local(
     is_signed: bool,
     forms: Forms,
 ) -> Result<BodyNames, AllocError>
-    ensures registers { IfOk result (λ b. b.registers ≡ names.registers ++ local_registers marked.now name.now is_signed forms) }
+    ensures registers { IfOk result (λ b. b.registers ≡ names.registers ++ registers_of_local marked.now name.now is_signed forms) }
     ensures variables { IfOk result (λ b. b.variables ≡ with_variable marked.now names.variables name.now) }
 {
     let BodyNames {
@@ -129,6 +131,21 @@ fn flags_of(
     signed_locals(alloc, signed.as_slice(), locals, assignments)
 }
 
+/// Leaves the assignments to names that are marked.
+fn keep_marked(marked: &Names, assignments: &mut Vec<Assignment>)
+    ensures { assignments.new.items ≡ filter (λ a. has_name marked.now a.name.now) assignments.old.items }
+{
+    assignments.retain(|assignment| marked.has(assignment.name));
+}
+
+/// Leaves the assignments to locals that are registers: the name of a number variable is unsigned.
+fn keep_register_assignments(marked: &Names, assignments: &mut Vec<Assignment>)
+    ensures { map assignment_view assignments.new.items ≡
+        register_assignments marked.now (map assignment_view assignments.old.items) }
+{
+    keep_marked(marked, assignments);
+}
+
 /// The names of a body that begins with these registers, in which these names stand with brackets or
 /// with an element.
 pub(crate) fn body_names(
@@ -137,14 +154,14 @@ pub(crate) fn body_names(
     marked: &Names,
     body: &Stmt,
 ) -> Result<BodyNames, AllocError>
-    ensures registers { IfOk result (λ b. b.registers ≡ given ++
-        map (local_register given (local_assignments given (statements_of body.now)))
-        (register_locals marked.now (local_assignments given (statements_of body.now)))) }
+    ensures registers { IfOk result (λ b. b.registers ≡
+        given ++ local_registers given marked.now (local_assignments given (statements_of body.now))) }
     ensures variables { IfOk result (λ b. b.variables ≡ number_locals marked.now (local_assignments given (statements_of body.now))) }
 {
     let mut assignments = Vec::new(alloc);
     collect(alloc, &given, &[], body, &mut assignments)?;
     let locals = locals_of(alloc, assignments.as_slice())?;
+    keep_register_assignments(marked, &mut assignments);
     let flags = flags_of(alloc, &given, &locals, assignments.as_slice())?;
     let forms = forms_of(alloc, &locals, assignments.as_slice())?;
     with_locals(

@@ -1,5 +1,6 @@
-//! What names resolve to is proper, and what is read may be resolved.
+//! What names resolve to is proper, what is read may be resolved, and signs are decided.
 
+ghost use Rattle.vg_names.specs.Decided.{SignsAreDecided};
 ghost use Rattle.vg_names.specs.Reading.{NarrowAreWritten, ReadAreWritten};
 ghost use Rattle.vg_names.specs.Written.{ResolvedAreProper};
 
@@ -14,6 +15,12 @@ pub fn resolved_operations_are_proper()
 /// there, and it goes on to hold behind each word and behind the operation.
 pub fn operations_that_are_read_are_written()
     ensures { ReadAreWritten }
+{}
+
+/// A law that costs nothing to call: a local is signed as far as is shown in as many steps as there
+/// are assignments exactly where that is shown in finitely many steps.
+pub fn signs_are_decided()
+    ensures { SignsAreDecided }
 {}
 
 /// A law that costs nothing to call: a header whose registers have 128, 256 or 512 bits says no more

@@ -29,7 +29,7 @@ mod targets;
 
 pub use law::{
     narrow_headers_are_written, operations_that_are_read_are_written,
-    resolved_operations_are_proper,
+    resolved_operations_are_proper, signs_are_decided,
 };
 pub use name_fault::NameFault;
 pub use operation::resolve;

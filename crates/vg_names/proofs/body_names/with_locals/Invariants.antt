@@ -1,6 +1,5 @@
 -- the locals that are left, behind those that are sorted, give what all do
-use Rattle.std.proofs.Common.{◌≡◌, ◌++◌, [], map, drop}
-use Rattle.std.specs.Prelude.{vec_items}
+use Rattle.std.proofs.Common.{◌≡◌, ◌++◌, [], drop}
 use Rattle.vg_names.specs.Bodies.{registers_from, variables_behind}
 use Rattle.vg_names.proofs.body_names.with_locals.Given as goal
 

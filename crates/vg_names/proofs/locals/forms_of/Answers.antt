@@ -1,8 +1,8 @@
-use Rattle.std.proofs.Common.{◌≡◌, ◌∙◌, ap, sym, map, take, replicate, length}
+use Rattle.std.proofs.Common.{◌∙◌, ap, sym, map, take, replicate}
 use Rattle.vg_names.specs.declared.forms.Forms.TheVariants.{Unseen}
 use Rattle.vg_names.specs.Assigned.{assignment_view}
 use Rattle.vg_names.specs.Distinct.{place_of}
-use Rattle.vg_names.specs.Gathered.{gathered, changed, with_form, form_behind}
+use Rattle.vg_names.specs.Gathered.{gathered, changed, with_form}
 use Rattle.vg_names.proofs.Gathering.{gathered_none, gathered_more}
 use Rattle.vg_names.proofs.LastOfNames.{one_more_mapped}
 use Rattle.vg_names.proofs.locals.forms_of.Goals as goal

@@ -1,4 +1,4 @@
-use Rattle.std.proofs.Common.{◌≡◌, ◌++◌, ◌∷◌, [], ◌∙◌, ap, sym, map, take, suc, arith, ◌+◌}
+use Rattle.std.proofs.Common.{◌∷◌, [], ◌∙◌, ap, sym, map, take}
 use Rattle.std.proofs.lemmas.List.{map-append}
 use Rattle.vg_pseudo.specs.Names.{distinct_behind}
 use Rattle.vg_names.specs.Assigned.{assignment_view}

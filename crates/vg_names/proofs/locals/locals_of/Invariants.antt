@@ -1,4 +1,4 @@
-use Rattle.std.proofs.Common.{◌≡◌, [], map, take}
+use Rattle.std.proofs.Common.{◌≡◌, map, take}
 use Rattle.vg_pseudo.specs.Resolve.{locals_of}
 use Rattle.vg_names.specs.Assigned.{assignment_view}
 use Rattle.vg_names.proofs.locals.locals_of.Given as goal

@@ -1,6 +1,6 @@
-use Rattle.std.proofs.Common.{◌≡◌, ◌≤◌, ◌<◌, ◌∙◌, ◌||◌, length, Some, sym, ap, arith, set}
+use Rattle.std.proofs.Common.{◌≤◌, ◌<◌, ◌∙◌, length, ap, arith, set}
 use Rattle.vg_names.specs.Assigned.{form_view}
-use Rattle.vg_names.specs.Gathered.{form_behind, changed}
+use Rattle.vg_names.specs.Gathered.{form_behind}
 use Rattle.vg_names.proofs.Gathering.{set_changed, unchanged}
 use Rattle.vg_names.proofs.locals.note_form.Goals as goal
 

@@ -1,5 +1,4 @@
-use Rattle.std.proofs.Common.{◌≡◌, ◌≤◌, ◌<◌, ◌∙◌, ◌||◌, length, Some, sym, ap, arith, set}
-use Rattle.vg_names.specs.Gathered.{changed}
+use Rattle.std.proofs.Common.{◌≤◌, ◌<◌, ◌∙◌, ◌||◌, length, ap, arith, set}
 use Rattle.vg_names.proofs.Gathering.{set_changed, unchanged}
 use Rattle.vg_names.proofs.locals.note_sign.Goals as goal
 

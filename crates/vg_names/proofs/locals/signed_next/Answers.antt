@@ -1,4 +1,4 @@
-use Rattle.std.proofs.Common.{◌≡◌, ◌∙◌, ◌||◌, ap, sym, map, take, replicate, length, false}
+use Rattle.std.proofs.Common.{◌∙◌, ◌||◌, ap, sym, map, take, replicate, false}
 use Rattle.vg_pseudo.specs.Signs.{is_signed}
 use Rattle.vg_names.specs.Assigned.{assignment_view}
 use Rattle.vg_names.specs.Distinct.{place_of}

@@ -1,4 +1,4 @@
-use Rattle.std.proofs.Common.{◌≡◌, ◌∙◌, ◌++◌, ◌∷◌, [], ap, sym, subst, length}
+use Rattle.std.proofs.Common.{◌≡◌, ◌∙◌, ◌++◌, ◌∷◌, [], ap, subst, length}
 use Rattle.vg_pseudo.specs.Names.{bracketed_in, distinct_behind}
 use Rattle.vg_pseudo.specs.Resolve.{result_register, scope_of}
 use Rattle.vg_pseudo.specs.Tree.{statements_of}

@@ -1,10 +1,10 @@
-use Rattle.std.proofs.Common.{◌≡◌, ◌∙◌, [], ap, sym, subst, map, length, Result, Ok, Err, List}
+use Rattle.std.proofs.Common.{◌≡◌, ◌∙◌, [], ap, sym, map, length, Result, Ok}
 use Rattle.vg_base.specs.Gives.{FailsBy}
 use Rattle.vg_pseudo.specs.Tree.{define_of, operation_of}
-use Rattle.vg_pseudo.specs.Resolve.{NameFault, functions_of, operand_registers, resolve}
-use Rattle.vg_pseudo.specs.Resolved.{Resolved, Function}
-use Rattle.vg_names.specs.Naming.{told, Gives}
-use Rattle.vg_names.specs.Views.{body_of, function_view, resolved_of}
+use Rattle.vg_pseudo.specs.Resolve.{NameFault, functions_of}
+use Rattle.vg_pseudo.specs.Resolved.{Resolved}
+use Rattle.vg_names.specs.Naming.{told}
+use Rattle.vg_names.specs.Views.{body_of, function_view}
 use Rattle.vg_names.proofs.ResolvingAll.{resolve_done, resolve_fails, body_of_operation}
 use Rattle.vg_names.proofs.operation.resolve.Goals as goal
 

@@ -1,6 +1,6 @@
-use Rattle.std.proofs.Common.{◌≡◌, ◌∙◌, ◌++◌, [], ap, sym, subst, map}
+use Rattle.std.proofs.Common.{◌≡◌, ◌++◌, [], subst, map}
 use Rattle.vg_pseudo.specs.Names.{bracketed, bracketed_in}
-use Rattle.vg_pseudo.specs.Resolve.{define_register, define_scope, function_of}
+use Rattle.vg_pseudo.specs.Resolve.{define_register, define_scope}
 use Rattle.vg_pseudo.specs.Tree.{define_of, expression_of, statements_of}
 use Rattle.vg_names.specs.Naming.{Gives}
 use Rattle.vg_names.specs.Pieces.{function_over}

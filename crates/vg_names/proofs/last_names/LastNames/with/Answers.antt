@@ -1,6 +1,5 @@
-use Rattle.std.proofs.Common.{◌≡◌, ◌++◌, ◌∷◌, [], List, ℕ, refl, sym, ◌∙◌, ap, subst}
-use Rattle.std.specs.Prelude.{vec_items, length}
-use Rattle.vg_names.specs.LastPlaces.{AreLast}
+use Rattle.std.proofs.Common.{refl}
+use Rattle.std.specs.Prelude.{vec_items}
 use Rattle.vg_names.proofs.LastOfNames.{stays_last}
 use Rattle.vg_names.proofs.last_names.LastNames.with.Goals as goal
 

@@ -1,4 +1,4 @@
-use Rattle.std.proofs.Common.{◌∙◌, ap, sym, map, None}
+use Rattle.std.proofs.Common.{◌∙◌, ap, map, None}
 use Rattle.std.specs.Option.{is_some}
 use Rattle.vg_pseudo.specs.Names.{last_function}
 use Rattle.vg_names.specs.Registers.{register_view}

@@ -1,12 +1,12 @@
-use Rattle.std.proofs.Common.{◌≡◌, ◌<◌, ℕ, List, map, length, Option, Some, None, refl, sym, ◌∙◌, ap, subst, arith, slice_get, get_or}
+use Rattle.std.proofs.Common.{◌≡◌, ◌<◌, map, length, Some, None, sym, ◌∙◌, ap, arith, slice_get, get_or}
 use Rattle.std.specs.Option.{option_map}
 use Rattle.std.specs.Prelude.{nat_lt}
 use Rattle.std.proofs.lemmas.List.{length-map}
 use Rattle.std.proofs.lemmas.Bool.{ltb-true}
 use Rattle.std.proofs.lemmas.Option.{slice_get_within, slice_get-get_or}
-use Rattle.vg_pseudo.specs.Names.{Register, last_register, last_function}
+use Rattle.vg_pseudo.specs.Names.{last_function}
 use Rattle.vg_names.specs.Registers.{register_view}
-use Rattle.vg_names.proofs.LastOfNames.{Stands, last_stands, stands_none, stands_some, mapped_at}
+use Rattle.vg_names.proofs.LastOfNames.{last_stands, stands_none, stands_some, mapped_at}
 use Rattle.vg_names.proofs.registers.Registers.last.Goals as goal
 
 pub returns-in_err-number : goal.returns-in_err-number
