@@ -10,7 +10,7 @@ ghost use Rattle.vg_range.specs.Walk.{called, walks_from};
 
 use crate::beginning::begun;
 use crate::code_walk::walk;
-use crate::course::{Course, boxed};
+use crate::course::{Course, boxed, is_constant};
 use crate::frames::{constants_of, given_of};
 use crate::judging::judge;
 use crate::spots::spot_of;
@@ -58,6 +58,13 @@ fn answered_by(
     boxed(alloc, found, count)
 }
 
+/// A call that gives a constant keeps nothing of what was written out for it.
+fn keep_call(written: &Cell<u32>, before: u32, found: &Found) {
+    if is_constant(found) {
+        written.set(before);
+    }
+}
+
 /// What a call of a DEFINE gives for its arguments, where these DEFINEs stand before it.
 #[inline(never)]
 #[cycle(judging)]
@@ -75,6 +82,7 @@ pub fn called(
     ensures { Gives (λ f. (found_view f.0.value, count_view f.1)) result
         (called is_kept (walks_from is_kept [] (map function_view functions.now)) (function_view function.now) spot (map passed_view given.items) (count_view count)) }
 {
+    let before = written.get();
     let mut given = given;
     given.truncate(function.body.parameters);
     let widths = function.body.widths.as_slice();
@@ -96,7 +104,9 @@ pub fn called(
         count: _,
         script,
     } = Box::into_inner(stand);
-    answered_by(alloc, function, given, script, found, count)
+    let (found, count) = answered_by(alloc, function, given, script, found, count)?;
+    keep_call(written, before, &found);
+    Ok((found, count))
 }
 
 /// What a call of one of these DEFINEs gives for its arguments, by its place among them.

@@ -17,12 +17,12 @@ use vg_pseudo::Spot;
 use vg_script::WholeNumber;
 use vg_text::Place;
 
-/// The most expressions that are written out for an instance.
-const MOST_WRITTEN: u32 = 1 << 22;
+/// The most slices, operators, functions and choices of a script that is written out.
+const MOST_WRITTEN: u32 = 1 << 24;
 
 /// What a body sees: the widths of its registers, the numbers of those that are constant, the turns
 /// of the FORs around a place, innermost first, the DEFINEs before it, whether scripts are kept, and
-/// how many expressions were written out for them.
+/// how many expressions of them are kept so far.
 #[derive(Clone, Copy)]
 pub struct Course<'a> {
     pub widths: &'a [u128],
@@ -66,10 +66,15 @@ pub fn boxed(alloc: Global, found: Found, count: Count) -> Result<(Box<Found>, C
     Ok((found, count))
 }
 
-/// One expression more is written out, where a script is kept. Past 2^22 of them in an instance
-/// there is no memory.
-fn write(course: &Course) -> Result<(), AllocError> {
-    if course.is_kept {
+/// Whether an expression is a constant, of which no word is kept.
+pub fn is_constant(found: &Found) -> bool {
+    matches!(found, Found::Known { .. } | Found::KnownSlice { .. })
+}
+
+/// One expression more is kept, where a script is and the expression is no constant. Past 2^24 of
+/// them in an instance there is no memory.
+fn write(course: &Course, found: &Found) -> Result<(), AllocError> {
+    if course.is_kept && !is_constant(found) {
         let before = course.written.get();
         if before >= MOST_WRITTEN {
             return Err(AllocError);
@@ -89,7 +94,7 @@ pub fn written(
 ) -> Result<(Box<Found>, Count), RangeFault>
     ensures { Gives (λ f. (found_view f.0.value, count_view f.1)) result (leaf (found_view found) (count_view count)) }
 {
-    write(course)?;
+    write(course, &found)?;
     boxed(alloc, found, count)
 }
 
