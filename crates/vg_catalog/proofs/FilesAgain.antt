@@ -1,5 +1,5 @@
 -- Files that are in the language are read.
-use Rattle.std.proofs.Common.{◌≡◌, ℕ, zero, suc, ◌+◌, ◌≤◌, Bool, true, false, List, [], ◌∷◌, ◌++◌, length, Result, Ok, Err, refl, sym, ◌∙◌, ap, subst, append_assoc, append-nil, arith}
+use Rattle.std.proofs.Common.{◌≡◌, ℕ, zero, suc, ◌+◌, ◌≤◌, Bool, true, false, List, [], ◌∷◌, ◌++◌, length, Result, Ok, Err, refl, sym, ◌∙◌, ap, subst, append_assoc, append-nil, arith, true≢false}
 use Rattle.std.specs.Prelude.{nat_lt, nat_le, is_ok, codes}
 use Rattle.vg_base.specs.Bind.{◌>>=◌}
 use Rattle.vg_base.proofs.Bind.{bind_ok, bind_to}
@@ -13,7 +13,7 @@ use Rattle.vg_range.specs.Acceptance.{checked}
 use Rattle.vg_catalog.specs.Words.{next_word, word_from, end_of_word}
 use Rattle.vg_catalog.specs.Headers.{header_at}
 use Rattle.vg_catalog.specs.Entries.{Entry, is_known, instances, instances_of}
-use Rattle.vg_catalog.specs.Files.{as_text, as_judged, counted, judged, entry_at, entries_from, file_of}
+use Rattle.vg_catalog.specs.Files.{as_text, as_judged, counted, judged, end_from, entry_at, entries_from, file_of}
 use Rattle.vg_catalog.specs.Grammar.{IsEntryText, AreEntries, IsFile}
 use Rattle.vg_catalog.proofs.Standing.{Reads, next-again, le-true}
 use Rattle.vg_catalog.proofs.HeadersAgain.{header-again}
@@ -61,9 +61,17 @@ entry-begins done r q e is =
       goes_on = real-word r (is.is_header.first, a.behind) a.next (λ none. let no_word : [] ≡ codes "INSTRUCTION" = sym none ∙ is.is_header.is_first in cc);
     }
 
+-- where the file ends no entry more stands
+last-again : (text : List ℕ) (left : Lexemes) (done : List Entry) (x : Spelled × Reading) → word_from text left ≡ Ok x → x.0.is_end ≡ true → end_from text left done ≡ Ok done
+last-again text (token t rest) done x e end =
+    let w = bind_ok (end_of_word text t.end rest) _ e in
+    absurd (true≢false (sym end ∙ sym (ap (λ (y : Spelled × Reading). y.0.is_end) (ok_once _ x w.2))))
+last-again text (finish t) done x e end = refl
+last-again text (fault p) done x e end = absurd (cc)
+
 entries-again : (room : ℕ) (done : List Entry) (r : Reading) (es : List Entry) → AreEntries done r es → length es ≤ room → entries_from room done r ≡ Ok (done ++ es)
 unfolding entries_from
-entries-again zero done r [] (w, q, read, end) few = bind_to (next_word r) _ read (rw end (ap (λ (l : List Entry). Ok l) (sym (append-nil done))))
+entries-again zero done r [] (w, q, read, end) few = last-again r.text r.left done (w, q) read end ∙ ap (λ (l : List Entry). Ok l) (sym (append-nil done))
 entries-again (suc room) done r [] (w, q, read, end) few = bind_to (next_word r) _ read (rw end (ap (λ (l : List Entry). Ok l) (sym (append-nil done))))
 entries-again zero done r (e ∷ es) are few = absurd (omega arith)
 entries-again (suc room) done r (e ∷ es) (q, one, more) few =

@@ -3,6 +3,7 @@ use Rattle.std.proofs.Common.{◌≡◌, ℕ, zero, suc, ◌+◌, ◌≤◌, ◌
 use Rattle.std.specs.Prelude.{nat_lt, nat_le, is_ok}
 use Rattle.vg_base.proofs.Bind.{bind_ok, tested_ok, refused_ok, either_way}
 use Rattle.vg_text.specs.declared.place.Place.{Place}
+use Rattle.vg_text.specs.Token.{Lexemes, token, finish, fault}
 use Rattle.vg_text.specs.Words.{Reading, Spelled, reading_of}
 use Rattle.vg_pseudo.specs.declared.header.Header.{Header}
 use Rattle.vg_pseudo.specs.Tree.{Operation}
@@ -17,8 +18,9 @@ use Rattle.vg_catalog.specs.declared.fault.CatalogFault.{CatalogFault}
 use Rattle.vg_catalog.specs.Words.{next_word}
 use Rattle.vg_catalog.specs.Headers.{header_at}
 use Rattle.vg_catalog.specs.Entries.{Entry, is_known, instances, instances_of}
-use Rattle.vg_catalog.specs.Files.{as_text, as_judged, counted, judged, entry_at, entries_from, file_of}
+use Rattle.vg_catalog.specs.Files.{as_text, as_judged, counted, judged, end_from, entry_at, entries_from, file_of}
 use Rattle.vg_catalog.specs.Grammar.{IsEntryText, AreEntries, IsFile}
+use Rattle.vg_catalog.proofs.HeaderWords.{end_at}
 use Rattle.vg_catalog.proofs.HeadersFound.{header-found}
 use Rattle.vg_catalog.proofs.Standing.{true-le}
 
@@ -83,12 +85,14 @@ more done room r y x one rest =
       all = behind.all ∙ append_assoc done (one.entry ∷ []) behind.entries;
     }
 
+last-found : (done : List Entry) (text : List ℕ) (left : Lexemes) (x : List Entry) → end_from text left done ≡ Ok x → FoundEntries done zero (record { text = text; left = left }) x
+last-found done text (token t rest) x e = absurd (cc)
+last-found done text (finish t) x e = ended done zero (record { text = text; left = finish t }) (end_at t.place, record { text = text; left = finish t }) x refl refl e
+last-found done text (fault p) x e = absurd (cc)
+
 entries-found : (room : ℕ) (done : List Entry) (r : Reading) (x : List Entry) → entries_from room done r ≡ Ok x → FoundEntries done room r x
 unfolding entries_from
-entries-found zero done r x e =
-    let w = bind_ok (next_word r) _ e in
-    let t = tested_ok w.0.0.is_end (Ok done) _ w.2 in
-    ended done zero r w.0 x w.1 t.0 t.1
+entries-found zero done r x e = last-found done r.text r.left x e
 entries-found (suc room) done r x e =
     let w = bind_ok (next_word r) _ e in
     elim (either_way w.0.0.is_end (Ok done) _ w.2) [

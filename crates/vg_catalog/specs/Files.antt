@@ -3,6 +3,8 @@ use Rattle.std.specs.Prelude.{ℕ, zero, suc, ◌+◌, List, [], ◌∷◌, ◌+
 use Rattle.vg_base.specs.Bind.{◌>>=◌}
 use Rattle.vg_text.specs.declared.place.Place.{Place}
 use Rattle.vg_text.specs.Place.{first_place}
+use Rattle.vg_text.specs.Token.{Lexemes, token, finish}
+use Rattle.vg_text.specs.Token as lexemes
 use Rattle.vg_text.specs.Words.{Reading, reading_of}
 use Rattle.vg_pseudo.specs.declared.header.Header.{Header}
 use Rattle.vg_pseudo.specs.declared.fault.PseudoFault.{PseudoFault}
@@ -12,6 +14,7 @@ use Rattle.vg_interval.specs.declared.fault.RangeFault.{RangeFault}
 use Rattle.vg_range.specs.Acceptance.{checked}
 use Rattle.vg_catalog.specs.declared.fault.CatalogFault.{CatalogFault}
 use Rattle.vg_catalog.specs.declared.fault.CatalogFault.TheVariants as fault
+use Rattle.vg_catalog.specs.Comments.{is_in_comment}
 use Rattle.vg_catalog.specs.Entries.{Entry, is_known, instances, instances_of}
 use Rattle.vg_catalog.specs.Faults.{text_fault, range_fault}
 use Rattle.vg_catalog.specs.Words.{next_word}
@@ -45,11 +48,16 @@ entry_at place done r = do
   entry ← judged header_counted operation.0
   Ok (done ++ entry ∷ [], operation.1)
 
+-- What stands where no entry more may: the end of the file, or one entry too many at whatever is neither white space nor of a
+-- comment. A byte that may not stand in a comment is no token there either.
+abbrev pub end_from : List ℕ → Lexemes → List Entry → Result (List Entry) CatalogFault
+end_from text (token t rest) done = Err (fault.TooMany t.place)
+end_from text (finish t) done = Ok done
+end_from text (lexemes.fault p) done = Err (if is_in_comment text p then fault.Token p else fault.TooMany p)
+
 -- entries behind those that are done up to the end of the file, this many at most
 unfoldable pub entries_from : ℕ → List Entry → Reading → Result (List Entry) CatalogFault
-entries_from zero done r = do
-  word ← next_word r
-  if word.0.is_end then Ok done else Err (fault.TooMany word.0.place)
+entries_from zero done r = end_from r.text r.left done
 entries_from (suc room) done r = do
   word ← next_word r
   if word.0.is_end then Ok done

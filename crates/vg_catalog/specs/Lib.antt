@@ -1,5 +1,6 @@
 pub mod Called
 pub mod Catalogs
+pub mod Comments
 pub mod Entries
 pub mod Extensions
 pub mod Faults

@@ -1,10 +1,12 @@
 //! Reads and judges a file.
 
-ghost use Rattle.std.specs.Prelude.{◌≡◌, ◌≤◌, List, [], length, IfOk, Ok};
+ghost use Rattle.std.specs.Prelude.{◌≡◌, ◌≤◌, List, [], length, IfOk, Ok, if◌then◌else◌};
 ghost use Rattle.vg_text.specs.Words.{reading_of};
 ghost use Rattle.vg_pseudo.specs.Operations.{operation_at};
 ghost use Rattle.vg_pseudo.specs.Tree.{operation_of};
 ghost use Rattle.vg_catalog.specs.Catalogs.{entries_in};
+ghost use Rattle.vg_catalog.specs.Comments.{is_in_comment};
+ghost use Rattle.vg_catalog.specs.declared.fault.CatalogFault.TheVariants as fault;
 ghost use Rattle.vg_catalog.specs.Entries.{Entry, entry_of, instances, instances_of, is_known, name_of};
 ghost use Rattle.vg_catalog.specs.Files.{as_text, judged, entry_at, entries_from, file_of};
 ghost use Rattle.vg_catalog.specs.Gives.{Gives, Reads};
@@ -13,6 +15,7 @@ ghost use Rattle.vg_catalog.specs.Lexing.{left_of};
 ghost use Rattle.vg_catalog.specs.Written.{AllWritten};
 
 use crate::catalog::Catalog;
+use crate::comments::is_in_comment;
 use crate::fault::CatalogFault;
 use crate::header_reading::read_header;
 use crate::reader::Reader;
@@ -67,18 +70,30 @@ fn entry(
     Ok(catalog)
 }
 
+/// What is wrong at the place of a byte, name or number that is no token, where no entry more may
+/// stand.
+fn fault_at_end(text: &[u8], place: Place) -> CatalogFault
+    ensures { result ≡ (if is_in_comment text.now place then fault.Token place else fault.TooMany place) }
+{
+    if is_in_comment(text, place) {
+        CatalogFault::Token { place }
+    } else {
+        CatalogFault::TooMany { place }
+    }
+}
+
 /// The end of the file, where no entry more may stand.
 #[tactic(auto, unfolding(crate::specs::Files::entries_from))]
 fn end(catalog: Catalog, reader: Reader<'_>) -> Result<Catalog, CatalogFault>
     ensures read { Gives entries_in result
         (entries_from 0 (entries_in catalog) (left_of reader.entry)) }
 {
-    let mut reader = reader;
-    let word = reader.next()?;
-    if word.is_end {
-        Ok(catalog)
-    } else {
-        Err(CatalogFault::TooMany { place: word.place })
+    let text = reader.text;
+    let mut lexer = reader.lexer;
+    match lexer.next() {
+        Ok(token) if token.kind.is_end() => Ok(catalog),
+        Ok(token) => Err(CatalogFault::TooMany { place: token.place }),
+        Err(place) => Err(fault_at_end(text, place)),
     }
 }
 

@@ -5,6 +5,7 @@
 #![tactic(auto)]
 
 pub mod catalog;
+mod comments;
 mod extensions;
 pub mod fault;
 mod file;

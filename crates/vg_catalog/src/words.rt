@@ -12,7 +12,8 @@ use vg_pseudo::number_of;
 use vg_text::byte::{is_hex_digit, is_text, is_white};
 use vg_text::number::is_decimal;
 
-fn opens_comment(rest: &[u8]) -> bool
+/// Whether a comment begins here.
+pub(crate) fn opens_comment(rest: &[u8]) -> bool
     ensures { result ≡ opens_comment rest.now }
 {
     match rest {
