@@ -20,7 +20,7 @@ use Rattle.vg_kernel.specs.Names.{Names, given_as, names_of, with_name}
 use Rattle.vg_kernel.specs.Nodes.{width_in}
 use Rattle.vg_kernel.specs.Reader.{next_at}
 use Rattle.vg_kernel.specs.Script.{Words, script_left}
-use Rattle.vg_kernel.specs.Statements.{assignment_at, has_width, store_end, store_at, statement_at, statements_at, kind_at, is_taken, parameter_at, comma_at, parameters_behind, parameters_at, kernel_at, kernel_of}
+use Rattle.vg_kernel.specs.Statements.{assignment_at, has_width, store_end, store_at, statement_at, statements_at, kind_at, is_taken, parameter_at, comma_at, parameters_behind, parameters_at, head_at, block_at, body_at, kernel_at, kernel_of}
 use Rattle.vg_kernel.specs.Tree.{Expression, Statement, assign, store, Tree, type_of}
 use Rattle.vg_kernel.specs.Words.{sized, width_behind, is_free, is_reserved, plain_named}
 use Rattle.vg_kernel.proofs.ExpressionsAgain.{loose-close, loose-end, expression-again}
@@ -126,7 +126,7 @@ statement-again names words (store w a e) behind r used rest (word, opening, com
 
 -- statements up to the brace
 statements-again : (ss : List Statement) (names : Names) (words : Words) (room : ℕ) (done : List Statement) (s : Scan) (brace : Spelled) (rest : Words) → AreStatements names words ss → length ss ≤ room → s.used + sum_by uses_of ss ≤ 8192 → Is brace (codes "}")
-    → script_left s.reading ≡ Some (words ++ brace ∷ rest) → Reads (statements_at room names done s) (done ++ ss) rest
+    → script_left s.reading ≡ Some (words ++ brace ∷ rest) → Reads (statements_at room names done s) (done ++ ss, brace.place) rest
 unfolding statements_at
 statements-again [] names words zero done s brace rest are few uses is left =
     let n = next-again s.reading brace rest (subst (λ (t : Words). script_left s.reading ≡ Some (t ++ brace ∷ rest)) are left) in
@@ -143,7 +143,7 @@ statements-again (x ∷ xs) names words (suc room) done s brace rest (front, mor
     let y = statement-again names front x behind s.reading s.used (more ++ brace ∷ rest) one (subst (λ (t : Words). script_left s.reading ≡ Some t) group left) (omega (arith, sum)) in
     let counts = y.counts in
     let all = statements-again xs behind more room (done ++ x ∷ []) (at y.after y.now) brace rest others (omega arith) (omega (arith, sum, counts)) is y.left in
-    (all.0, rw (y.next, y.no_brace, y.reads, all.1) (ap (λ (t : List Statement). Ok (t, all.0)) (append_assoc done (x ∷ []) xs)), all.2)
+    (all.0, rw (y.next, y.no_brace, y.reads, all.1) (ap (λ (t : List Statement). Ok ((t, brace.place), all.0)) (append_assoc done (x ∷ []) xs)), all.2)
 
 -- the kind of a parameter
 type-named : (w : Width) → (bytes_eq (sized (codes "i") w) (codes "ptr") ≡ false) × (bytes_eq (sized (codes "i") w) (codes "noalias") ≡ false)
@@ -249,7 +249,7 @@ parameters-again (p ∷ ps) words r closing rest (front, more, one, others, same
 
 -- a whole kernel
 kernel_at-again : (r : Reading) (ws : Words) (k : Tree) → script_left r ≡ Some ws → IsKernel ws k → kernel_at r ≡ Ok k
-unfolding kernel_at
+unfolding kernel_at head_at body_at block_at
 kernel_at-again r ws k e is =
     let inside = is.inside ++ is.end ∷ [] in
     let tail = is.between ++ is.closing ∷ is.begin ∷ inside in

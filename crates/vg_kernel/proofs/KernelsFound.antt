@@ -9,9 +9,11 @@ use Rattle.std.proofs.lemmas.List.{map-append}
 use Rattle.vg_base.specs.Bind.{◌>>=◌, or_fault}
 use Rattle.vg_base.proofs.Bind.{bind_ok, tested_ok, refused_ok, either_way}
 use Rattle.vg_text.specs.Place.{first_place}
+use Rattle.vg_text.specs.declared.place.Place.{Place}
 use Rattle.vg_text.specs.Words.{Reading, Spelled, reading_of}
 use Rattle.vg_kernel.specs.declared.fault.KernelFault.{KernelFault}
 use Rattle.vg_kernel.specs.declared.fault.KernelFault.TheVariants.{Shape, DuplicateName, TooLarge}
+use Rattle.vg_kernel.specs.declared.head.Head.{Head}
 use Rattle.vg_kernel.specs.declared.parameter.KParam.{KParam}
 use Rattle.vg_kernel.specs.declared.parameter.KParamKind.{KParamKind}
 use Rattle.vg_kernel.specs.declared.parameter.KParamKind.TheVariants.{Pointer, Integer}
@@ -19,7 +21,7 @@ use Rattle.vg_kernel.specs.Grammar.{Is, IsKind, IsParameter, AreMore, AreParamet
 use Rattle.vg_kernel.specs.Names.{names_of}
 use Rattle.vg_kernel.specs.Reader.{next_at, expect_at, end_at, name_at}
 use Rattle.vg_kernel.specs.Script.{Words, script_left}
-use Rattle.vg_kernel.specs.Statements.{kind_at, is_taken, parameter_at, parameter_too_many, comma_at, parameters_behind, parameters_at, statements_at, kernel_at, kernel_of}
+use Rattle.vg_kernel.specs.Statements.{kind_at, is_taken, parameter_at, parameter_too_many, comma_at, parameters_behind, parameters_at, statements_at, head_at, block_at, body_at, kernel_at, kernel_of}
 use Rattle.vg_kernel.specs.Cost.{uses_of}
 use Rattle.vg_kernel.specs.Tree.{Statement, Tree}
 use Rattle.vg_kernel.specs.Words.{sized, width_behind, is_free}
@@ -178,16 +180,16 @@ parameters_behind-found (suc room) done r x d e =
     ]
 
 -- all parameters, and what ends them
-record FoundAll (r : Reading) (x : List KParam × Reading) : Type 0 where
-  words : Words
-  closing : Spelled
-  is_closing : Is closing (codes ")")
-  are : AreParameters words x.0
-  distinct : AreDistinct x.0
-  few : length x.0 ≤ 16
-  spells : Spells r (words ++ closing ∷ []) x.1
+pub record FoundAll (r : Reading) (x : List KParam × Reading) : Type 0 where
+  pub words : Words
+  pub closing : Spelled
+  pub is_closing : Is closing (codes ")")
+  pub are : AreParameters words x.0
+  pub distinct : AreDistinct x.0
+  pub few : length x.0 ≤ 16
+  pub spells : Spells r (words ++ closing ∷ []) x.1
 
-parameters-found : (r : Reading) (x : List KParam × Reading) → parameters_at r ≡ Ok x → FoundAll r x
+pub parameters-found : (r : Reading) (x : List KParam × Reading) → parameters_at r ≡ Ok x → FoundAll r x
 unfolding parameters_at IsDistinct
 parameters-found r x e =
     let w = bind_ok (next_at r) _ e in
@@ -215,15 +217,24 @@ parameters-found r x e =
 
 -- a whole kernel
 pub kernel_at-found : (r : Reading) (k : Tree) → kernel_at r ≡ Ok k → (ws : Words) × (script_left r ≡ Some ws) × IsKernel ws k
-unfolding kernel_at
+unfolding kernel_at head_at block_at body_at
 kernel_at-found r k e =
     let a = bind_ok (expect_at (codes "kernel") r) _ e in
-    let n = bind_ok (name_at a.0) _ a.2 in
+    let h = bind_ok (head_at a.0) _ a.2 in
+    let n = bind_ok (name_at a.0) _ h.1 in
     let o = bind_ok (expect_at (codes "(") n.0.1) _ n.2 in
     let p = bind_ok (parameters_at o.0) _ o.2 in
-    let b = bind_ok (expect_at (codes "{") p.0.1) _ p.2 in
+    let whole = bind_ok (body_at h.0.0 h.0.1) _ h.2 in
+    let l = bind_ok (block_at h.0.0 h.0.1) _ whole.1 in
+    let headed : Head × Reading = (record { name = n.0.0.bytes; params = p.0.0 }, p.0.1) in
+    let block = subst (λ (q : Head × Reading). block_at q.0 q.1 ≡ Ok l.0) (sym (ok_once headed h.0 p.2)) l.1 in
+    let b = bind_ok (expect_at (codes "{") p.0.1) _ block in
     let s = bind_ok (statements_at 4096 (names_of p.0.0) [] (at b.0 0)) _ b.2 in
-    let d = bind_ok (end_at s.0.1) _ s.2 in
+    let closed : (Tree × Place) × Reading = ((record { name = n.0.0.bytes; params = p.0.0; statements = s.0.0.0 }, s.0.0.1), s.0.1) in
+    let same = ok_once closed l.0 s.2 in
+    let e0 = bind_ok (end_at l.0.1) _ l.2 in
+    let d : (q : Reading) × (end_at s.0.1 ≡ Ok q) = (e0.0, subst (λ (q : (Tree × Place) × Reading). end_at q.1 ≡ Ok e0.0) (sym same) e0.1) in
+    let tree : closed.0.0 ≡ k = ap (λ (q : (Tree × Place) × Reading). q.0.0) same ∙ ap (λ (q : Tree × Reading). q.0) (ok_once (l.0.0.0, e0.0) whole.0 e0.2) ∙ ok_once whole.0.0 k whole.2 in
     let first = expect-found 107 (codes "ernel") r a.0 a.1 in
     let name = name-found a.0 n.0 n.1 in
     let opening = expect-found 40 [] n.0.1 o.0 o.1 in
@@ -239,7 +250,7 @@ kernel_at-found r k e =
     let s1 = Spells-append a.0 n.0.1 s.0.1 (n.0.0 ∷ []) (opening.0 ∷ tail) name.1 s2 in
     let s0 = Spells-append r a.0 s.0.1 (first.0 ∷ []) (n.0.0 ∷ opening.0 ∷ tail) first.2 s1 in
     let words = first.0 ∷ n.0.0 ∷ opening.0 ∷ tail in
-    subst (λ (q : Tree). (vs : Words) × (script_left r ≡ Some vs) × IsKernel vs q) (ok_once _ k d.2) (
+    subst (λ (q : Tree). (vs : Words) × (script_left r ≡ Some vs) × IsKernel vs q) tree (
       words,
       s0 ∙ ap (option_map (λ (t : Words). words ++ t)) (end_at-found s.0.1 d.0 d.1) ∙ ap Some (append-nil words),
       record {

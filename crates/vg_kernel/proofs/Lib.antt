@@ -14,6 +14,7 @@ pub mod StatementsFound
 pub mod KernelsFound
 pub mod KernelsAgain
 pub mod WellFormed
+pub mod Heads
 pub mod Laws
 mod NamesFound
 pub mod CostLaws

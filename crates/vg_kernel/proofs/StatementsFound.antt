@@ -11,6 +11,7 @@ use Rattle.vg_base.specs.declared.address.Address.{Address}
 use Rattle.vg_base.specs.declared.width.Width.{Width}
 use Rattle.vg_base.specs.declared.width.Width.TheVariants.{W8, W16, W32, W64}
 use Rattle.vg_base.specs.Width.{bits_of}
+use Rattle.vg_text.specs.declared.place.Place.{Place}
 use Rattle.vg_text.specs.Words.{Reading, Spelled}
 use Rattle.vg_kernel.specs.declared.fault.KernelFault.{KernelFault}
 use Rattle.vg_kernel.specs.declared.fault.KernelFault.TheVariants.{Shape, DuplicateName, WidthMismatch}
@@ -167,23 +168,23 @@ statement-found names r0 r word used x next e =
     ]
 
 -- statements behind those that were done, and the brace that ends them
-pub record FoundStatements (room : ℕ) (names : Names) (done : List Statement) (s : Scan) (x : List Statement × Reading) : Type 0 where
+pub record FoundStatements (room : ℕ) (names : Names) (done : List Statement) (s : Scan) (x : (List Statement × Place) × Reading) : Type 0 where
   pub rest : List Statement
   pub words : Words
   pub brace : Spelled
   pub is_brace : Is brace (codes "}")
-  pub all : x.0 ≡ done ++ rest
+  pub all : x.0.0 ≡ done ++ rest
   pub are : AreStatements names words rest
   pub few : length rest ≤ room
   pub spells : Spells s.reading (words ++ brace ∷ []) x.1
   pub uses : s.used ≤ 8192 → s.used + sum_by uses_of rest ≤ 8192
 
-statements-none : (room : ℕ) (names : Names) (done : List Statement) (s : Scan) (brace : Spelled) (r : Reading) (x : List Statement × Reading) → Is brace (codes "}") → Spells s.reading (brace ∷ []) r → (let whole : Result (List Statement × Reading) KernelFault = Ok (done, r) in whole ≡ Ok x) → FoundStatements room names done s x
-statements-none room names done s brace r x is spells e =
-    subst (FoundStatements room names done s) (ok_once (done, r) x e)
+statements-none : (room : ℕ) (names : Names) (done : List Statement) (s : Scan) (brace : Spelled) (place : Place) (r : Reading) (x : (List Statement × Place) × Reading) → Is brace (codes "}") → Spells s.reading (brace ∷ []) r → (let whole : Result ((List Statement × Place) × Reading) KernelFault = Ok ((done, place), r) in whole ≡ Ok x) → FoundStatements room names done s x
+statements-none room names done s brace place r x is spells e =
+    subst (FoundStatements room names done s) (ok_once ((done, place), r) x e)
     (record { rest = []; words = []; brace = brace; is_brace = is; all = sym (append-nil done); are = refl; few = omega arith; spells = spells; uses = λ h. omega arith })
 
-statements-one : (room : ℕ) (names : Names) (done : List Statement) (s : Scan) (y : Step) (x : List Statement × Reading) → FoundStep names s.reading s.used y → FoundStatements room y.names (done ++ y.statement ∷ []) y.scan x → FoundStatements (suc room) names done s x
+statements-one : (room : ℕ) (names : Names) (done : List Statement) (s : Scan) (y : Step) (x : (List Statement × Place) × Reading) → FoundStep names s.reading s.used y → FoundStatements room y.names (done ++ y.statement ∷ []) y.scan x → FoundStatements (suc room) names done s x
 statements-one room names done s y x one more =
     let counts = one.counts in
     let sum = sum_by-cons uses_of y.statement more.rest in
@@ -205,18 +206,18 @@ brace-found r w e t =
     let is = same_text w.0.bytes (codes "}") t in
     (is, next-found r w e (λ none. let no : [] ≡ codes "}" = sym none ∙ is in cc))
 
-pub statements-found : (room : ℕ) (names : Names) (done : List Statement) (s : Scan) (x : List Statement × Reading) → statements_at room names done s ≡ Ok x → FoundStatements room names done s x
+pub statements-found : (room : ℕ) (names : Names) (done : List Statement) (s : Scan) (x : (List Statement × Place) × Reading) → statements_at room names done s ≡ Ok x → FoundStatements room names done s x
 unfolding statements_at
 statements-found zero names done s x e =
     let c = bind_ok (closing_at s.reading) _ e in
     let w = bind_ok (next_at s.reading) _ c.1 in
-    let t = tested_ok (bytes_eq w.0.0.bytes (codes "}")) (Ok w.0.1) _ w.2 in
+    let t = tested_ok (bytes_eq w.0.0.bytes (codes "}")) (Ok (w.0.0.place, w.0.1)) _ w.2 in
     let brace = brace-found s.reading w.0 w.1 t.0 in
-    statements-none 0 names done s w.0.0 c.0 x brace.0 (subst (λ (q : Reading). Spells s.reading (w.0.0 ∷ []) q) (ok_once w.0.1 c.0 t.1) brace.1) c.2
+    statements-none 0 names done s w.0.0 c.0.0 c.0.1 x brace.0 (subst (λ (q : Place × Reading). Spells s.reading (w.0.0 ∷ []) q.1) (ok_once (w.0.0.place, w.0.1) c.0 t.1) brace.1) c.2
 statements-found (suc room) names done s x e =
     let w = bind_ok (next_at s.reading) _ e in
-    elim (either_way (bytes_eq w.0.0.bytes (codes "}")) (Ok (done, w.0.1)) _ w.2) [
-      | inl ended ↦ (let brace = brace-found s.reading w.0 w.1 ended.0 in statements-none (suc room) names done s w.0.0 w.0.1 x brace.0 brace.1 ended.1)
+    elim (either_way (bytes_eq w.0.0.bytes (codes "}")) (Ok ((done, w.0.0.place), w.0.1)) _ w.2) [
+      | inl ended ↦ (let brace = brace-found s.reading w.0 w.1 ended.0 in statements-none (suc room) names done s w.0.0 w.0.0.place w.0.1 x brace.0 brace.1 ended.1)
       | inr more ↦
           let y = bind_ok (statement_at names w.0.0 w.0.1 s.used) _ more.1 in
           statements-one room names done s y.0 x (statement-found names s.reading w.0.1 w.0.0 s.used y.0 w.1 y.1) (statements-found room y.0.names (done ++ y.0.statement ∷ []) y.0.scan x y.2)

@@ -294,7 +294,7 @@ statement-well_formed names ws (store w a e) behind (word, opening, comma, closi
     let f = expression-well_formed names 5 d from e whole in
     ((address-well_formed names to a place, f.0, omega (arith, f.1), width-type (type_of e) w width), ap (λ (n : Names). n.params) now, ap types_in now ∙ sym (append-nil (types_in names)))
 
-statements-well_formed : (names : Names) (ws : Words) (ss : List Statement) → grammar.AreStatements names ws ss → AreStatements names.params (types_in names) ss
+pub statements-well_formed : (names : Names) (ws : Words) (ss : List Statement) → grammar.AreStatements names ws ss → AreStatements names.params (types_in names) ss
 statements-well_formed names ws [] are = tt
 statements-well_formed names ws (s ∷ ss) (front, rest, behind, one, more, same) =
     let f = statement-well_formed names front s behind one in
@@ -305,7 +305,7 @@ more-free : (ws : Words) (ps : List KParam) → grammar.AreMore ws ps → AllByR
 more-free ws [] are = tt
 more-free ws (p ∷ ps) (comma, front, rest, is, (word, colon, kind, i, free, colon_is, kind_is, words_are), others, same) = (free, more-free rest ps others)
 
-names-free : (ws : Words) (ps : List KParam) → grammar.AreParameters ws ps → AllByRecursion (λ p. IsTrue (is_free p.name)) ps
+pub names-free : (ws : Words) (ps : List KParam) → grammar.AreParameters ws ps → AllByRecursion (λ p. IsTrue (is_free p.name)) ps
 names-free ws [] are = tt
 names-free ws (p ∷ ps) (front, rest, (word, colon, kind, i, free, colon_is, kind_is, words_are), others, same) = (free, more-free rest ps others)
 

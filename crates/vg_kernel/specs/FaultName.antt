@@ -1,7 +1,7 @@
 -- Refusals of kernels by their names.
 use Rattle.std.specs.Prelude.{ℕ, List, codes}
 use Rattle.vg_kernel.specs.declared.fault.KernelFault.{KernelFault}
-use Rattle.vg_kernel.specs.declared.fault.KernelFault.TheVariants.{Token, Shape, UnknownName, DuplicateName, WidthMismatch, LiteralRange, ShiftRange, TooMany, TooLarge, NestingTooDeep, Memory}
+use Rattle.vg_kernel.specs.declared.fault.KernelFault.TheVariants.{Token, Shape, UnknownName, DuplicateName, WidthMismatch, LiteralRange, ShiftRange, TooMany, TooLarge, NestingTooDeep, NoMovingStore, LoopHere, Memory}
 
 -- the number and the name, as `2 Shape`
 abbrev pub name_of_fault : KernelFault → List ℕ
@@ -15,4 +15,6 @@ name_of_fault (ShiftRange p) = codes "7 ShiftRange"
 name_of_fault (TooMany p) = codes "8 TooMany"
 name_of_fault (TooLarge p) = codes "9 TooLarge"
 name_of_fault (NestingTooDeep p) = codes "10 NestingTooDeep"
+name_of_fault (NoMovingStore p) = codes "11 NoMovingStore"
+name_of_fault (LoopHere p) = codes "12 LoopHere"
 name_of_fault (Memory e) = codes "memory"

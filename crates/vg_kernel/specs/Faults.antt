@@ -2,7 +2,7 @@
 use Rattle.std.specs.Prelude.{ℕ, Option, Some, None}
 use Rattle.vg_text.specs.declared.place.Place.{Place}
 use Rattle.vg_kernel.specs.declared.fault.KernelFault.{KernelFault}
-use Rattle.vg_kernel.specs.declared.fault.KernelFault.TheVariants.{Token, Shape, UnknownName, DuplicateName, WidthMismatch, LiteralRange, ShiftRange, TooMany, TooLarge, NestingTooDeep, Memory}
+use Rattle.vg_kernel.specs.declared.fault.KernelFault.TheVariants.{Token, Shape, UnknownName, DuplicateName, WidthMismatch, LiteralRange, ShiftRange, TooMany, TooLarge, NestingTooDeep, NoMovingStore, LoopHere, Memory}
 
 -- the number of a refusal; want of memory has none
 abbrev pub number_of_fault : KernelFault → Option ℕ
@@ -16,6 +16,8 @@ number_of_fault (ShiftRange p) = Some 7
 number_of_fault (TooMany p) = Some 8
 number_of_fault (TooLarge p) = Some 9
 number_of_fault (NestingTooDeep p) = Some 10
+number_of_fault (NoMovingStore p) = Some 11
+number_of_fault (LoopHere p) = Some 12
 number_of_fault (Memory e) = None
 
 -- the place of a refusal
@@ -30,4 +32,6 @@ place_of_fault (ShiftRange p) = Some p
 place_of_fault (TooMany p) = Some p
 place_of_fault (TooLarge p) = Some p
 place_of_fault (NestingTooDeep p) = Some p
+place_of_fault (NoMovingStore p) = Some p
+place_of_fault (LoopHere p) = Some p
 place_of_fault (Memory e) = None

@@ -8,9 +8,11 @@ use Rattle.vg_base.specs.Bind.{◌>>=◌, or_fault}
 use Rattle.vg_base.specs.declared.address.Address.{Address}
 use Rattle.vg_base.specs.declared.width.Width.{Width}
 use Rattle.vg_text.specs.Place.{first_place}
+use Rattle.vg_text.specs.declared.place.Place.{Place}
 use Rattle.vg_text.specs.Words.{Reading, Spelled, reading_of}
 use Rattle.vg_kernel.specs.declared.fault.KernelFault.{KernelFault}
 use Rattle.vg_kernel.specs.declared.fault.KernelFault.TheVariants.{Shape, DuplicateName, WidthMismatch, TooMany, TooLarge}
+use Rattle.vg_kernel.specs.declared.head.Head.{Head}
 use Rattle.vg_kernel.specs.declared.parameter.KParam.{KParam}
 use Rattle.vg_kernel.specs.declared.parameter.KParamKind.{KParamKind}
 use Rattle.vg_kernel.specs.declared.parameter.KParamKind.TheVariants.{Pointer, Integer}
@@ -76,20 +78,22 @@ statement_at names word r used =
     else assignment_at names word.bytes r used)
     else store_at names word r used
 
--- the end of the statements, where no more may stand
-abbrev pub closing_at : Reading → Result Reading KernelFault
+-- the end of the statements, where no more may stand, with the place of the brace
+abbrev pub closing_at : Reading → Result (Place × Reading) KernelFault
 closing_at r =
     next_at r >>= λ word.
-    if bytes_eq word.0.bytes (codes "}") then Ok word.1
+    if bytes_eq word.0.bytes (codes "}") then Ok (word.0.place, word.1)
     else Err (if begins_statement word.0.bytes then TooMany word.0.place else Shape word.0.place)
 
--- statements up to `}`, behind those that are done, with room for so many more
+-- statements up to `}`, behind those that are done, with room for so many more, and the place of
+-- the brace
 unfoldable pub statements_at : ℕ → Names → List Statement → Scan
-    → Result (List Statement × Reading) KernelFault
-statements_at zero names done s = closing_at s.reading >>= λ closed. Ok (done, closed)
+    → Result ((List Statement × Place) × Reading) KernelFault
+statements_at zero names done s =
+    closing_at s.reading >>= λ closed. Ok ((done, closed.0), closed.1)
 statements_at (suc room) names done s = do
   word ← next_at s.reading
-  if bytes_eq word.0.bytes (codes "}") then Ok (done, word.1)
+  if bytes_eq word.0.bytes (codes "}") then Ok ((done, word.0.place), word.1)
       else statement_at names word.0 word.1 s.used >>= λ x.
       statements_at room x.names (done ++ x.statement ∷ []) x.scan
 
@@ -147,17 +151,41 @@ parameters_at r = do
   if bytes_eq word.0.bytes (codes ")") then Ok ([], word.1)
       else parameter_at [] r >>= λ first. parameters_behind 15 (first.0 ∷ []) first.1
 
+-- `name (parameters)`
+unfoldable pub head_at : Reading → Result (Head × Reading) KernelFault
+head_at r = do
+  name ← name_at r
+  opened ← expect_at (codes "(") name.1
+  params ← parameters_at opened
+  Ok (record { name = name.0.bytes; params = params.0 }, params.1)
+
+-- `{ statements }` behind this head, and the place of the brace that closes them
+unfoldable pub block_at : Head → Reading → Result ((Tree × Place) × Reading) KernelFault
+block_at head r = do
+  began ← expect_at (codes "{") r
+  statements ← statements_at 4096 (names_of head.params) [] (record { reading = began; used = 0 })
+  Ok (
+    (
+      record { name = head.name; params = head.params; statements = statements.0.0 },
+      statements.0.1,
+    ),
+    statements.1,
+  )
+
+-- `{ statements }` behind this head, and nothing behind them
+unfoldable pub body_at : Head → Reading → Result (Tree × Reading) KernelFault
+body_at head r = do
+  block ← block_at head r
+  ended ← end_at block.1
+  Ok (block.0.0, ended)
+
 -- `kernel name (parameters) { statements }`, and nothing behind it
 unfoldable pub kernel_at : Reading → Result Tree KernelFault
 kernel_at r = do
   announced ← expect_at (codes "kernel") r
-  name ← name_at announced
-  opened ← expect_at (codes "(") name.1
-  params ← parameters_at opened
-  began ← expect_at (codes "{") params.1
-  statements ← statements_at 4096 (names_of params.0) [] (record { reading = began; used = 0 })
-  ended ← end_at statements.1
-  Ok (record { name = name.0.bytes; params = params.0; statements = statements.0 })
+  head ← head_at announced
+  kernel ← body_at head.0 head.1
+  Ok kernel.0
 
 -- the kernel of a text of at most 262,144 bytes, or its first fault
 unfoldable pub kernel_of : List ℕ → Result Tree KernelFault

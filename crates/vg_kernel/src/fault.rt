@@ -44,6 +44,13 @@ pub enum KernelFault {
     /// that makes it so deep.
     #[error("{} at {}:{}", self.name(), .place.line, .place.column)]
     NestingTooDeep { place: Place },
+    /// A loop in which no store goes through a pointer that has a step, at the brace that closes it.
+    /// No kernel has this fault.
+    #[error("{} at {}:{}", self.name(), .place.line, .place.column)]
+    NoMovingStore { place: Place },
+    /// A loop where a kernel alone may stand, at its first word. No kernel has this fault.
+    #[error("{} at {}:{}", self.name(), .place.line, .place.column)]
+    LoopHere { place: Place },
     /// There was no memory, which says nothing of the text.
     #[error("{}", self.name())]
     Memory(AllocError),
@@ -68,6 +75,8 @@ impl KernelFault {
             KernelFault::TooMany { .. } => Some(8),
             KernelFault::TooLarge { .. } => Some(9),
             KernelFault::NestingTooDeep { .. } => Some(10),
+            KernelFault::NoMovingStore { .. } => Some(11),
+            KernelFault::LoopHere { .. } => Some(12),
             KernelFault::Memory(_) => None,
         }
     }
@@ -87,6 +96,8 @@ impl KernelFault {
             KernelFault::TooMany { .. } => "8 TooMany",
             KernelFault::TooLarge { .. } => "9 TooLarge",
             KernelFault::NestingTooDeep { .. } => "10 NestingTooDeep",
+            KernelFault::NoMovingStore { .. } => "11 NoMovingStore",
+            KernelFault::LoopHere { .. } => "12 LoopHere",
             KernelFault::Memory(_) => "memory",
         }
     }
@@ -106,6 +117,8 @@ impl KernelFault {
             KernelFault::TooMany { place } => Some(place),
             KernelFault::TooLarge { place } => Some(place),
             KernelFault::NestingTooDeep { place } => Some(place),
+            KernelFault::NoMovingStore { place } => Some(place),
+            KernelFault::LoopHere { place } => Some(place),
             KernelFault::Memory(_) => None,
         }
     }

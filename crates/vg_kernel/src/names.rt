@@ -32,7 +32,7 @@ fn given_of(kind: KParamKind, pointers: u32, integers: u32) -> Given
 
 /// The first parameter of this name.
 #[tactic(auto, unfolding(crate::specs::Names::parameter_named))]
-fn parameter_named(params: &[KParam], name: &[u8]) -> Option<Given>
+pub fn parameter_named(params: &[KParam], name: &[u8]) -> Option<Given>
     requires { length params.now < 2 ^ 32 }
     ensures { result ≡ parameter_named 0 0 params.now name.now }
 {

@@ -1,14 +1,15 @@
 //! Reads a kernel, word by word.
 
-ghost use Rattle.std.specs.Prelude.{◌≡◌, ◌≤◌, [], vec_len, IfOk, Ok};
+ghost use Rattle.std.specs.Prelude.{◌≡◌, ◌≤◌, [], length, vec_len, IfOk, Ok, OnErr};
 ghost use Rattle.vg_text.specs.Lexing.{reading};
 ghost use Rattle.vg_kernel.specs.Gives.{Gives};
-ghost use Rattle.vg_kernel.specs.Statements.{kind_at, is_taken, parameter_at, parameter_too_many, comma_at, parameters_behind, parameters_at, kernel_at, kernel_of};
+ghost use Rattle.vg_kernel.specs.Statements.{kind_at, is_taken, parameter_at, parameter_too_many, comma_at, parameters_behind, parameters_at, head_at, block_at, body_at, kernel_at, kernel_of};
 ghost use Rattle.vg_kernel.specs.Grammar.{IsKernelText};
 ghost use Rattle.vg_kernel.specs.Tree.{tree_of, Tree};
-ghost use Rattle.vg_kernel.specs.WellFormed.{IsWellFormed};
+ghost use Rattle.vg_kernel.specs.WellFormed.{IsHead, IsWellFormed};
 
 use crate::fault::KernelFault;
+use crate::head::Head;
 use crate::kernel::Kernel;
 use crate::parameter::{KParam, KParamKind};
 use crate::reading::{end, expect, name, next};
@@ -160,23 +161,113 @@ fn parameters<'a>(alloc: Global, lexer: Lexer<'a>) -> Result<(Vec<KParam>, Lexer
     parameters_behind(alloc, done, rest)
 }
 
+/// `name (parameters)`.
+#[tactic(auto, unfolding(crate::specs::Statements::head_at))]
+fn head<'a>(alloc: Global, lexer: Lexer<'a>) -> Result<(Head, Lexer<'a>), KernelFault>
+    ensures read { Gives (λ x. (x.0, reading x.1)) result (head_at (reading lexer.entry)) }
+    ensures few { IfOk result (λ x. length x.0.params ≤ 16) }
+{
+    let (word, rest) = name(lexer)?;
+    let rest = expect(b"(", rest)?;
+    let (params, rest) = parameters(alloc, rest)?;
+    let name = Name::new(alloc, word.bytes)?;
+    let params = Items::from_vec(params);
+    Ok((Head { name, params }, rest))
+}
+
+/// `{ statements }` behind a head, and the place of the brace that closes them.
+#[tactic(auto, unfolding(crate::specs::Statements::block_at))]
+fn block<'a>(
+    alloc: Global,
+    head: Head,
+    lexer: Lexer<'a>,
+) -> Result<(Kernel, Place, Lexer<'a>), KernelFault>
+    requires { length head.params ≤ 16 }
+    ensures read { Gives (λ x. ((tree_of x.0, x.1), reading x.2)) result
+        (block_at head (reading lexer.entry)) }
+{
+    let rest = expect(b"{", lexer)?;
+    let (statements, brace, rest) = statements(alloc, head.params.as_slice(), rest)?;
+    let kernel = Kernel {
+        name: head.name,
+        params: head.params,
+        statements: Items::from_vec(statements),
+    };
+    Ok((kernel, brace, rest))
+}
+
+/// `{ statements }` behind a head, with nothing behind it.
+#[tactic(auto, unfolding(crate::specs::Statements::body_at))]
+fn body<'a>(alloc: Global, head: Head, lexer: Lexer<'a>) -> Result<(Kernel, Lexer<'a>), KernelFault>
+    requires { length head.params ≤ 16 }
+    ensures read { Gives (λ x. (tree_of x.0, reading x.1)) result
+        (body_at head (reading lexer.entry)) }
+{
+    let (kernel, _brace, rest) = block(alloc, head, lexer)?;
+    let rest = end(rest)?;
+    Ok((kernel, rest))
+}
+
 /// A whole kernel, with nothing behind it.
 #[tactic(auto, unfolding(crate::specs::Statements::kernel_at))]
 fn kernel<'a>(alloc: Global, lexer: Lexer<'a>) -> Result<Kernel, KernelFault>
     ensures read { Gives tree_of result (kernel_at (reading lexer.entry)) }
 {
     let rest = expect(b"kernel", lexer)?;
-    let (word, rest) = name(rest)?;
-    let rest = expect(b"(", rest)?;
-    let (params, rest) = parameters(alloc, rest)?;
-    let rest = expect(b"{", rest)?;
-    let (statements, rest) = statements(alloc, params.as_slice(), rest)?;
-    let _end = end(rest)?;
-    Ok(Kernel {
-        name: Name::new(alloc, word.bytes)?,
-        params: Items::from_vec(params),
-        statements: Items::from_vec(statements),
-    })
+    let (head, rest) = head(alloc, rest)?;
+    let (kernel, _rest) = body(alloc, head, rest)?;
+    Ok(kernel)
+}
+
+/// Reads `name (parameters)`, as it stands in a kernel behind its first word.
+///
+/// On `Ok` the lexer stands behind the `)`. An error is the first fault of this part, with the number
+/// and the place that it has in a kernel, or want of memory; then the lexer is as it was.
+pub fn parse_head(alloc: Global, lexer: &mut Lexer<'_>) -> Result<Head, KernelFault>
+    ensures exact { Gives (λ h. (h, reading lexer.new)) result (head_at (reading lexer.old)) }
+    ensures well_formed { IfOk result IsHead }
+    ensures refused { OnErr result (lexer.new ≡ lexer.old) }
+{
+    let (head, behind) = head(alloc, *lexer)?;
+    *lexer = behind;
+    Ok(head)
+}
+
+/// Reads `{ statements }` behind a head, and gives the kernel with the place of the brace that closes
+/// it.
+///
+/// On `Ok` the lexer stands behind that brace, and what stands there is not judged. An error is the
+/// first fault of this part, or want of memory; then the lexer is as it was, and the head is dropped.
+pub fn parse_statements(
+    alloc: Global,
+    lexer: &mut Lexer<'_>,
+    head: Head,
+) -> Result<(Kernel, Place), KernelFault>
+    requires { IsHead head }
+    ensures exact { Gives (λ x. ((tree_of x.0, x.1), reading lexer.new)) result
+        (block_at head (reading lexer.old)) }
+    ensures well_formed { IfOk result (λ x. IsWellFormed (tree_of x.0)) }
+    ensures refused { OnErr result (lexer.new ≡ lexer.old) }
+{
+    let (kernel, brace, behind) = block(alloc, head, *lexer)?;
+    *lexer = behind;
+    Ok((kernel, brace))
+}
+
+/// Reads `{ statements }` behind a head, and the end of the text.
+///
+/// On `Ok` the lexer stands at the end. An error is the first fault of this part, or want of memory;
+/// then the lexer is as it was, and the head is dropped.
+pub fn parse_body(alloc: Global, lexer: &mut Lexer<'_>, head: Head) -> Result<Kernel, KernelFault>
+    requires { IsHead head }
+    ensures exact { Gives (λ k. (tree_of k, reading lexer.new)) result
+        (body_at head (reading lexer.old)) }
+    ensures well_formed { IfOk result (λ k. IsWellFormed (tree_of k)) }
+    ensures refused { OnErr result (lexer.new ≡ lexer.old) }
+{
+    let (kernel, behind) = body(alloc, head, *lexer)?;
+    *lexer = behind;
+    Ok(kernel)
 }
 
 /// What a text spells, read from left to right.

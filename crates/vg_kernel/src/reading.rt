@@ -16,7 +16,8 @@ use vg_text::lexer::Word;
 use vg_text::number::decimal;
 use vg_text::{Lexer, Place};
 
-pub(crate) fn next<'a>(lexer: Lexer<'a>) -> Result<(Word<'a>, Lexer<'a>), KernelFault>
+/// The next word.
+pub fn next<'a>(lexer: Lexer<'a>) -> Result<(Word<'a>, Lexer<'a>), KernelFault>
     ensures read { Gives (λ x. (spelled_of x.0, reading x.1)) result
         (next_at (reading lexer.entry)) }
 {
@@ -27,7 +28,7 @@ pub(crate) fn next<'a>(lexer: Lexer<'a>) -> Result<(Word<'a>, Lexer<'a>), Kernel
 }
 
 /// This very word.
-pub(crate) fn expect<'a>(text: &[u8], lexer: Lexer<'a>) -> Result<Lexer<'a>, KernelFault>
+pub fn expect<'a>(text: &[u8], lexer: Lexer<'a>) -> Result<Lexer<'a>, KernelFault>
     ensures read { Gives reading result (expect_at text.now (reading lexer.entry)) }
 {
     let (word, rest) = next(lexer)?;
@@ -39,7 +40,7 @@ pub(crate) fn expect<'a>(text: &[u8], lexer: Lexer<'a>) -> Result<Lexer<'a>, Ker
 }
 
 /// The end of the text.
-pub(crate) fn end<'a>(lexer: Lexer<'a>) -> Result<Lexer<'a>, KernelFault>
+pub fn end<'a>(lexer: Lexer<'a>) -> Result<Lexer<'a>, KernelFault>
     ensures read { Gives reading result (end_at (reading lexer.entry)) }
 {
     let (word, rest) = next(lexer)?;
@@ -51,7 +52,7 @@ pub(crate) fn end<'a>(lexer: Lexer<'a>) -> Result<Lexer<'a>, KernelFault>
 }
 
 /// A word that may be a name.
-pub(crate) fn name<'a>(lexer: Lexer<'a>) -> Result<(Word<'a>, Lexer<'a>), KernelFault>
+pub fn name<'a>(lexer: Lexer<'a>) -> Result<(Word<'a>, Lexer<'a>), KernelFault>
     ensures read { Gives (λ x. (spelled_of x.0, reading x.1)) result
         (name_at (reading lexer.entry)) }
 {

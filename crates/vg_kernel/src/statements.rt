@@ -20,9 +20,9 @@ use crate::statement::KStmt;
 use crate::words::{begins_statement, is_free, width_behind};
 use std::alloc::Global;
 use vg_base::{Address, Width};
-use vg_text::Lexer;
 use vg_text::byte::is_text;
 use vg_text::lexer::Word;
+use vg_text::{Lexer, Place};
 
 /// An expression that no parenthesis encloses.
 fn outer<'a>(
@@ -156,13 +156,13 @@ fn statement<'a>(
 }
 
 /// The end of the statements, where no more may stand.
-fn closing<'a>(lexer: Lexer<'a>) -> Result<Lexer<'a>, KernelFault>
-    ensures { Gives reading result (closing_at (reading lexer.entry)) }
+fn closing<'a>(lexer: Lexer<'a>) -> Result<(Place, Lexer<'a>), KernelFault>
+    ensures { Gives (λ x. (x.0, reading x.1)) result (closing_at (reading lexer.entry)) }
 {
     let (word, rest) = next(lexer)?;
     let place = word.place;
     if is_text(word.bytes, b"}") {
-        Ok(rest)
+        Ok((place, rest))
     } else if begins_statement(word.bytes) {
         Err(KernelFault::TooMany { place })
     } else {
@@ -170,14 +170,14 @@ fn closing<'a>(lexer: Lexer<'a>) -> Result<Lexer<'a>, KernelFault>
     }
 }
 
-/// The statements up to `}`, 4,096 at most.
+/// The statements up to `}`, 4,096 at most, and the place of the brace.
 pub(crate) fn statements<'a>(
     alloc: Global,
     params: &[KParam],
     lexer: Lexer<'a>,
-) -> Result<(Vec<KStmt>, Lexer<'a>), KernelFault>
+) -> Result<(Vec<KStmt>, Place, Lexer<'a>), KernelFault>
     requires { length params.now ≤ 16 }
-    ensures read { Gives (λ x. (map statement_of x.0.items, reading x.1)) result
+    ensures read { Gives (λ x. ((map statement_of x.0.items, x.1), reading x.2)) result
         (statements_at 4096 (names_of params.now) []
         (record { reading = reading lexer.entry; used = 0 })) }
 {
@@ -190,7 +190,7 @@ pub(crate) fn statements<'a>(
             Err(fault) => return Err(fault),
         };
         if is_text(word.bytes, b"}") {
-            return Ok((done, rest));
+            return Ok((done, word.place, rest));
         }
         match statement(alloc, &mut names, word, rest, scan.used) {
             Ok((step, behind)) => {
@@ -201,7 +201,7 @@ pub(crate) fn statements<'a>(
         }
     }
     match closing(scan.lexer) {
-        Ok(rest) => Ok((done, rest)),
+        Ok((place, rest)) => Ok((done, place, rest)),
         Err(fault) => Err(fault),
     }
 }

@@ -40,7 +40,7 @@ returns-in-Err-statement c = record {
 pub returns-in-Ok-closing : goal.returns-in-Ok-closing
 returns-in-Ok-closing c =
     let none : 4096 - vec_len c.statements.done ≡ 0 = omega arith in
-    record { read = sym c.statements.invariant.read ∙ rw none (statements-full c.statements.names (map statement_of c.statements.done.items) (scan_of c.statements.scan) (reading c.in-Ok-closing.rest) c.in-Ok-closing.ensures) }
+    record { read = sym c.statements.invariant.read ∙ rw none (statements-full c.statements.names (map statement_of c.statements.done.items) (scan_of c.statements.scan) (c.in-Ok-closing.place, reading c.in-Ok-closing.rest) c.in-Ok-closing.ensures) }
 
 pub returns : goal.returns
 returns c =

@@ -1,0 +1,7 @@
+use Rattle.vg_text.specs.Lexing.{reading}
+use Rattle.vg_kernel.specs.Tree.{tree_of}
+use Rattle.vg_kernel.proofs.Heads.{body-well_formed}
+use Rattle.vg_kernel.proofs.parser.parse_body.Goals as goal
+
+pub returns-clause-well_formed : goal.returns-clause-well_formed
+returns-clause-well_formed c = body-well_formed c.args.head (reading c.args.lexer.now) (tree_of c.in_ok-kernel.kernel, reading c.in_ok-kernel.behind) c.requires c.in_ok-kernel.ensures.read
