@@ -5,6 +5,7 @@
 #![tactic(auto)]
 
 mod assigned_names;
+mod copying;
 mod costs;
 mod expression;
 mod expressions;
