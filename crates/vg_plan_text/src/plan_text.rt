@@ -9,7 +9,7 @@ use crate::costs::Costs;
 use std::alloc::{AllocError, Global};
 use vg_packing::units::unit_at;
 use vg_program::Param;
-use vg_program::printing::{put_address, put_imm, put_number};
+use vg_program::parts::{put_address, put_imm, put_number};
 use vg_shapes::{Access, Description, Pack, Plan, Ssa, Unit};
 
 /// What a unit reads or writes, if it is there and does.

@@ -9,11 +9,12 @@ use Rattle.vg_base.specs.declared.width.Width.TheVariants.{W8, W16, W32, W64}
 use Rattle.vg_program.specs.declared.param.Param.{Param}
 use Rattle.vg_program.specs.declared.param_kind.ParamKind.{ParamKind}
 use Rattle.vg_program.specs.declared.param_kind.ParamKind.TheVariants.{Pointer, Integer}
+use Rattle.vg_program.specs.declared.signature.Signature.{Signature}
 use Rattle.vg_text.specs.Byte.{is_name, is_name_text}
 use Rattle.vg_program.specs.Params.{AreParams}
-use Rattle.vg_program.specs.Text.{line_end, type_text, kind_text, param_text, params_text}
+use Rattle.vg_program.specs.Text.{line_end, type_text, kind_text, param_text, params_text, signature_text}
 use Rattle.vg_program.specs.Tokens.{begins, is_word, word_at, signs_at}
-use Rattle.vg_program.specs.Grammar.{kind_at, param_at, params_behind, params_at, first_line_at}
+use Rattle.vg_program.specs.Grammar.{kind_at, param_at, params_behind, params_at, signature_at, first_line_at}
 use Rattle.vg_program.proofs.Steps.{Holds, now, never, and_then, if_both, if_not, Stops, drop-run}
 use Rattle.vg_program.proofs.TokenLaws.{signs_takes, word_is, word_takes, word-run, begins_is, name_takes, name_again, name_begins, short_type, type_text-short, short_type-run, type_takes, type_again}
 
@@ -163,30 +164,64 @@ params_again (q ∷ qs) rest p =
     joined : (a b c d e : List ℕ) → (((a ++ b) ++ c) ++ d) ++ e ≡ a ++ (b ++ (c ++ (d ++ e)))
     joined a b c d e = simp append_assoc
 
+-- ---- the name and the parameters
+
+-- what is read is spelled so
+pub record TakesSignature (text : List ℕ) (x : Signature × List ℕ) : Type 0 where
+  pub spelled : text ≡ signature_text x.0 ++ x.1
+  pub named : IsTrue (is_name_text x.0.name)
+  pub params : AreParams x.0.params
+
+signature_text-joined : (s : Signature) (rest : List ℕ) → signature_text s ++ rest ≡ s.name ++ (codes "(" ++ (params_text s.params ++ (codes ")" ++ rest)))
+signature_text-joined s rest = joined s.name (codes "(") (params_text s.params) (codes ")") rest
+  where
+    joined : (a b c d e : List ℕ) → (((a ++ b) ++ c) ++ d) ++ e ≡ a ++ (b ++ (c ++ (d ++ e)))
+    joined a b c d e = simp append_assoc
+
+pub signature-takes : (text : List ℕ) → Holds (signature_at text) (TakesSignature text)
+unfolding signature_at
+signature-takes text =
+    and_then _ _ _ _ (name_takes text) (λ name n.
+    and_then _ _ _ _ (signs_takes (codes "(") name.1) (λ bracket b.
+    and_then _ _ _ _ (params_takes bracket) (λ params p.
+    let s : Signature = record { name = name.0; params = params.0 } in
+    let spelled : text ≡ signature_text s ++ params.1 = rw (signature_text-joined s params.1, n.0, b, p.0) refl in
+    now _ _ (record { spelled = spelled; named = n.1; params = p.1 }))))
+
+pub signature-again : (s : Signature) (rest : List ℕ) → IsTrue (is_name_text s.name) → AreParams s.params → signature_at (signature_text s ++ rest) ≡ Ok (s, rest)
+unfolding signature_at signs_at
+signature-again s rest named proper =
+    ap signature_at (signature_text-joined s rest)
+    ∙ rw (name_again s.name (codes "(" ++ (params_text s.params ++ (codes ")" ++ rest))) named refl, params_again s.params rest proper) refl
+
 -- ---- the first line
 
-abbrev pub first_text : List ℕ → List Param → List ℕ
-first_text name params = codes "program " ++ name ++ codes "(" ++ params_text params ++ codes ")" ++ line_end
+abbrev pub first_text : Signature → List ℕ
+first_text s = codes "program " ++ signature_text s ++ line_end
 
-first_text-joined : (name : List ℕ) (params : List Param) (rest : List ℕ) → first_text name params ++ rest ≡ codes "program " ++ (name ++ (codes "(" ++ (params_text params ++ (codes ")" ++ (line_end ++ rest)))))
-first_text-joined name params rest = joined (codes "program ") name (codes "(") (params_text params) (codes ")") line_end rest
+first_text-joined : (s : Signature) (rest : List ℕ) → first_text s ++ rest ≡ codes "program " ++ (signature_text s ++ (line_end ++ rest))
+first_text-joined s rest = joined (codes "program ") (signature_text s) line_end rest
   where
-    joined : (a b c d e f g : List ℕ) → (((((a ++ b) ++ c) ++ d) ++ e) ++ f) ++ g ≡ a ++ (b ++ (c ++ (d ++ (e ++ (f ++ g)))))
-    joined a b c d e f g = simp append_assoc
+    joined : (a b c d : List ℕ) → ((a ++ b) ++ c) ++ d ≡ a ++ (b ++ (c ++ d))
+    joined a b c d = simp append_assoc
 
-pub first_line_takes : (text : List ℕ) → Holds (first_line_at text) (λ x. (text ≡ first_text x.0 x.1 ++ x.2) × IsTrue (is_name_text x.0) × AreParams x.1)
+-- what is read is spelled so
+pub record TakesFirst (text : List ℕ) (x : Signature × List ℕ) : Type 0 where
+  pub spelled : text ≡ first_text x.0 ++ x.1
+  pub named : IsTrue (is_name_text x.0.name)
+  pub params : AreParams x.0.params
+
+pub first_line-takes : (text : List ℕ) → Holds (first_line_at text) (TakesFirst text)
 unfolding first_line_at
-first_line_takes text =
+first_line-takes text =
     and_then _ _ _ _ (word_takes (codes "program") text) (λ program a.
     and_then _ _ _ _ (signs_takes (codes " ") program) (λ space b.
-    and_then _ _ _ _ (name_takes space) (λ name n.
-    and_then _ _ _ _ (signs_takes (codes "(") name.1) (λ bracket c.
-    and_then _ _ _ _ (params_takes bracket) (λ params p.
-    and_then _ _ _ _ (signs_takes line_end params.1) (λ rest d.
-    let spelled : text ≡ first_text name.0 params.0 ++ rest = rw (first_text-joined name.0 params.0 rest, a, b, n.0, c, p.0, d) refl in
-    now _ _ (spelled, n.1, p.1)))))))
+    and_then _ _ _ _ (signature-takes space) (λ s t.
+    and_then _ _ _ _ (signs_takes line_end s.1) (λ rest d.
+    let spelled : text ≡ first_text s.0 ++ rest = rw (first_text-joined s.0 rest, a, b, t.spelled, d) refl in
+    now _ _ (record { spelled = spelled; named = t.named; params = t.params })))))
 
-pub first_line_again : (name : List ℕ) (params : List Param) (rest : List ℕ) → IsTrue (is_name_text name) → AreParams params → first_line_at (first_text name params ++ rest) ≡ Ok (name, params, rest)
+pub first_line-again : (s : Signature) (rest : List ℕ) → IsTrue (is_name_text s.name) → AreParams s.params → first_line_at (first_text s ++ rest) ≡ Ok (s, rest)
 unfolding first_line_at word_at is_word signs_at
-first_line_again name params rest named proper =
-    ap first_line_at (first_text-joined name params rest) ∙ rw (name_again name (codes "(" ++ (params_text params ++ (codes ")" ++ (line_end ++ rest)))) named refl, params_again params (line_end ++ rest) proper) refl
+first_line-again s rest named proper =
+    ap first_line_at (first_text-joined s rest) ∙ rw (signature-again s (line_end ++ rest) named proper) refl

@@ -1,30 +1,33 @@
 -- Whole programs: what is read is valid and is spelled so, and the text of each valid program is read.
-use Rattle.std.proofs.Common.{◌≡◌, ℕ, ◌^◌, ◌<◌, ◌≤◌, List, [], ◌∷◌, ◌++◌, length, true, ◌==◌, Result, Ok, Err, refl, sym, ap, subst, ◌∙◌, inl, inr, append_assoc, length-append, sum_by, arith}
+use Rattle.std.proofs.Common.{◌≡◌, ℕ, ◌^◌, ◌<◌, ◌≤◌, List, [], ◌∷◌, ◌++◌, length, true, ◌==◌, Result, Ok, Err, refl, sym, ap, subst, ◌∙◌, inl, inr, append_assoc, length-append, sum_by, arith, IsTrue}
 use Rattle.std.specs.Prelude.{codes, nat_lt, nat_le, IfOk}
 use Rattle.std.specs.Fmt.{decimal}
 use Rattle.std.proofs.lemmas.Bool.{cases_Bool, eqb-true, eq-eqb, ltb-true, ltb-false, lt-ltb, le-ltb, leb-true, le-leb}
 use Rattle.std.proofs.lemmas.List.{append-nil, nil_from_length}
+use Rattle.vg_text.specs.Byte.{is_name_text}
 use Rattle.vg_text.specs.Place.{first_place}
 use Rattle.vg_pseudo.specs.declared.header.Header.{Header}
 use Rattle.vg_program.specs.declared.counts.Counts.{Counts}
 use Rattle.vg_program.specs.declared.param.Param.{Param}
 use Rattle.vg_program.specs.declared.line.Line.{Line}
 use Rattle.vg_program.specs.declared.program.Program.{Program}
+use Rattle.vg_program.specs.declared.signature.Signature.{Signature}
 use Rattle.vg_program.specs.declared.fault.Fault.{Fault}
 use Rattle.vg_program.specs.declared.fault.Fault.TheVariants.{CostWrong, Range}
 use Rattle.vg_program.specs.declared.stop.Stop.{Stop}
 use Rattle.vg_program.specs.declared.program_fault.ProgramFault.{ProgramFault}
 use Rattle.vg_program.specs.declared.program_fault.ProgramFault.TheVariants as refused
 use Rattle.vg_program.specs.Before.{nothing_before, counted}
-use Rattle.vg_program.specs.Text.{line_end, defined, no_counts, lines_text, text_of}
+use Rattle.vg_program.specs.Text.{line_end, defined, no_counts, lines_text, signature_of, first_line, body_text, text_of}
 use Rattle.vg_program.specs.Cost.{line_cost}
+use Rattle.vg_program.specs.Params.{AreParams}
 use Rattle.vg_program.specs.Valid.{AreLines, KeepsRules, IsValid}
 use Rattle.vg_program.specs.Tokens.{signs_at, is_word, word_at}
-use Rattle.vg_program.specs.Grammar.{cost_from, scalar_from, scalar_at, cost_at, last_line_at, program_at}
+use Rattle.vg_program.specs.Grammar.{cost_from, scalar_from, scalar_at, cost_at, last_line_at, body_at, program_at}
 use Rattle.vg_program.specs.Faults.{located, read, Returns}
 use Rattle.vg_program.proofs.Steps.{Holds, now, and_then, if_ok, judged_ok}
 use Rattle.vg_program.proofs.TokenLaws.{signs_takes, word_takes, number_takes, number_again}
-use Rattle.vg_program.proofs.ParamLaws.{first_text, first_line_takes, first_line_again}
+use Rattle.vg_program.proofs.ParamLaws.{first_text, first_line-takes, first_line-again}
 use Rattle.vg_program.proofs.LineLaws.{lines_take, lines_again}
 
 -- ---- the last line
@@ -109,28 +112,27 @@ unfolding last_line_at cost_at scalar_at word_at is_word signs_at
 last_again cost scalar rest small few =
     ap (last_line_at cost) (last_text-joined cost scalar rest) ∙ rw (number_again cost (codes " scalar " ++ (decimal scalar ++ (line_end ++ rest))) (omega arith) refl, lt-ltb cost (2 ^ 32) small, eq-eqb cost cost refl, number_again scalar (line_end ++ rest) (omega arith) refl, le-leb scalar 16384 few) refl
 
--- ---- the whole
+-- ---- bodies
 
-program_takes : (headers : List Header) (text : List ℕ) → length text ≤ 4194304 → Holds (program_at headers text) (λ p. IsValid headers p × (text_of p ≡ text))
-unfolding program_at text_of
-program_takes headers text small =
-    and_then _ _ _ _ (first_line_takes text) (λ first f.
-    let b = nothing_before headers first.1 in
-    and_then _ _ _ _ (lines_take 4194304 b [] first.2 (f.2.few, omega arith, omega arith)) (λ lines l.
+-- what is read is spelled so, and keeps the rules
+pub record TakesBody (headers : List Header) (s : Signature) (text : List ℕ) (x : Program × List ℕ) : Type 0 where
+  pub spelled : text ≡ body_text x.0 ++ x.1
+  pub rules : KeepsRules headers x.0
+  pub signature : signature_of x.0 ≡ s
+
+pub body-takes : (headers : List Header) (s : Signature) (text : List ℕ) → IsTrue (is_name_text s.name) → AreParams s.params → Holds (body_at headers s text) (TakesBody headers s text)
+unfolding body_at
+body-takes headers s text named proper =
+    let b = nothing_before headers s.params in
+    and_then _ _ _ _ (lines_take 4194304 b [] text (proper.few, omega arith, omega arith)) (λ lines l.
     and_then _ _ _ _ (last_takes (sum_by line_cost lines.0) lines.1) (λ last e.
-    if_ok _ _ _ _ (λ ended.
-    let p : Program = record { name = first.0; params = first.1; lines = lines.0; cost = last.0; scalar = last.1 } in
-    let nothing : last.2 ≡ [] = nil_from_length last.2 (eqb-true (length last.2) 0 ended) in
-    let front = first_text first.0 first.1 in
-    let middle = lines_text first.1 no_counts lines.0 in
+    let p : Program = record { name = s.name; params = s.params; lines = lines.0; cost = last.0; scalar = last.1 } in
+    let middle = lines_text s.params no_counts lines.0 in
     let end = last_text last.0 last.1 in
-    let behind : first.2 ≡ middle ++ lines.1 = l.spelled ∙ ap (λ (ls : List Line). lines_text first.1 no_counts ls ++ lines.1) (sym l.all) in
-    let ending : lines.1 ≡ end = e.0 ∙ ap (λ (r : List ℕ). end ++ r) nothing ∙ append-nil end in
-    let whole : text ≡ text_of p = f.0 ∙ ap (λ (r : List ℕ). front ++ r) (behind ∙ ap (λ (r : List ℕ). middle ++ r) ending) ∙ sym (append_assoc front middle end) in
+    let behind : text ≡ middle ++ lines.1 = l.spelled ∙ ap (λ (ls : List Line). lines_text s.params no_counts ls ++ lines.1) (sym l.all) in
+    let spelled : text ≡ body_text p ++ last.2 = behind ∙ ap (λ (r : List ℕ). middle ++ r) e.0 ∙ sym (append_assoc middle end last.2) in
     let lined = subst (λ (ls : List Line). AreLines b ls) (sym l.all) l.valid in
-    let rules : KeepsRules headers p = record { name = f.1; params = f.2; lines = lined; cost = e.1; small = e.3; scalar = e.2 } in
-    let valid : IsValid headers p = record { rules = rules; size = subst (λ (t : List ℕ). length t ≤ 4194304) whole small } in
-    (valid, sym whole)))))
+    now _ _ (record { spelled = spelled; rules = record { name = named; params = proper; lines = lined; cost = e.1; small = e.3; scalar = e.2 }; signature = refl })))
 
 lines_long : (params : List Param) (c : Counts) (ls : List Line) → length ls ≤ length (lines_text params c ls)
 unfolding lines_text
@@ -141,25 +143,45 @@ last_ends : (cost scalar : ℕ) (rest : List ℕ) → is_word (codes "end") (las
 unfolding is_word
 last_ends cost scalar rest = refl
 
+pub body-again : (headers : List Header) (p : Program) (rest : List ℕ) → KeepsRules headers p → length (body_text p) ≤ 4194304 → body_at headers (signature_of p) (body_text p ++ rest) ≡ Ok (p, rest)
+unfolding body_at
+body-again headers p rest rules size =
+    let middle = lines_text p.params no_counts p.lines in
+    let end = last_text p.cost p.scalar in
+    let short : length p.lines ≤ 4194304 = omega (arith, lines_long p.params no_counts p.lines, size, length-append middle end) in
+    let lines = lines_again 4194304 (nothing_before headers p.params) [] p.lines (end ++ rest) rules.params (rules.params.few, omega arith, omega arith) short rules.lines (last_ends p.cost p.scalar rest) in
+    let last : last_line_at (sum_by line_cost p.lines) (end ++ rest) ≡ Ok (p.cost, p.scalar, rest) = ap (λ (k : ℕ). last_line_at k (end ++ rest)) (sym rules.cost) ∙ last_again p.cost p.scalar rest rules.small rules.scalar in
+    ap (body_at headers (signature_of p)) (append_assoc middle end rest) ∙ rw (lines, last) refl
+
+-- ---- the whole
+
+program_takes : (headers : List Header) (text : List ℕ) → length text ≤ 4194304 → Holds (program_at headers text) (λ p. IsValid headers p × (text_of p ≡ text))
+unfolding program_at text_of
+program_takes headers text small =
+    and_then _ _ _ _ (first_line-takes text) (λ first f.
+    and_then _ _ _ _ (body-takes headers first.0 first.1 f.named f.params) (λ body b.
+    if_ok _ _ _ _ (λ ended.
+    let nothing : body.1 ≡ [] = nil_from_length body.1 (eqb-true (length body.1) 0 ended) in
+    let front : first_text first.0 ≡ first_line body.0 = ap first_text (sym b.signature) in
+    let behind : first.1 ≡ body_text body.0 = b.spelled ∙ ap (λ (r : List ℕ). body_text body.0 ++ r) nothing ∙ append-nil (body_text body.0) in
+    let whole : text ≡ text_of body.0 = f.spelled ∙ ap (λ (r : List ℕ). first_text first.0 ++ r) behind ∙ ap (λ (r : List ℕ). r ++ body_text body.0) front in
+    let valid : IsValid headers body.0 = record { rules = b.rules; size = subst (λ (t : List ℕ). length t ≤ 4194304) whole small } in
+    (valid, sym whole))))
+
 program_again : (headers : List Header) (p : Program) → IsValid headers p → program_at headers (text_of p) ≡ Ok p
 unfolding program_at text_of
 program_again headers p v =
-    let valid = v.rules in
-    let front = first_text p.name p.params in
-    let middle = lines_text p.params no_counts p.lines in
-    let end = last_text p.cost p.scalar in
-    let joined : text_of p ≡ front ++ (middle ++ (end ++ [])) = append_assoc front middle end ∙ ap (λ (r : List ℕ). front ++ (middle ++ r)) (sym (append-nil end)) in
-    let short : length p.lines ≤ 4194304 = omega (arith, lines_long p.params no_counts p.lines, v.size, ap length joined, length-append front (middle ++ (end ++ [])), length-append middle (end ++ [])) in
-    let first = first_line_again p.name p.params (middle ++ (end ++ [])) valid.name valid.params in
-    let lines = lines_again 4194304 (nothing_before headers p.params) [] p.lines (end ++ []) valid.params (valid.params.few, omega arith, omega arith) short valid.lines (last_ends p.cost p.scalar []) in
-    let last : last_line_at (sum_by line_cost p.lines) (end ++ []) ≡ Ok (p.cost, p.scalar, []) = ap (λ (k : ℕ). last_line_at k (end ++ [])) (sym valid.cost) ∙ last_again p.cost p.scalar [] valid.small valid.scalar in
-    ap (program_at headers) joined ∙ rw (first, lines, last) refl
+    let front = first_line p in
+    let joined : text_of p ≡ front ++ (body_text p ++ []) = ap (λ (r : List ℕ). front ++ r) (sym (append-nil (body_text p))) in
+    let short : length (body_text p) ≤ 4194304 = omega (arith, v.size, length-append front (body_text p)) in
+    let first = first_line-again (signature_of p) (body_text p ++ []) v.rules.name v.rules.params in
+    ap (program_at headers) joined ∙ rw (first, body-again headers p [] v.rules short) refl
 
 -- ---- with the limit and the places
 
-located_ok : (text : List ℕ) (r : Result Program Stop) (p : Program) → located text r ≡ Ok p → r ≡ Ok p
-located_ok text (Ok q) p e = cc
-located_ok text (Err stop) p e = absurd cc
+pub located_ok : {A : Type 0} (text : List ℕ) (r : Result A Stop) (x : A) → located text r ≡ Ok x → r ≡ Ok x
+located_ok text (Ok y) x e = cc
+located_ok text (Err stop) x e = absurd cc
 
 pub read_sound : (headers : List Header) (text : List ℕ) (r : Result Program ProgramFault) → Returns r (read headers text) → IfOk r (λ p. IsValid headers p × (text_of p ≡ text))
 unfolding read

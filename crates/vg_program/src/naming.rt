@@ -8,9 +8,9 @@ use crate::param::Param;
 use crate::param_kind::ParamKind;
 use vg_text::byte::is_text;
 
-/// What a name stands for among these parameters.
+/// What a name stands for among these parameters, of which there are at most 16.
 #[tactic(auto, unfolding(crate::specs::Grammar::named_in))]
-pub(crate) fn named_in(params: &[Param], name: &[u8]) -> Named
+pub fn named_in(params: &[Param], name: &[u8]) -> Named
     requires { length params.now ≤ 16 }
     ensures { result ≡ named_in 0 0 params.now name.now }
 {

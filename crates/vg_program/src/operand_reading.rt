@@ -16,7 +16,8 @@ use vg_base::address::Address;
 use vg_base::width::Width;
 use vg_text::byte::begins_digit;
 
-fn pointer_of(named: Named) -> Result<u32, Fault>
+/// The number of the pointer that a name stands for.
+pub fn pointer_of(named: Named) -> Result<u32, Fault>
     ensures { result ≡ pointer_of named }
 {
     match named {
@@ -26,7 +27,8 @@ fn pointer_of(named: Named) -> Result<u32, Fault>
     }
 }
 
-fn integer_of(named: Named) -> Result<(u32, Width), Fault>
+/// The number and the width of the integer that a name stands for.
+pub fn integer_of(named: Named) -> Result<(u32, Width), Fault>
     ensures { result ≡ integer_of named }
 {
     match named {
@@ -36,8 +38,8 @@ fn integer_of(named: Named) -> Result<(u32, Width), Fault>
     }
 }
 
-/// A fault is met in front of these bytes.
-pub(crate) fn judged<T>(text: &[u8], judgement: Result<T, Fault>) -> Result<T, ReadError>
+/// A judgement of what these bytes begin with: its fault is met in front of them.
+pub fn judged<T>(text: &[u8], judgement: Result<T, Fault>) -> Result<T, ReadError>
     ensures { Gives (λ x. x) result (judged text.now judgement) }
 {
     match judgement {
@@ -101,8 +103,9 @@ fn positive_at(text: &[u8]) -> Result<(i32, &[u8]), ReadError>
     Ok((offset, rest))
 }
 
+/// Reads the offset of a place with its sign, as `+4`, and gives it with what stands behind it.
 #[tactic(auto, unfolding(crate::specs::Grammar::offset_at))]
-fn offset_at(text: &[u8]) -> Result<(i32, &[u8]), ReadError>
+pub fn offset_at(text: &[u8]) -> Result<(i32, &[u8]), ReadError>
     ensures { Gives (λ x. (x.0, x.1.now)) result (offset_at text.now) }
 {
     if begins(b'-', text) {

@@ -4,16 +4,18 @@ ghost use Rattle.std.specs.Prelude.{◌≡◌, ◌-◌, ◌≤◌, length, vec_l
 ghost use Rattle.std.specs.List.{list_any};
 ghost use Rattle.std.specs.Str.{bytes_eq};
 ghost use Rattle.vg_program.specs.Tokens.{Gives};
-ghost use Rattle.vg_program.specs.Grammar.{kind_at, param_at, params_behind, params_at, first_line_at};
+ghost use Rattle.vg_program.specs.Grammar.{kind_at, param_at, params_behind, params_at, signature_at, first_line_at};
 
 use crate::fault::Fault;
 use crate::param::Param;
 use crate::param_kind::ParamKind;
+use crate::signature::Signature;
 use crate::stop::ReadError;
 use crate::tokens::{
     begins, behind_word, is_word, met, name_at, signs_at, skip, type_at, unfit, word_at,
 };
 use std::alloc::Global;
+use vg_base::items::Items;
 use vg_base::name::Name;
 use vg_text::byte::is_text;
 
@@ -86,20 +88,29 @@ fn params_at(alloc: Global, text: &[u8]) -> Result<(Vec<Param>, &[u8]), ReadErro
     params_behind(alloc, text)
 }
 
+/// Reads a name and its parameters, as `copy(d: ptr, k: i8)`, and gives them with the bytes behind
+/// the bracket. An error is the first fault there, or want of memory.
+#[tactic(auto, unfolding(crate::specs::Grammar::signature_at))]
+pub fn signature_at(alloc: Global, text: &[u8]) -> Result<(Signature, &[u8]), ReadError>
+    ensures exact { Gives (λ x. (x.0, x.1.now)) result (signature_at text.now) }
+    ensures few { IfOk result (λ x. length x.0.params ≤ 16) }
+{
+    let (name, rest) = name_at(text)?;
+    let rest = signs_at(b"(", rest)?;
+    let (params, rest) = params_at(alloc, rest)?;
+    let name = Name::new(alloc, name)?;
+    let params = Items::from_vec(params);
+    Ok((Signature { name, params }, rest))
+}
+
 #[tactic(auto, unfolding(crate::specs::Grammar::first_line_at))]
-pub(crate) fn first_line_at(
-    alloc: Global,
-    text: &[u8],
-) -> Result<(Name, Vec<Param>, &[u8]), ReadError>
-    ensures exact { Gives (λ x. (x.0, x.1.items, x.2.now)) result (first_line_at text.now) }
-    ensures few { IfOk result (λ x. vec_len x.1 ≤ 16) }
+pub(crate) fn first_line_at(alloc: Global, text: &[u8]) -> Result<(Signature, &[u8]), ReadError>
+    ensures exact { Gives (λ x. (x.0, x.1.now)) result (first_line_at text.now) }
+    ensures few { IfOk result (λ x. length x.0.params ≤ 16) }
 {
     let rest = word_at(b"program", text)?;
     let rest = signs_at(b" ", rest)?;
-    let (name, rest) = name_at(rest)?;
-    let rest = signs_at(b"(", rest)?;
-    let (params, rest) = params_at(alloc, rest)?;
+    let (signature, rest) = signature_at(alloc, rest)?;
     let rest = signs_at(b"\n", rest)?;
-    let name = Name::new(alloc, name)?;
-    Ok((name, params, rest))
+    Ok((signature, rest))
 }

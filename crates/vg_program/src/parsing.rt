@@ -8,8 +8,8 @@ ghost use Rattle.vg_program.specs.declared.program.Program.{Program};
 ghost use Rattle.vg_program.specs.Text.{text_of};
 ghost use Rattle.vg_program.specs.Valid.{IsValid};
 ghost use Rattle.vg_program.specs.Tokens.{Gives};
-ghost use Rattle.vg_program.specs.Grammar.{cost_from, scalar_from, scalar_at, cost_at, last_line_at, program_at};
-ghost use Rattle.vg_program.specs.Faults.{place_in, read, Returns};
+ghost use Rattle.vg_program.specs.Grammar.{cost_from, scalar_from, scalar_at, cost_at, last_line_at, body_at, program_at};
+ghost use Rattle.vg_program.specs.Faults.{place_in, refused_by, read, Returns};
 
 use crate::costs::cost_of_few;
 use crate::fault::Fault;
@@ -18,7 +18,8 @@ use crate::operand_reading::judged;
 use crate::param_reading::first_line_at;
 use crate::program::Program;
 use crate::program_fault::ProgramFault;
-use crate::stop::{ReadError, Stop};
+use crate::signature::Signature;
+use crate::stop::ReadError;
 use crate::tokens::{met, number_at, signs_at, unfit, word_at};
 use std::alloc::Global;
 use vg_base::items::Items;
@@ -88,23 +89,42 @@ fn last_line_at(counted: u64, text: &[u8]) -> Result<(u32, u32, &[u8]), ReadErro
     Ok((cost, scalar, rest))
 }
 
+/// Reads the lines of a program behind its name and its parameters, up to its last line with its
+/// end, and gives the program with the bytes behind it. An error is the first fault there, or want
+/// of memory.
+#[tactic(auto, unfolding(crate::specs::Grammar::body_at))]
+pub fn body_at<'a>(
+    alloc: Global,
+    headers: &[Header],
+    signature: Signature,
+    text: &'a [u8],
+) -> Result<(Program, &'a [u8]), ReadError>
+    requires { length signature.params ≤ 16 }
+    ensures { Gives (λ x. (x.0, x.1.now)) result (body_at headers.now signature text.now) }
+{
+    let params = signature.params;
+    let (lines, rest) = lines_at(alloc, MOST_BYTES, params.as_slice(), headers, text)?;
+    let (cost, scalar, rest) = last_line_at(cost_of_few(&lines), rest)?;
+    let program = Program {
+        name: signature.name,
+        params,
+        lines: Items::from_vec(lines),
+        cost,
+        scalar,
+    };
+    Ok((program, rest))
+}
+
 #[tactic(auto, unfolding(crate::specs::Grammar::program_at))]
 fn program_at(alloc: Global, headers: &[Header], text: &[u8]) -> Result<Program, ReadError>
     ensures { Gives (λ p. p) result (program_at headers.now text.now) }
 {
-    let (name, params, rest) = first_line_at(alloc, text)?;
-    let (lines, rest) = lines_at(alloc, MOST_BYTES, &params, headers, rest)?;
-    let (cost, scalar, rest) = last_line_at(cost_of_few(&lines), rest)?;
+    let (signature, rest) = first_line_at(alloc, text)?;
+    let (program, rest) = body_at(alloc, headers, signature, rest)?;
     if !rest.is_empty() {
         return Err(ReadError::At(unfit(rest)));
     }
-    Ok(Program {
-        name,
-        params: Items::from_vec(params),
-        lines: Items::from_vec(lines),
-        cost,
-        scalar,
-    })
+    Ok(program)
 }
 
 /// The place of the byte behind so many, or of the end.
@@ -120,6 +140,21 @@ fn place_in(text: &[u8], n: usize) -> Place
     }
 }
 
+/// The refusal of a whole text for the error of a reader of it: the fault with its place, or want
+/// of memory. The text has at most 4 MiB.
+pub fn refused_by(text: &[u8], error: ReadError) -> ProgramFault
+    requires { length text.now ≤ 4194304 }
+    ensures { result ≡ refused_by text.now error }
+{
+    match error {
+        ReadError::Memory(error) => ProgramFault::Memory(error),
+        ReadError::At(stop) => {
+            let place = place_in(text, text.len().saturating_sub(stop.left));
+            ProgramFault::placed(stop.fault, place)
+        }
+    }
+}
+
 /// The reading alone, without its laws.
 #[tactic(auto, unfolding(crate::specs::Faults::read))]
 fn read(alloc: Global, text: &[u8], headers: &[Header]) -> Result<Program, ProgramFault>
@@ -132,11 +167,7 @@ fn read(alloc: Global, text: &[u8], headers: &[Header]) -> Result<Program, Progr
     }
     match program_at(alloc, headers, text) {
         Ok(program) => Ok(program),
-        Err(ReadError::Memory(error)) => Err(ProgramFault::Memory(error)),
-        Err(ReadError::At(stop)) => {
-            let place = place_in(text, text.len().saturating_sub(stop.left));
-            Err(ProgramFault::placed(stop.fault, place))
-        }
+        Err(error) => Err(refused_by(text, error)),
     }
 }
 

@@ -5,7 +5,7 @@ ghost use Rattle.std.specs.Fmt.{decimal, signed_decimal};
 ghost use Rattle.vg_program.specs.Params.{pointers, integers, name_of};
 ghost use Rattle.vg_program.specs.Before.{counted};
 ghost use Rattle.vg_program.specs.Vectors.{bytes_of, hex_digit, hex_text};
-ghost use Rattle.vg_program.specs.Text.{type_text, kind_text, param_text, params_text, offset_text, address_text, scalar_text, vector_text, bits_text, operand_text, pair_text, registers_text, imm_text, operands_text, no_counts, left_text, line_text, lines_text, first_line, last_line, text_of};
+ghost use Rattle.vg_program.specs.Text.{type_text, kind_text, param_text, params_text, offset_text, address_text, scalar_text, vector_text, bits_text, operand_text, pair_text, registers_text, imm_text, operands_text, no_counts, left_text, line_text, lines_text, signature_text, signature_of, first_line, last_line, body_text, text_of};
 
 use crate::counts::Counts;
 use crate::defined::Defined;
@@ -20,7 +20,8 @@ use std::alloc::{AllocError, Global};
 use vg_base::address::Address;
 use vg_base::width::Width;
 
-fn pointer_name(params: &[Param], number: u32) -> &[u8]
+/// The name of a pointer by its number among the pointers; where there is none it is empty.
+pub fn pointer_name(params: &[Param], number: u32) -> &[u8]
     ensures { result.now ≡ name_of (slice_get (pointers params.now) number) }
 {
     let mut left = number;
@@ -37,7 +38,8 @@ fn pointer_name(params: &[Param], number: u32) -> &[u8]
     b""
 }
 
-fn integer_name(params: &[Param], number: u32) -> &[u8]
+/// The name of an integer by its number among the integers; where there is none it is empty.
+pub fn integer_name(params: &[Param], number: u32) -> &[u8]
     ensures { result.now ≡ name_of (slice_get (integers params.now) number) }
 {
     let mut left = number;
@@ -424,14 +426,34 @@ fn put_lines(
     Ok(())
 }
 
-fn put_first_line(alloc: Global, to: &mut Vec<u8>, program: &Program) -> Result<(), AllocError>
-    ensures { OnOk result (to.new.items ≡ to.old.items ++ first_line program.now) }
+fn write_signature(alloc: Global, to: &mut Vec<u8>, program: &Program) -> Result<(), AllocError>
+    ensures { OnOk result
+        (to.new.items ≡ to.old.items ++ signature_text (signature_of program.now)) }
 {
-    to.extend_from_slice(b"program ")?;
     to.extend_from_slice(program.name.bytes())?;
     to.extend_from_slice(b"(")?;
     put_params(alloc, to, program.params.as_slice())?;
     to.extend_from_slice(b")")?;
+    Ok(())
+}
+
+/// Appends the name and the parameters of a program, as `copy(d: ptr, k: i8)`. Where memory is
+/// short nothing is appended.
+pub fn put_signature(alloc: Global, to: &mut Vec<u8>, program: &Program) -> Result<(), AllocError>
+    ensures done { OnOk result
+        (to.new.items ≡ to.old.items ++ signature_text (signature_of program.now)) }
+    ensures refused { OnErr result (to.new.items ≡ to.old.items) }
+{
+    let mut whole = Vec::new(alloc);
+    write_signature(alloc, &mut whole, program)?;
+    to.extend_from_slice(whole.as_slice())
+}
+
+fn put_first_line(alloc: Global, to: &mut Vec<u8>, program: &Program) -> Result<(), AllocError>
+    ensures { OnOk result (to.new.items ≡ to.old.items ++ first_line program.now) }
+{
+    to.extend_from_slice(b"program ")?;
+    write_signature(alloc, to, program)?;
     to.extend_from_slice(b"\n")?;
     Ok(())
 }
@@ -447,6 +469,29 @@ fn put_last_line(alloc: Global, to: &mut Vec<u8>, program: &Program) -> Result<(
     Ok(())
 }
 
+fn write_body(alloc: Global, to: &mut Vec<u8>, program: &Program) -> Result<(), AllocError>
+    ensures { OnOk result (to.new.items ≡ to.old.items ++ body_text program.now) }
+{
+    put_lines(
+        alloc,
+        to,
+        program.params.as_slice(),
+        program.lines.as_slice(),
+    )?;
+    put_last_line(alloc, to, program)
+}
+
+/// Appends the lines of a program behind its first line, the last one among them. Where memory is
+/// short nothing is appended.
+pub fn put_body(alloc: Global, to: &mut Vec<u8>, program: &Program) -> Result<(), AllocError>
+    ensures done { OnOk result (to.new.items ≡ to.old.items ++ body_text program.now) }
+    ensures refused { OnErr result (to.new.items ≡ to.old.items) }
+{
+    let mut whole = Vec::new(alloc);
+    write_body(alloc, &mut whole, program)?;
+    to.extend_from_slice(whole.as_slice())
+}
+
 /// The text of a program. The only error is want of memory.
 #[tactic(auto, unfolding(crate::specs::Text::text_of))]
 pub fn print_program(alloc: Global, program: &Program) -> Result<Vec<u8>, AllocError>
@@ -454,12 +499,6 @@ pub fn print_program(alloc: Global, program: &Program) -> Result<Vec<u8>, AllocE
 {
     let mut text = Vec::new(alloc);
     put_first_line(alloc, &mut text, program)?;
-    put_lines(
-        alloc,
-        &mut text,
-        program.params.as_slice(),
-        program.lines.as_slice(),
-    )?;
-    put_last_line(alloc, &mut text, program)?;
+    write_body(alloc, &mut text, program)?;
     Ok(text)
 }

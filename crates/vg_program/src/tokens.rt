@@ -71,7 +71,8 @@ fn begins_no_token(text: &[u8]) -> bool
     }
 }
 
-pub(crate) fn met(fault: Fault, text: &[u8]) -> Stop
+/// A fault that is met in front of these bytes.
+pub fn met(fault: Fault, text: &[u8]) -> Stop
     ensures { result ≡ met fault text.now }
 {
     Stop {
@@ -80,8 +81,9 @@ pub(crate) fn met(fault: Fault, text: &[u8]) -> Stop
     }
 }
 
+/// The fault of a token that does not fit what stands before it, or of what is no token.
 #[tactic(auto, unfolding(crate::specs::Tokens::unfit))]
-pub(crate) fn unfit(text: &[u8]) -> Stop
+pub fn unfit(text: &[u8]) -> Stop
     ensures { result ≡ unfit text.now }
 {
     met(
@@ -94,7 +96,8 @@ pub(crate) fn unfit(text: &[u8]) -> Stop
     )
 }
 
-pub(crate) fn begins(byte: u8, text: &[u8]) -> bool
+/// Whether a text begins with this byte.
+pub fn begins(byte: u8, text: &[u8]) -> bool
     ensures { result ≡ begins byte text.now }
 {
     match text {
@@ -103,8 +106,10 @@ pub(crate) fn begins(byte: u8, text: &[u8]) -> bool
     }
 }
 
+/// Reads these bytes, each of which is a token, and gives what stands behind them. The error is the
+/// first that differs.
 #[tactic(auto, unfolding(crate::specs::Tokens::signs_at))]
-pub(crate) fn signs_at<'a>(signs: &[u8], text: &'a [u8]) -> Result<&'a [u8], ReadError>
+pub fn signs_at<'a>(signs: &[u8], text: &'a [u8]) -> Result<&'a [u8], ReadError>
     ensures { Gives (λ rest. rest.now) result (signs_at signs.now text.now) }
 {
     let mut left = signs;
@@ -119,15 +124,17 @@ pub(crate) fn signs_at<'a>(signs: &[u8], text: &'a [u8]) -> Result<&'a [u8], Rea
     Ok(rest)
 }
 
+/// Whether a text begins with this word.
 #[tactic(auto, unfolding(crate::specs::Tokens::is_word))]
-pub(crate) fn is_word(word: &[u8], text: &[u8]) -> bool
+pub fn is_word(word: &[u8], text: &[u8]) -> bool
     ensures { result ≡ is_word word.now text.now }
 {
     is_text(word_of(text), word)
 }
 
+/// Reads this word, and gives what stands behind it.
 #[tactic(auto, unfolding(crate::specs::Tokens::word_at))]
-pub(crate) fn word_at<'a>(word: &[u8], text: &'a [u8]) -> Result<&'a [u8], ReadError>
+pub fn word_at<'a>(word: &[u8], text: &'a [u8]) -> Result<&'a [u8], ReadError>
     ensures { Gives (λ rest. rest.now) result (word_at word.now text.now) }
 {
     if !is_word(word, text) {
@@ -136,8 +143,9 @@ pub(crate) fn word_at<'a>(word: &[u8], text: &'a [u8]) -> Result<&'a [u8], ReadE
     Ok(behind_word(text))
 }
 
+/// Reads a name, and gives it with what stands behind it.
 #[tactic(auto, unfolding(crate::specs::Tokens::name_at))]
-pub(crate) fn name_at(text: &[u8]) -> Result<(&[u8], &[u8]), ReadError>
+pub fn name_at(text: &[u8]) -> Result<(&[u8], &[u8]), ReadError>
     ensures { Gives (λ x. (x.0.now, x.1.now)) result (name_at text.now) }
 {
     let name = word_of(text);
@@ -197,8 +205,10 @@ fn number_of(digits: &[u8]) -> u128
     number
 }
 
+/// Reads a number without a leading zero, and gives it with what stands behind it; from 2^64 on
+/// every number is given as 2^64, which no range allows.
 #[tactic(auto, unfolding(crate::specs::Tokens::number_at))]
-pub(crate) fn number_at(text: &[u8]) -> Result<(u128, &[u8]), ReadError>
+pub fn number_at(text: &[u8]) -> Result<(u128, &[u8]), ReadError>
     ensures { Gives (λ x. (x.0, x.1.now)) result (number_at text.now) }
 {
     let length = digits_length(text);

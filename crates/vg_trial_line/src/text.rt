@@ -5,7 +5,7 @@ ghost use Rattle.std.specs.Fmt.{decimal};
 ghost use Rattle.vg_trial_line.specs.TrialLine.{trial_text};
 
 use std::alloc::{AllocError, Global};
-use vg_program::printing::put_number;
+use vg_program::parts::put_number;
 
 /// What the line tells of a trial.
 #[derive(Clone, Copy)]
