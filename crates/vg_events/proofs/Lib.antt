@@ -1,7 +1,8 @@
 pub mod Chains
-pub mod Steps
-pub mod Ranks
-pub mod Owners
 pub mod Orders
+pub mod Owners
+pub mod Ranks
 pub mod Runs
+pub mod Steps
+pub mod Traps
 pub mod UnitOrder

@@ -1,7 +1,9 @@
 pub mod Events
+pub mod Laws
+pub mod Lines
+pub mod Orders
 pub mod Pairs
 pub mod Ranks
 pub mod Steps
-pub mod Orders
+pub mod Traps
 pub mod UnitOrder
-pub mod Laws

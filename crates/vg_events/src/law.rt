@@ -1,6 +1,7 @@
 //! Laws on byte events.
 
 ghost use Rattle.vg_events.specs.Laws.{EqualCountsPair, EventOrderIsByUnits, OrdersStep, RunsAreEvents, UnitOrderIsByEvents};
+ghost use Rattle.vg_events.specs.Traps.{TrapTogether};
 
 /// A run of units that ends without a trap leaves the memory that the steps of its events leave, where
 /// each event has the byte that the run read or wrote.
@@ -18,6 +19,12 @@ pub fn equal_counts_pair()
 /// each layout that respects noalias.
 pub fn orders_step()
     ensures { OrdersStep }
+{}
+
+/// Where each label has as many events on both sides, a program and the units of a kernel trap in the same
+/// runs.
+pub fn trap_together()
+    ensures { TrapTogether }
 {}
 
 /// Where no two units are out of order, the lines are in order by events.

@@ -5,6 +5,6 @@
 mod law;
 
 pub use law::{
-    equal_counts_pair, event_order_is_by_units, orders_step, runs_are_events,
+    equal_counts_pair, event_order_is_by_units, orders_step, runs_are_events, trap_together,
     unit_order_is_by_events,
 };
