@@ -26,3 +26,4 @@ pub mod Validity
 pub mod Keeping
 pub mod Rules
 pub mod Described
+pub mod Scalar

@@ -8,3 +8,4 @@ pub mod Program
 pub mod Promises
 pub mod Truth
 pub mod TwoWords
+pub mod Scalar

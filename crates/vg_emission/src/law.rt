@@ -3,6 +3,7 @@
 ghost use Rattle.vg_emission.specs.Costs.{EmittedCostsThePlan};
 ghost use Rattle.vg_emission.specs.Fit.{EmittedCallsDescribed, EmittedKeepsRules};
 ghost use Rattle.vg_emission.specs.Laws.{EmittedMeansUnits};
+ghost use Rattle.vg_emission.specs.Scalar.{NoPacksAreScalar};
 ghost use Rattle.vg_emission.specs.TwoWords.{TwoLines, TwoWordsMeanUnits};
 
 /// A law that costs nothing to call: the program that is emitted for the packs of a kernel in any
@@ -38,4 +39,9 @@ pub fn emitted_programs_keep_the_rules()
 /// A law: the program that is emitted for packs calls described instances alone.
 pub fn emitted_programs_call_described_instances()
     ensures { EmittedCallsDescribed }
+{}
+
+/// A law: what is emitted for no packs is the scalar program of the kernel.
+pub fn no_packs_are_scalar()
+    ensures { NoPacksAreScalar }
 {}
