@@ -1,0 +1,9 @@
+pub mod Turns
+pub mod Places
+pub mod Moved
+pub mod Bytes
+pub mod Layouts
+pub mod Looped
+pub mod Kept
+pub mod KnownOffsets
+pub mod Most
