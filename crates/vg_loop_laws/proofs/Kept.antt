@@ -108,10 +108,10 @@ unrolled-costs l n = sum-turns statement_cost l.steps (λ u names s. statement_c
 abbrev pub Stays : List ℕ → ℕ → List Access → Type 0
 Stays steps u xs = (x : Access) → Contains xs x → IsOffset (moved_address steps u x.address).offset
 
-left_stays : (steps : List ℕ) (u : ℕ) (xs ys : List Access) → Stays steps u (xs ++ ys) → Stays steps u xs
+pub left_stays : (steps : List ℕ) (u : ℕ) (xs ys : List Access) → Stays steps u (xs ++ ys) → Stays steps u xs
 left_stays steps u xs ys h x has = h x (Contains-append_left xs ys x has)
 
-right_stays : (steps : List ℕ) (u : ℕ) (xs ys : List Access) → Stays steps u (xs ++ ys) → Stays steps u ys
+pub right_stays : (steps : List ℕ) (u : ℕ) (xs ys : List Access) → Stays steps u (xs ++ ys) → Stays steps u ys
 right_stays steps u xs ys h x has = h x (Contains-append_right xs ys x has)
 
 behind_get : (before given : List ValueType) (k : ℕ) (t : ValueType) → slice_get given k ≡ Some t → slice_get (before ++ given) (length before + k) ≡ Some t

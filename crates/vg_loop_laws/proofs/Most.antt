@@ -1,17 +1,20 @@
 -- The turns of a block keep the limits, and no more of those that a block may have do.
-use Rattle.std.proofs.Common.{◌≡◌, ℕ, zero, suc, ◌+◌, ◌-◌, ◌*◌, ◌<◌, ◌≤◌, ◌^◌, ℤ, pos, negsuc, Bool, true, false, List, [], ◌∷◌, length, refl, sym, ap, subst, ◌∙◌, arith, Contains, ◌⊎◌, inl, inr, mul-le-mul_right}
+use Rattle.std.proofs.Common.{◌≡◌, ℕ, zero, suc, ◌+◌, ◌-◌, ◌*◌, ◌<◌, ◌≤◌, ◌^◌, ℤ, pos, negsuc, Bool, true, false, List, [], ◌∷◌, ◌++◌, length, refl, sym, ap, subst, ◌∙◌, arith, Contains, ◌⊎◌, inl, inr, mul-le-mul_right}
 use Rattle.std.specs.Prelude.{slice_index_or, sum_by, nat_le, nat_lt, ◌&&◌}
-use Rattle.std.specs.List.{list_all}
+use Rattle.std.specs.List.{list_all, flat_map}
+use Rattle.std.proofs.Math.Bool.{and-true}
+use Rattle.std.proofs.lemmas.List.Folds.{list_all-append}
 use Rattle.std.proofs.lemmas.Bool.{cases_Bool, cond-true, cond-false, leb-true, le-leb, ltb-true, lt-ltb}
 use Rattle.std.proofs.lemmas.List.Elements.{All-contains}
-use Rattle.std.proofs.lemmas.List.Sums.{AllPass-from_list_all, list_all-from_AllPass}
+use Rattle.std.proofs.lemmas.List.Sums.{AllPass-from_list_all}
 use Rattle.vg_base.specs.Offset.{IsOffset}
 use Rattle.vg_kernel.specs.Cost.{uses_of}
-use Rattle.vg_kernel.specs.Layout.{Access, accesses}
+use Rattle.vg_kernel.specs.Layout.{Access, reads_of, statement_accesses, accesses}
+use Rattle.vg_kernel.specs.Tree.{Expression, argument, assigned, literal, load, two, shift, resize, compare, select, Statement, assign, store}
 use Rattle.vg_kernel.specs.WellFormed.{IsWellFormed}
 use Rattle.vg_loop_laws.specs.Loops.{Loop}
 use Rattle.vg_loop_laws.specs.Unrolled.{moved_address}
-use Rattle.vg_loop_laws.specs.Limits.{KeepsLimits, is_offset, stays_near, keeps_limits, turns_of}
+use Rattle.vg_loop_laws.specs.Limits.{KeepsLimits, is_offset, is_near, reads_stay, statement_stays, keeps_limits, turns_of}
 use Rattle.vg_loop_laws.specs.Laws.{FewerKeepLimits, AreMost, TurnsAreMost}
 use Rattle.vg_loop_laws.proofs.Kept.{earlier_stays, address-one}
 use Rattle.vg_loop_laws.proofs.KnownOffsets.{offsets-known}
@@ -31,18 +34,50 @@ offset-tells : (z : ℤ) → IsOffset z → is_offset z ≡ true
 offset-tells (pos n) h = lt-ltb n (2 ^ 31) h
 offset-tells (negsuc n) h = lt-ltb n (2 ^ 31) h
 
+-- whether an access keeps its offset
+abbrev stays : List ℕ → ℕ → Access → Bool
+stays steps u x = is_near steps u x.address
+
+reads-stay : (steps : List ℕ) (u : ℕ) (e : Expression) → reads_stay steps u e ≡ list_all (stays steps u) (reads_of e)
+reads-stay steps u (argument k w) = refl
+reads-stay steps u (assigned k t) = refl
+reads-stay steps u (literal w n) = refl
+reads-stay steps u (load w a) = sym (and-true (is_near steps u a))
+reads-stay steps u (two op w x y) =
+    (λ i. reads-stay steps u x i && reads-stay steps u y i) ∙ sym (list_all-append (stays steps u) (reads_of x) (reads_of y))
+reads-stay steps u (shift op w k x) = reads-stay steps u x
+reads-stay steps u (resize op w v x) = reads-stay steps u x
+reads-stay steps u (compare op w x y) =
+    (λ i. reads-stay steps u x i && reads-stay steps u y i) ∙ sym (list_all-append (stays steps u) (reads_of x) (reads_of y))
+reads-stay steps u (select w c x y) =
+    (λ i. reads-stay steps u c i && (reads-stay steps u x i && reads-stay steps u y i))
+    ∙ ap (λ (b : Bool). list_all (stays steps u) (reads_of c) && b) (sym (list_all-append (stays steps u) (reads_of x) (reads_of y)))
+    ∙ sym (list_all-append (stays steps u) (reads_of c) (reads_of x ++ reads_of y))
+
+statement-stays : (steps : List ℕ) (u : ℕ) (s : Statement) → statement_stays steps u s ≡ list_all (stays steps u) (statement_accesses s)
+statement-stays steps u (assign e) = reads-stay steps u e
+statement-stays steps u (store w a e) =
+    (λ i. reads-stay steps u e i && sym (and-true (is_near steps u a)) i) ∙ sym (list_all-append (stays steps u) (reads_of e) _)
+
+all-stay : (steps : List ℕ) (u : ℕ) (ss : List Statement)
+    → list_all (statement_stays steps u) ss ≡ list_all (stays steps u) (flat_map statement_accesses ss)
+all-stay steps u [] = refl
+all-stay steps u (s ∷ ss) =
+    (λ i. statement-stays steps u s i && all-stay steps u ss i)
+    ∙ sym (list_all-append (stays steps u) (statement_accesses s) (flat_map statement_accesses ss))
+
 -- what the test says of the limits
 pub limits-told : (l : Loop) (n : ℕ) → 1 ≤ n → keeps_limits l n ≡ true → KeepsLimits l n
 unfolding keeps_limits
 limits-told l n some e =
     let few = both (nat_le (n * length l.kernel.statements) 4096) _ e in
     let used = both (nat_le (n * sum_by uses_of l.kernel.statements) 8192) _ few.1 in
-    let all = AllPass-from_list_all (stays_near l.steps (n - 1)) (accesses l.kernel) used.1 in
+    let all = AllPass-from_list_all (stays l.steps (n - 1)) (accesses l.kernel) (sym (all-stay l.steps (n - 1) l.kernel.statements) ∙ used.1) in
     record {
       some = some;
       statements = leb-true _ _ few.0;
       uses = leb-true _ _ used.0;
-      offsets = λ x has. offset-told _ (All-contains (λ y. stays_near l.steps (n - 1) y ≡ true) (accesses l.kernel) x all has);
+      offsets = λ x has. offset-told _ (All-contains (λ y. stays l.steps (n - 1) y ≡ true) (accesses l.kernel) x all has);
     }
 
 all-pass : (p : Access → Bool) (xs : List Access) → ((x : Access) → Contains xs x → p x ≡ true) → list_all p xs ≡ true
@@ -56,7 +91,7 @@ unfolding keeps_limits
 limits-tell l n keep =
     joined (nat_le (n * length l.kernel.statements) 4096) _ (le-leb _ _ keep.statements)
     (joined (nat_le (n * sum_by uses_of l.kernel.statements) 8192) _ (le-leb _ _ keep.uses)
-    (all-pass (stays_near l.steps (n - 1)) (accesses l.kernel) (λ x has. offset-tells _ (keep.offsets x has))))
+    (all-stay l.steps (n - 1) l.kernel.statements ∙ all-pass (stays l.steps (n - 1)) (accesses l.kernel) (λ x has. offset-tells _ (keep.offsets x has))))
 
 pub fewer-keep-limits : FewerKeepLimits
 fewer-keep-limits l n most is keep some less =

@@ -1,0 +1,32 @@
+//! Parameters copied.
+
+ghost use Rattle.std.specs.Prelude.{◌≡◌, IfOk};
+
+use std::alloc::{AllocError, Global};
+use vg_base::Name;
+use vg_kernel::KParam;
+
+/// A parameter like another.
+fn copied_param(alloc: Global, param: &KParam) -> Result<KParam, AllocError>
+    ensures { IfOk result (λ p. p ≡ param.now) }
+{
+    let name = Name::new(alloc, param.name.bytes())?;
+    Ok(KParam {
+        name,
+        kind: param.kind,
+    })
+}
+
+/// Parameters like others.
+pub(crate) fn copied_params(alloc: Global, params: &[KParam]) -> Result<Vec<KParam>, AllocError>
+    ensures { IfOk result (λ ps. ps.items ≡ params.now) }
+{
+    let mut copied = Vec::new(alloc);
+    let mut rest = params;
+    'params: while let [param, behind @ ..] = rest {
+        let param = copied_param(alloc, param)?;
+        copied.push(param)?;
+        rest = behind;
+    }
+    Ok(copied)
+}

@@ -1,0 +1,14 @@
+//! Loop kernels.
+
+use vg_base::Items;
+use vg_kernel::Kernel;
+
+/// A loop: the kernel of a turn, run so many times, its pointers moved on behind each turn.
+#[derive(Drop)]
+pub struct Loop {
+    pub kernel: Kernel,
+    /// The parameter that says how many turns there are, by its number among the integers.
+    pub times: u32,
+    /// For each pointer the bytes by which a turn moves it on, 0 to 65,536.
+    pub steps: Items<u32>,
+}

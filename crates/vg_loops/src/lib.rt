@@ -1,0 +1,15 @@
+//! Counted loops: kernels that are run again and again, their pointers moved on from turn to turn.
+//!
+//! `vg_loop_laws` says what a loop does (`specs/Loops.antt`), what its kernel of so many turns is
+//! (`specs/Unrolled.antt`) and how many turns a block has (`specs/Limits.antt`).
+#![tactic(auto)]
+
+mod copying;
+pub mod counted;
+mod limits;
+mod moving;
+mod unrolling;
+
+pub use counted::Loop;
+pub use limits::turns_of;
+pub use unrolling::unroll;
