@@ -1,1 +1,3 @@
 pub mod MayTurn
+pub mod Steps
+pub mod Both

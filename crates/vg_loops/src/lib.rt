@@ -8,8 +8,12 @@ mod copying;
 pub mod counted;
 mod limits;
 mod moving;
+mod running;
+mod turn;
 mod unrolling;
 
 pub use counted::Loop;
 pub use limits::turns_of;
+pub use running::run_loop;
 pub use unrolling::unroll;
+pub use vg_bits::Outcome;

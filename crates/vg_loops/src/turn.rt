@@ -1,0 +1,45 @@
+//! What is run in each turn.
+
+ghost use Rattle.std.specs.Prelude.{◌≡◌, ◌≤◌, length};
+ghost use Rattle.vg_kernel.specs.Meaning.{meaning};
+ghost use Rattle.vg_kernel.specs.Tree.{tree_of};
+ghost use Rattle.vg_loop_laws.specs.Loops.{Run};
+ghost use Rattle.vg_memory.specs.Outcome.{Leaves};
+
+use vg_bits::Outcome;
+use vg_kernel::Kernel;
+use vg_keval::{KState, run_kernel};
+
+/// What can be run again and again: a kernel with its room, or a machine.
+pub(crate) trait Turn {
+    /// What a run leaves.
+    ghost means: { Self → Run };
+
+    /// Whether there is room for a run.
+    ghost is_ready: { Self → Type 0 };
+
+    /// Runs it once. Takes no memory.
+    fn run(&mut self, memory: &mut [u8], places: &[u64], args: &[u64]) -> Outcome
+        requires ready { is_ready self.old }
+        ensures outcome { Leaves result memory.new (means self.old memory.old places.now args.now) }
+        ensures size { length memory.new ≡ length memory.old }
+        ensures same { means self.new ≡ means self.old }
+        ensures ready { is_ready self.new };
+}
+
+/// A kernel with the room for its runs.
+#[derive(Drop)]
+pub(crate) struct KernelTurn<'a> {
+    pub(crate) kernel: &'a Kernel,
+    pub(crate) state: &'a mut KState,
+}
+
+impl Turn for KernelTurn<'_> {
+    ghost means = { λ t. meaning (tree_of t.kernel.now) };
+
+    ghost is_ready = { λ t. length t.kernel.now.statements ≤ t.state.now };
+
+    fn run(&mut self, memory: &mut [u8], places: &[u64], args: &[u64]) -> Outcome {
+        run_kernel(self.kernel, self.state, memory, places, args)
+    }
+}
