@@ -13,7 +13,7 @@ type Case = (
     &'static str,
 );
 
-const CASES: [Case; 6] = [
+const CASES: [Case; 11] = [
     (
         "products",
         "INSTRUCTION _mm_mul_epi32 PARAM a 128 SI32 PARAM b 128 SI32\nRESULT dst 128 SI64 EXTENSION SSE4.1 COST 1 OPERATION\nFOR j := 0 to 1\ni := j*64\ndst[i+63:i] := SignExtend64(a[i+31:i]) * SignExtend64(b[i+31:i])\nENDFOR\nEND\n",
@@ -33,6 +33,41 @@ const CASES: [Case; 6] = [
         "INSTRUCTION moved PARAM a 128 UI64 IMM k 0 to 1 RESULT dst 128 UI64 EXTENSION SSE2 COST 1 OPERATION\ndst.qword[0] := a.qword[k] dst.qword[1] := a.qword[1] END\nINSTRUCTION taken PARAM a 128 UI64 RESULT dst 128 UI64 EXTENSION SSE2 COST 1 OPERATION\nn := a[0:0] dst[63:0] := a[n*64+63:n*64] END\n",
         Status::Ok,
         "instruction moved imm 0\nlane 0 a.0:64\nlane 1 a.64:64\ninstruction moved imm 1\nlane 0 a.64:64\nlane 1 a.64:64\ninstruction taken\nlane 0 dynamic\nlane 1 dynamic\nnot packable Dynamic\n",
+        "",
+    ),
+    (
+        "a local behind a number variable is unsigned",
+        "INSTRUCTION x PARAM a 128 SI8 RESULT dst 128 UI64 EXTENSION SSE2 COST 1 OPERATION\nv := a[7:0] t.byte := v dst[31:0] := t\ns.word := v + 1 dst[127:64] := s END\n",
+        Status::Ok,
+        "instruction x\nlane 0 (zext64 a.0:8)\nlane 1 (zext64 (add16 (sext16 a.0:8) 1:16))\n",
+        "",
+    ),
+    (
+        "and inside a DEFINE, through a choice and where a FOR hides a name",
+        "INSTRUCTION x PARAM a 128 SI8 RESULT dst 128 UI64 EXTENSION SSE2 COST 1 OPERATION\nDEFINE f(p[7:0]) { v := Signed(p[7:0]) t.byte := 1 ? v : 0 RETURN t }\ndst[63:0] := f(a[7:0])\nFOR v := 0 to 0 u.byte := v ENDFOR v := a[15:8] u.byte := v dst[127:64] := u END\n",
+        Status::Ok,
+        "instruction x\nlane 0 (zext64 a.0:8)\nlane 1 (zext64 a.8:8)\n",
+        "",
+    ),
+    (
+        "a product of unsigned locals of 64 bits",
+        "INSTRUCTION x\nPARAM a 128 SI64\nRESULT dst 128 SI64\nEXTENSION SSE2\nCOST 1\nOPERATION\nv := a[63:0] t.qword := v u.qword := v\ndst := t * u\nEND\n",
+        Status::InstructionsRefused,
+        "",
+        "vegen: instructions: 8 TooWide at 8:8\n",
+    ),
+    (
+        "a shift by an unsigned local",
+        "INSTRUCTION x PARAM a 128 SI32 RESULT dst 128 SI32 EXTENSION SSE2 COST 1 OPERATION\nv := a[31:0] t.dword := v dst[31:0] := a[31:0] >> t END\n",
+        Status::Ok,
+        "instruction x\nlane 0 dynamic\nlane 1 0:32\nlane 2 0:32\nlane 3 0:32\nnot packable Dynamic\n",
+        "",
+    ),
+    (
+        "a product of signed locals of 64 bits",
+        "INSTRUCTION x PARAM a 128 SI64 RESULT dst 128 SI64 EXTENSION SSE2 COST 1 OPERATION\nt.qword := a[63:0] dst[63:0] := t * t END\n",
+        Status::Ok,
+        "instruction x\nlane 0 (mul64 a.0:64 a.0:64)\nlane 1 0:64\n",
         "",
     ),
     ("no entries", "// none\n", Status::Ok, "", ""),

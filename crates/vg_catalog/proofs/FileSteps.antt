@@ -1,6 +1,6 @@
 -- Entries of a file, one step of reading them.
 use Rattle.std.proofs.Common.{◌≡◌, ℕ, zero, suc, ◌+◌, ◌<◌, Bool, true, false, List, [], ◌∷◌, ◌++◌, Result, Ok, Err, nat_le, refl, sym, ◌∙◌, ap, subst, arith, true≢false}
-use Rattle.std.specs.Prelude.{codes, if◌then◌else◌}
+use Rattle.std.specs.Prelude.{codes}
 use Rattle.vg_base.proofs.Bind.{bind_ok, refused_ok, tested_ok}
 use Rattle.vg_base.proofs.Gives.{fails_bind}
 use Rattle.vg_text.specs.declared.place.Place.{Place}
@@ -20,7 +20,6 @@ use Rattle.vg_catalog.specs.Gives.{told, Fails}
 use Rattle.vg_catalog.specs.Words.{next_word, this_word}
 use Rattle.vg_catalog.specs.Headers.{entry_name_at, params_at, imm_at, closing_at, header_at}
 use Rattle.vg_catalog.specs.Entries.{Entry, is_known, instances, instances_of}
-use Rattle.vg_catalog.specs.Comments.{is_in_comment}
 use Rattle.vg_catalog.specs.Files.{as_text, as_judged, judged, end_from, entry_at, entries_from}
 
 -- what went well gave one thing
@@ -74,25 +73,28 @@ pub entry_ok : (place : Place) (done : List Entry) (r q s : Reading) (h : Header
 unfolding entry_at
 entry_ok place done r q s h o e header room operation good = rw (header, room, operation, good) refl
 
--- the first word of an entry is none
 -- the end of the file, or what stands in its place
-pub ends-well : (text : List ℕ) (left rest : Lexemes) (done : List Entry) (t : Token) → EndsOnce left → Takes left (Ok t) rest → is_end t.kind ≡ true → end_from text left done ≡ Ok done
+at-end : (text : List ℕ) (left rest : Lexemes) (done : List Entry) (t : Token) → EndsOnce left → Takes left (Ok t) rest → is_end t.kind ≡ true → end_from text left done ≡ Ok done
 unfolding EndsOnce
-ends-well text (token u more) rest done t once taken kind = let same : t ≡ u = cc in absurd (true≢false (sym kind ∙ ap (λ (x : Token). is_end x.kind) same ∙ once.0))
-ends-well text (finish u) rest done t once taken kind = refl
-ends-well text (fault p) rest done t once taken kind = cc
+at-end text (token u more) rest done t once taken kind = let same : t ≡ u = cc in absurd (true≢false (sym kind ∙ ap (λ (x : Token). is_end x.kind) same ∙ once.0))
+at-end text (finish u) rest done t once taken kind = refl
+at-end text (fault p) rest done t once taken kind = cc
 
-pub too-many : (text : List ℕ) (left rest : Lexemes) (done : List Entry) (t : Token) → EndsOnce left → Takes left (Ok t) rest → is_end t.kind ≡ false → end_from text left done ≡ Err (catalog.TooMany t.place)
+one-more : (text : List ℕ) (left rest : Lexemes) (done : List Entry) (t : Token) → EndsOnce left → Takes left (Ok t) rest → is_end t.kind ≡ false → end_from text left done ≡ Err (catalog.TooMany t.place)
 unfolding EndsOnce
-too-many text (token u more) rest done t once taken kind = let same : t ≡ u = cc in rw same refl
-too-many text (finish u) rest done t once taken kind = let same : t ≡ u = cc in absurd (true≢false (sym once.0 ∙ ap (λ (x : Token). is_end x.kind) (sym same) ∙ kind))
-too-many text (fault p) rest done t once taken kind = cc
+one-more text (token u more) rest done t once taken kind = let same : t ≡ u = cc in rw same refl
+one-more text (finish u) rest done t once taken kind = let same : t ≡ u = cc in absurd (true≢false (sym once.0 ∙ ap (λ (x : Token). is_end x.kind) (sym same) ∙ kind))
+one-more text (fault p) rest done t once taken kind = cc
 
-pub no-token : (text : List ℕ) (left rest : Lexemes) (done : List Entry) (p : Place) → Takes left (Err p) rest → end_from text left done ≡ Err (if is_in_comment text p then catalog.Token p else catalog.TooMany p)
-no-token text (token u more) rest done p taken = cc
-no-token text (finish u) rest done p taken = cc
-no-token text (fault q) rest done p taken = let same : p ≡ q = cc in rw same refl
+pub ends-well : (done : List Entry) (r : Reading) (rest : Lexemes) (t : Token) → EndsOnce r.left → Takes r.left (Ok t) rest → is_end t.kind ≡ true → entries_from 0 done r ≡ Ok done
+unfolding entries_from
+ends-well done r rest t once taken kind = at-end r.text r.left rest done t once taken kind
 
+pub too-many : (done : List Entry) (r : Reading) (rest : Lexemes) (t : Token) → EndsOnce r.left → Takes r.left (Ok t) rest → is_end t.kind ≡ false → entries_from 0 done r ≡ Err (catalog.TooMany t.place)
+unfolding entries_from
+too-many done r rest t once taken kind = one-more r.text r.left rest done t once taken kind
+
+-- the first word of an entry is none
 pub word-fails : (room : ℕ) (done : List Entry) (r : Reading) (f : CatalogFault) → 0 < room → Fails f (next_word r) → Fails f (entries_from room done r)
 unfolding entries_from
 word-fails zero done r f some e = absurd (omega arith)

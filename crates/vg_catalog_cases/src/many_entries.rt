@@ -38,8 +38,24 @@ fn accept_count(rt: &impl Abort, alloc: Global, text: &[u8], count: usize) -> Re
 fn as_many_entries_as_there_may_be(rt: HostRuntime) -> Result<(), Fail> {
     let mut text = entries(rt.alloc(), 1_024, ENTRY)?;
     accept_count(&rt, rt.alloc(), text.as_slice(), 1_024)?;
-    text.extend_from_slice(b"@FOO")?;
-    refuse_marked(&rt, rt.alloc(), text.as_slice(), 14, "one entry more")
+    let rows: [(u8, &[u8]); 6] = [
+        (14, b"@FOO"),
+        (14, b" // one more\n @INSTRUCTION\x80"),
+        (14, b"@\x80"),
+        (
+            14,
+            b"@a2345678901234567890123456789012345678901234567890123456789012345",
+        ),
+        (14, b"@170141183460469231731687303715884105728"),
+        (1, b"\n // a comment @\x80"),
+    ];
+    for (number, behind) in rows {
+        let mut longer = Vec::from_slice(rt.alloc(), text.as_slice())?;
+        longer.extend_from_slice(behind)?;
+        refuse_marked(&rt, rt.alloc(), longer.as_slice(), number, "one entry more")?;
+    }
+    text.extend_from_slice(b" // nothing more")?;
+    accept_count(&rt, rt.alloc(), text.as_slice(), 1_024)
 }
 
 #[test]

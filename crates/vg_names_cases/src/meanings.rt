@@ -99,10 +99,29 @@ fn signs_go_along_locals_in_any_order(rt: HostRuntime) -> Result<(), Fail> {
         "
         dst := x x.dword := y y.dword := z z.dword := b[31:0] END => signed 4 32
         dst := x x.dword := y z.dword := b[31:0] y.dword := z END => signed 4 32
-        dst := x x.dword := t t := n n := b[31:0] END => signed 4 32
+        dst := x x.dword := t t := n n := b[31:0] END => unsigned 4 32
+        dst := x x.dword := t ? t : b[31:0] t := b[31:0] END => signed 4 32
+        dst := x x.dword := a[0] ? t : 1 t := b[31:0] END => unsigned 4 32
+        dst := x x.dword := t + b.byte t := b[31:0] END => signed 4 32
         dst := x x.dword := y y.dword := x END => unsigned 4 32
         dst := x x.dword := y y.dword := x y.dword := b[31:0] END => signed 4 32
         dst := x FOR b := 0 to 1 x.dword := b ENDFOR END => unsigned 4 32
+        ",
+    )
+}
+
+#[test]
+fn number_variables_are_unsigned(rt: HostRuntime) -> Result<(), Fail> {
+    check_rows(
+        &rt,
+        rt.alloc(),
+        "
+        dst := x v := b[31:0] x.dword := v END => unsigned 4 32
+        dst := x v := b[7:0] x.byte := v END => unsigned 4 8
+        dst := x v := b[7:0] x.word := v + 1 END => unsigned 4 16
+        dst := x v := Signed(b[7:0]) x.byte := NOT v END => unsigned 4 8
+        dst := x FOR v := 0 to 1 x.byte := v ENDFOR v := b[7:0] END => unsigned 4 8
+        dst := x x.byte := v.byte v.byte := b[7:0] END => signed 4 8
         ",
     )
 }
