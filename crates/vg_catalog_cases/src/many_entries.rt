@@ -38,7 +38,7 @@ fn accept_count(rt: &impl Abort, alloc: Global, text: &[u8], count: usize) -> Re
 fn as_many_entries_as_there_may_be(rt: HostRuntime) -> Result<(), Fail> {
     let mut text = entries(rt.alloc(), 1_024, ENTRY)?;
     accept_count(&rt, rt.alloc(), text.as_slice(), 1_024)?;
-    let rows: [(u8, &[u8]); 6] = [
+    let rows: [(u32, &[u8]); 6] = [
         (14, b"@FOO"),
         (14, b" // one more\n @INSTRUCTION\x80"),
         (14, b"@\x80"),
