@@ -1,0 +1,316 @@
+"""Program texts as C with intrinsics, and what the tools beside this file share: headers of instruction files, the table of calls."""
+import os, re
+
+LIBRARY = os.path.join(os.path.dirname(os.path.abspath(__file__)), '..', 'library')
+REGISTERS = {128: '__m128i', 256: '__m256i', 512: '__m512i'}
+FEATURES = {'SSE2': (), 'SSE3': ('sse3',), 'SSSE3': ('ssse3',), 'SSE4.1': ('sse4.1',), 'SSE4.2': ('sse4.2',), 'AVX': ('avx',),
+            'AVX2': ('avx2',), 'AVX_VNNI': ('avx2', 'avxvnni'), 'AVX512F': ('avx512f',), 'AVX512BW': ('avx512f', 'avx512bw')}
+ORDER = 'sse3 ssse3 sse4.1 sse4.2 avx avx2 avxvnni avx512f avx512bw avx512vl avx512vnni'.split()
+# Words that a parameter or a function of C may not have here: keywords, types, macros, functions that compilers know.
+TAKEN = set('''auto break case char const continue default do double else enum extern float for goto if inline int long register
+restrict return short signed sizeof static struct switch typedef union unsigned void volatile while asm typeof bool true false
+linux unix i386 main size_t wchar_t ptrdiff_t max_align_t abort abs acos alloca asin atan atoi bcmp bcopy bzero calloc ceil cos cosh
+div exit exp fabs ffs floor fmax fmin fmod fputc fputs free frexp gamma getc gets hypot index isalnum isalpha isdigit islower
+isprint isspace isupper j0 j1 jn labs ldexp lgamma log logb malloc memchr memcmp memcpy memmove memset modf pow printf putc putchar puts
+qsort rand read realloc remainder rename rindex rint round scalb scanf signal significand signbit sin sinh sprintf sqrt stpcpy
+strcat strchr strcmp strcpy strcspn strdup strlen strncat strncmp strncpy strpbrk strrchr strspn strstr tan tanh time tolower
+toupper trunc write y0 y1 yn'''.split())
+
+
+class Entry:
+    """The header of an entry: its parameters as (name, width), the range of its immediate or None, the width of its result."""
+
+    def __init__(self, name, parameters, immediate, result, extension, cost):
+        self.name, self.parameters, self.immediate = name, parameters, immediate
+        self.result, self.extension, self.cost = result, extension, cost
+
+
+def read_entries(path):
+    """The headers of an instruction file that vegen accepts, by name, in the order of the file."""
+    with open(path) as file:
+        words = re.sub(r'//[^\n]*', '', file.read()).split()
+    entries, at = {}, 0
+    while at < len(words):
+        if words[at] != 'INSTRUCTION':
+            at += 1
+            continue
+        name, parameters, immediate = words[at + 1], [], None
+        at += 2
+        while words[at] != 'RESULT':
+            if words[at] == 'PARAM':
+                parameters.append((words[at + 1], int(words[at + 2], 0)))
+                at += 4
+            else:
+                immediate = (int(words[at + 2], 0), int(words[at + 4], 0))
+                at += 5
+        entries[name] = Entry(name, parameters, immediate, int(words[at + 2], 0), words[at + 5], int(words[at + 7], 0))
+        at += 8
+    return entries
+
+
+def library_entries():
+    """All entries of the library; what stands in more than one file is the same there."""
+    entries = {}
+    for name in ('sse', 'avx2', 'avx512'):
+        entries.update(read_entries(os.path.join(LIBRARY, name)))
+    return entries
+
+
+def read_calls(path=os.path.join(LIBRARY, 'calls')):
+    """Of each entry that is not the intrinsic of its name: its words and its C."""
+    calls = {}
+    with open(path) as file:
+        for line in file:
+            found = re.match(r'(\w+)\(([^()]*)\) = (.*)$', line)
+            if found:
+                calls[found.group(1)] = ([w.strip() for w in found.group(2).split(',')], found.group(3))
+    return calls
+
+
+class Fault(Exception):
+    """A program that is none of the entries that are given, with the line."""
+
+
+class Translation:
+    """The C of one program: what `vegen run` accepts, by the entries that it calls."""
+
+    def __init__(self, text, entries, calls, name=None):
+        self.entries, self.calls, self.lines, self.features = entries, calls, [], set()
+        self.helpers, self.widths, self.scalars, self.used = {}, {}, {}, set()
+        rows = text.rstrip('\n').split('\n')
+        head = re.match(r'program (\w+)\((.*)\)$', rows[0])
+        if not head:
+            raise Fault(f'line 1: no program: {rows[0]}')
+        self.program = head.group(1)
+        self.name = c_name(name or self.program, ())
+        self.parameters(head.group(2))
+        for at, row in enumerate(rows[1:-1], 2):
+            try:
+                self.line(row)
+            except (KeyError, ValueError, IndexError) as fault:
+                raise Fault(f'line {at}: {row}: {fault!r}')
+        self.end = rows[-1]
+
+    def parameters(self, text):
+        self.names, self.signature = {}, []
+        for part in filter(None, text.split(', ')):
+            name, kind = part.split(': ')
+            self.names[name] = c = c_name(name, self.names.values())
+            if kind == 'ptr':
+                self.signature.append(('ptr', name, c))
+            else:
+                self.signature.append((kind, name, c))
+                self.scalars[name] = int(kind[1:])
+
+    # Operands
+
+    def operand(self, word, width=None):
+        """C of an operand and its width."""
+        if word.startswith('%'):
+            self.used.add(word[1:])
+            return word[1:], self.scalars[word]
+        literal = re.match(r'(\d+)i(\d+)$', word)
+        if literal:
+            number, width = int(literal.group(1)), int(literal.group(2))
+            return (f'UINT{width}_C({number})' if width > 16 else str(number)), width
+        self.used.add(self.names[word])
+        return self.names[word], self.scalars[word]
+
+    def register(self, word):
+        self.used.add(word[1:])
+        return word[1:], self.widths[word]
+
+    def place(self, word):
+        name, sign, offset = re.match(r'(\w+)([+-])(\d+)$', word).groups()
+        self.used.add(self.names[name])
+        return f'{self.names[name]} {sign} {offset}'
+
+    def helper(self, name, text):
+        """A small function that stands above the program's."""
+        self.helpers.setdefault(name, text)
+        return name
+
+    # Lines
+
+    def put(self, text):
+        self.lines.append(text)
+
+    def line(self, row):
+        words = row.split(' ')
+        if words[0] == 'store':
+            value, width = self.operand(words[2])
+            name = self.helper(f'vegen_store{width}', f'static inline void vegen_store{width}(unsigned char *p, uint{width}_t x)\n'
+                               '{\n    memcpy(p, &x, sizeof x);\n}')
+            return self.put(f'{name}({self.place(words[1])}, {value});')
+        if words[0] == 'vstore':
+            return self.vstore(int(words[1]), self.place(words[2]), *self.register(words[3]))
+        target, kind = (words[0].split(':') + [None])[:2]
+        if target.startswith('%v'):
+            c, width = self.vector(words[2], words[3:])
+            self.widths[target] = width
+            return self.put(f'const {REGISTERS[width]} {target[1:]} = {c};')
+        width = int(kind[1:])
+        c = self.extract(words, width) if words[2] == 'extract' else self.scalar(words[2], words[3:], width)
+        self.scalars[target] = width
+        return self.put(f'const {"int" if width == 1 else f"uint{width}_t"} {target[1:]} = {c};')
+
+    def scalar(self, operation, words, width):
+        """C of a line that gives an integer; each result is a number of its width."""
+        if operation == 'load':
+            name = self.helper(f'vegen_load{width}', f'static inline uint{width}_t vegen_load{width}(const unsigned char *p)\n'
+                               f'{{\n    uint{width}_t x;\n    memcpy(&x, p, sizeof x);\n    return x;\n}}')
+            return f'{name}({self.place(words[0])})'
+        if operation in ('shl', 'lshr', 'ashr'):
+            value, n = self.operand(words[0])[0], words[1]
+            if operation == 'ashr':
+                return f'(uint{width}_t)((int{width}_t){value} >> {n})'
+            return f'(uint{width}_t)({value} {"<<" if operation == "shl" else ">>"} {n})'
+        if operation in ('sext', 'zext', 'trunc'):
+            value, narrow = self.operand(words[0])
+            return f'(uint{width}_t)(int{width}_t)(int{narrow}_t){value}' if operation == 'sext' else f'(uint{width}_t){value}'
+        if operation == 'select':
+            condition = self.operand(words[0])[0]
+            return f'{condition} ? {self.operand(words[1])[0]} : {self.operand(words[2])[0]}'
+        (a, of), (b, _) = self.operand(words[0]), self.operand(words[1])
+        if operation in ('eq', 'slt', 'ult', 'smin', 'smax', 'umin', 'umax'):
+            return f'{self.comparison(operation, of)}({a}, {b})'
+        sign = {'add': '+', 'sub': '-', 'mul': '*', 'and': '&', 'or': '|', 'xor': '^'}[operation]
+        wide = '(uint32_t)' if operation == 'mul' and width == 16 else ''
+        return f'(uint{width}_t)({wide}{a} {sign} {b})'
+
+    def comparison(self, operation, width):
+        """The helper of a comparison, a least or a greatest; a function, so that no compiler warns of two equal operands."""
+        kind = f'{"int" if operation[0] == "s" else "uint"}{width}_t'
+        sign = {'eq': '==', 'lt': '<', 'in': '<', 'ax': '>'}[operation[-2:]]
+        test = f'({kind})a {sign} ({kind})b'
+        result, body = ('int', test) if operation[-2:] in ('eq', 'lt') else (f'uint{width}_t', test + ' ? a : b')
+        name = f'vegen_{operation}{width}'
+        return self.helper(name, f'static inline {result} {name}(uint{width}_t a, uint{width}_t b)\n{{\n    return {body};\n}}')
+
+    def extract(self, words, width):
+        register, of = self.register(words[3])
+        lane = int(words[4])
+        if of == 512:
+            self.features |= {'sse4.1', 'avx512f'}
+            block, lane = divmod(lane, 128 // width)
+            return f'(uint{width}_t)_mm_extract_epi{width}(_mm512_extracti32x4_epi32({register}, {block}), {lane})'
+        self.features |= {'avx2'} if of == 256 else {'sse4.1'} if width != 16 else set()
+        return f'(uint{width}_t)_mm{"256" if of == 256 else ""}_extract_epi{width}({register}, {lane})'
+
+    def insert(self, register, of, lane, value, width):
+        kind = 'long long' if width == 64 else 'int'
+        if of == 512:
+            self.features |= {'sse4.1', 'avx512f'}
+            block, lane = divmod(lane, 128 // width)
+            inner = f'_mm_insert_epi{width}(_mm512_extracti32x4_epi32({register}, {block}), ({kind}){value}, {lane})'
+            return f'_mm512_inserti32x4({register}, {inner}, {block})'
+        self.features |= {'avx2'} if of == 256 else {'sse4.1'} if width != 16 else set()
+        return f'_mm{"256" if of == 256 else ""}_insert_epi{width}({register}, ({kind}){value}, {lane})'
+
+    def vector(self, operation, words):
+        """C of a line that gives a register, and the register's width."""
+        if operation == 'vload':
+            return self.vload(int(words[0]), self.place(words[1]))
+        if operation == 'const':
+            width = len(words[0]) * 4
+            self.features |= {256: {'avx'}, 512: {'avx512f'}}.get(width, set())
+            return constant(bytes.fromhex(words[0])), width
+        if operation == 'insert':
+            register, of = self.register(words[0])
+            value, width = self.operand(words[2])
+            return self.insert(register, of, int(words[1]), value, width), of
+        entry = self.entries[words[0]]
+        immediate = words[-1] if entry.immediate else None
+        registers = [self.register(word)[0] for word in words[1:1 + len(entry.parameters)]]
+        self.features |= set(features_of(entry))
+        return self.call(entry, registers, immediate), entry.result
+
+    def call(self, entry, registers, immediate):
+        names, c = self.calls.get(entry.name, (None, None))
+        arguments = registers + ([immediate] if immediate else [])
+        if c is None:
+            return f'{entry.name}({", ".join(arguments)})'
+        if 'return ' not in c:
+            return re.sub(r'\b\w+\b', lambda match: dict(zip(names, arguments)).get(match.group(0), match.group(0)), c)
+        parameters = ', '.join(f'{REGISTERS[width]} {name}' for name, (_, width) in zip(names, entry.parameters))
+        body = '\n'.join('    ' + statement.strip() + ';' for statement in c.split(';') if statement.strip())
+        self.helper(entry.name, f'static inline {REGISTERS[entry.result]} {entry.name}({parameters})\n{{\n{body}\n}}')
+        return f'{entry.name}({", ".join(arguments)})'
+
+    def vload(self, size, place):
+        if size == 4:
+            name = self.helper('vegen_vload4', 'static inline __m128i vegen_vload4(const unsigned char *p)\n'
+                               '{\n    int x;\n    memcpy(&x, p, sizeof x);\n    return _mm_cvtsi32_si128(x);\n}')
+            return f'{name}({place})', 128
+        self.features |= {32: {'avx'}, 64: {'avx512f'}}.get(size, set())
+        return {8: f'_mm_loadl_epi64((const __m128i *)({place}))', 16: f'_mm_loadu_si128((const __m128i *)({place}))',
+                32: f'_mm256_loadu_si256((const __m256i *)({place}))', 64: f'_mm512_loadu_si512((const void *)({place}))'}[size], \
+            max(128, size * 8)
+
+    def vstore(self, size, place, register, _):
+        if size == 4:
+            name = self.helper('vegen_vstore4', 'static inline void vegen_vstore4(unsigned char *p, __m128i v)\n'
+                               '{\n    const int x = _mm_cvtsi128_si32(v);\n    memcpy(p, &x, sizeof x);\n}')
+            return self.put(f'{name}({place}, {register});')
+        self.features |= {32: {'avx'}, 64: {'avx512f'}}.get(size, set())
+        self.put({8: f'_mm_storel_epi64((__m128i *)({place}), {register});', 16: f'_mm_storeu_si128((__m128i *)({place}), {register});',
+                  32: f'_mm256_storeu_si256((__m256i *)({place}), {register});',
+                  64: f'_mm512_storeu_si512((void *)({place}), {register});'}[size])
+
+    # The whole
+
+    def target(self):
+        some = sorted(self.features, key=ORDER.index)
+        return f'__attribute__((target("{",".join(some)}")))\n' if some else ''
+
+    def function(self):
+        """The helpers and the function, each with the processor's features that it needs."""
+        kinds = {'ptr': 'unsigned char *', 'i8': 'uint8_t ', 'i16': 'uint16_t ', 'i32': 'uint32_t ', 'i64': 'uint64_t '}
+        parameters = ', '.join(kinds[kind] + c for kind, _, c in self.signature) or 'void'
+        defined = re.findall(r'^const [^=]* (\w+) =', '\n'.join(self.lines), re.M)
+        unused = [c for _, _, c in self.signature if c not in self.used] + [c for c in defined if c not in self.used]
+        body = self.lines + [f'(void){c};' for c in unused]
+        above = ''.join(self.target() + text + '\n\n' for _, text in sorted(self.helpers.items()))
+        return above, f'{self.target()}void {self.name}({parameters})\n{{\n' + ''.join(f'    {l}\n' for l in body) + '}\n'
+
+    def text(self):
+        above, function = self.function()
+        return f'/* The program `{self.program}` ({self.end[4:]}), made by tools/to-c. */\n{INCLUDES}\n{above}{function}'
+
+
+INCLUDES = '#include <immintrin.h>\n#include <stdint.h>\n#include <string.h>\n'
+
+
+def features_of(entry):
+    """What the processor has to have for an entry, in the words of gcc and clang."""
+    some = FEATURES[entry.extension]
+    if entry.extension.startswith('AVX512'):
+        widths = [entry.result] + [width for _, width in entry.parameters]
+        if min(widths) < 512 and max(widths) < 512:
+            some += ('avx512vl',)
+        if re.match(r'_mm512_dp', entry.name):
+            some += ('avx512vnni',)
+    return some
+
+
+def c_name(name, others):
+    """The name as C may have it: one that C has already, or that the tool uses, gets `_` behind it."""
+    if name in TAKEN or re.match(r'(_|vegen_|seq_|[sv]\d+$|[A-Z0-9_]+$|\w+_t$)', name) and not re.match(r'[A-Z]$', name):
+        name += '_'
+    while name in others:
+        name += '_'
+    return name
+
+
+def constant(data):
+    """C of a register with these bytes, the lowest first."""
+    mark = {16: '', 32: '256', 64: '512'}[len(data)]
+    if not any(data):
+        return f'_mm{mark}_setzero_si{len(data) * 8}()'
+    for size in (1, 2, 4, 8):
+        if data == data[:size] * (len(data) // size):
+            number = int.from_bytes(data[:size], 'little', signed=True)
+            number = f'(long long)UINT64_C({number % 2**64})' if size == 8 else '-2147483647 - 1' if number == -2**31 else str(number)
+            return f'_mm{mark}_set1_epi{8 * size}{"x" if size == 8 and mark != "512" else ""}({number})'
+    lanes = [int.from_bytes(data[i:i + 4], 'little', signed=True) for i in range(0, len(data), 4)]
+    return f'_mm{mark}_setr_epi32({", ".join("-2147483647 - 1" if n == -2**31 else str(n) for n in lanes)})'
