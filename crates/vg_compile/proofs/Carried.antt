@@ -1,23 +1,30 @@
 -- What the program of a plan is for a kernel.
-use Rattle.std.proofs.Common.{◌≡◌, ℕ, ◌<◌, ◌≤◌, ◌^◌, List, [], length, refl, sym, ap, ◌∙◌, subst, arith}
+use Rattle.std.proofs.Common.{◌≡◌, ◌↔◌, ℕ, ◌<◌, ◌^◌, List, [], ◌∷◌, refl, sym, subst, arith}
 use Rattle.vg_program.specs.declared.program.Program.{Program}
 use Rattle.vg_shapes.specs.declared.match_table.Match.{Match}
 use Rattle.vg_shapes.specs.declared.order.Node.{Node}
 use Rattle.vg_shapes.specs.declared.pack.Pack.{Pack as Packed}
 use Rattle.vg_shapes.specs.declared.ssa.Ssa.{Ssa}
 use Rattle.vg_shapes.specs.Depends.{dependences}
-use Rattle.vg_shapes.specs.Description.{Description}
+use Rattle.vg_shapes.specs.Description.{Description, IsPackable}
 use Rattle.vg_shapes.specs.MatchTable.{IsTable}
 use Rattle.vg_shapes.specs.Nodes.{IsOrder}
+use Rattle.std.specs.List.{AllByRecursion}
+use Rattle.vg_plans.specs.Members.{Every}
 use Rattle.vg_packing.specs.Laws as plans
 use Rattle.vg_packing.specs.Packing.{chosen_of, plain_of}
+use Rattle.vg_beam.specs.Chosen as found
 use Rattle.vg_beam.specs.Chosen.{IsChosen}
+use Rattle.vg_emission.specs.Truth.{IsCallable}
 use Rattle.vg_gather.specs.Recipes.{planned_program}
 use Rattle.vg_plan_laws.specs.Laws.{AreKnown}
 use Rattle.vg_plan_laws.proofs.Chosen.{kernels-are-small}
 use Rattle.vg_plan_laws.proofs.Packs.{match-units}
 use Rattle.vg_plan_laws.proofs.Programs.{programs-call, programs-cost, programs-keep-rules, programs-mean}
-use Rattle.vg_compile.specs.Emitted.{IsChosenCost, IsEmitted, IsOptimalCost, IsProgramFor}
+use Rattle.vg_plan_relations.specs.Plans.{IsPlanByNodes}
+use Rattle.vg_plan_relations.proofs.Planning.{plans-by-nodes}
+use Rattle.vg_compile.specs.Chosen.{IsChosenPlan, IsCrowded}
+use Rattle.vg_compile.specs.Emitted.{IsEmitted, IsProgramFor}
 use Rattle.vg_compile.specs.Planned.{IsPlanned}
 use Rattle.vg_compile.proofs.Sizes.{empty-cost}
 
@@ -34,62 +41,95 @@ picked-by ds matches ssa deps width packs e is chosen = record {
   chosen = subst (λ d. IsChosen ds matches ssa d width packs) e chosen;
 }
 
--- what it costs is optimal
-pub optimal-cost : (ds : List Description) (matches : List Match) (ssa : Ssa) (width : ℕ) (packs : List Packed) (cost : ℕ)
-    → AreKnown ds matches ssa → IsPicked ds matches ssa width packs
-    → cost ≡ plans.cost_of ds matches ssa (dependences ssa) packs → IsOptimalCost ds matches ssa width cost
-optimal-cost ds matches ssa width packs cost known picked e few plan is uncrowded =
-    let least = picked.chosen.optimal (match-units ds matches ssa known.sound known.matched) few plan is uncrowded in
-    omega (arith, e, least)
+-- ---- plans by their packs, units and nodes
 
-chosen-cost : (ds : List Description) (matches : List Match) (ssa : Ssa) (width : ℕ) (packs : List Packed) (cost : ℕ)
-    → AreKnown ds matches ssa → IsTable matches → IsPicked ds matches ssa width packs
-    → cost ≡ plans.cost_of ds matches ssa (dependences ssa) packs → IsChosenCost ds ssa width cost
-chosen-cost ds matches ssa width packs cost known ordered picked e = record {
-  matches = matches;
-  table = record { matched = known.matched; ordered = ordered };
-  exact = e ∙ ap (plans.cost_of ds matches ssa (dependences ssa)) picked.is;
-  plain = omega (arith, e, picked.chosen.below_plain);
-  optimal = optimal-cost ds matches ssa width packs cost known picked e;
-}
+packable : (ds : List Description) → AllByRecursion IsCallable ds → AllByRecursion IsPackable ds
+packable [] all = tt
+packable (d ∷ ds) all = (all.0.packable, packable ds all.1)
 
-pub is-program : (ds : List Description) (matches : List Match) (ssa : Ssa) (width : ℕ) (packs : List Packed) (order : List Node)
-    → AreKnown ds matches ssa → IsTable matches → IsPicked ds matches ssa width packs → IsOrder ssa matches packs order
-    → IsProgramFor ds ssa width (planned_program ds matches ssa packs order)
-is-program ds matches ssa width packs order known ordered picked is =
-    let deps = dependences ssa in
+pub by-nodes : (ds : List Description) (matches : List Match) (ssa : Ssa) → AreKnown ds matches ssa
+    → (packs : List Packed) → plans.IsPlanFor ds matches ssa (dependences ssa) packs ↔ IsPlanByNodes ds matches ssa packs
+by-nodes ds matches ssa known packs = plans-by-nodes ds matches ssa packs (packable ds known.described) known.matched
+
+each : {X : Type 0} (P Q : X → Type 0) → ((x : X) → P x → Q x) → (xs : List X) → Every P xs → Every Q xs
+each P Q f [] all = tt
+each P Q f (x ∷ xs) all = (f x all.0, each P Q f xs all.1)
+
+crowded-by-nodes : (ds : List Description) (matches : List Match) (ssa : Ssa) (width size : ℕ) → AreKnown ds matches ssa
+    → found.IsCrowded ds matches ssa (dependences ssa) width size → IsCrowded ds matches ssa width size
+crowded-by-nodes ds matches ssa width size known (many, more, are, differ) =
+    (many, more, each _ _ (λ packs is. ((by-nodes ds matches ssa known packs).0 is.0, is.1)) many are, differ)
+
+-- the chosen plan, by the list of all dependences
+pub chosen-plan : (ds : List Description) (matches : List Match) (ssa : Ssa) (width : ℕ) (packs : List Packed)
+    → AreKnown ds matches ssa → IsTable matches → IsPicked ds matches ssa width packs → IsChosenPlan ds matches ssa width packs
+chosen-plan ds matches ssa width packs known ordered picked =
     let chosen = picked.chosen in
-    let costs = programs-cost ds matches ssa deps packs order known chosen.plan is in
-    let most : plans.cost_of ds matches ssa deps packs ≤ length ssa.units = omega (arith, chosen.below_scalar, empty-cost ds matches ssa deps) in
+    record {
+      table = record { matched = known.matched; ordered = ordered };
+      is = picked.is;
+      plan = (by-nodes ds matches ssa known packs).0 chosen.plan;
+      below_plain = chosen.below_plain;
+      below_scalar = omega (arith, chosen.below_scalar, empty-cost ds matches ssa (dependences ssa));
+      optimal = λ few plan is uncrowded.
+          chosen.optimal (match-units ds matches ssa known.sound known.matched) few plan ((by-nodes ds matches ssa known plan).1 is)
+          (λ size less crowded. uncrowded size less (crowded-by-nodes ds matches ssa width size known crowded));
+    }
+
+-- it grows from the empty one
+pub plan-grows : (ds : List Description) (matches : List Match) (ssa : Ssa) (deps : List (ℕ × ℕ)) (width : ℕ) (packs : List Packed)
+    → AreKnown ds matches ssa → deps ≡ dependences ssa → IsChosenPlan ds matches ssa width packs → plans.IsPlanFor ds matches ssa deps packs
+plan-grows ds matches ssa deps width packs known e chosen =
+    subst (λ d. plans.IsPlanFor ds matches ssa d packs) (sym e) ((by-nodes ds matches ssa known packs).1 chosen.plan)
+
+-- ---- programs
+
+-- the program of the chosen plan in a legal order
+pub is-program : (ds : List Description) (matches : List Match) (ssa : Ssa) (width : ℕ) (packs : List Packed) (order : List Node)
+    → AreKnown ds matches ssa → IsChosenPlan ds matches ssa width packs → IsOrder ssa matches packs order
+    → IsProgramFor ds ssa width (planned_program ds matches ssa packs order)
+is-program ds matches ssa width packs order known chosen is =
+    let deps = dependences ssa in
+    let plan = (by-nodes ds matches ssa known packs).1 chosen.plan in
+    let costs = programs-cost ds matches ssa deps packs order known plan is in
+    let most = chosen.below_scalar in
     let below : plans.cost_of ds matches ssa deps packs < 2 ^ 32 = omega (arith, most, kernels-are-small ssa known.sound) in
     record {
       name = refl;
       params = refl;
       scalar = refl;
-      means = λ called true. programs-mean called ds matches ssa deps packs order known true chosen.plan is;
-      rules = λ headers have. programs-keep-rules headers ds matches ssa deps packs order known have chosen.plan is below;
-      calls = λ headers have. programs-call headers ds matches ssa deps packs order known have chosen.plan is;
+      means = λ called true. programs-mean called ds matches ssa deps packs order known true plan is;
+      rules = λ headers have. programs-keep-rules headers ds matches ssa deps packs order known have plan is below;
+      calls = λ headers have. programs-call headers ds matches ssa deps packs order known have plan is;
       cost = omega (arith, costs, most);
-      chosen = chosen-cost ds matches ssa width packs _ known ordered picked costs;
+      chosen = record {
+        matches = matches;
+        packs = packs;
+        chosen = chosen;
+        emitted = (order, is, refl);
+        cost = costs;
+      };
     }
 
 pub emitted-is : (ds : List Description) (matches : List Match) (ssa : Ssa) (width : ℕ) (packs : List Packed) (p : Program)
-    → AreKnown ds matches ssa → IsTable matches → IsPicked ds matches ssa width packs → IsEmitted ds matches ssa packs p
+    → AreKnown ds matches ssa → IsChosenPlan ds matches ssa width packs → IsEmitted ds matches ssa packs p
     → IsProgramFor ds ssa width p
-emitted-is ds matches ssa width packs p known ordered picked (order, is, e) =
-    subst (IsProgramFor ds ssa width) (sym e) (is-program ds matches ssa width packs order known ordered picked is)
+emitted-is ds matches ssa width packs p known chosen (order, is, e) =
+    subst (IsProgramFor ds ssa width) (sym e) (is-program ds matches ssa width packs order known chosen is)
 
--- what is told of it
+-- what is told of the plan
 pub planned-is : (ds : List Description) (matches : List Match) (ssa : Ssa) (width : ℕ) (packs : List Packed) (cost plain : ℕ)
-    → AreKnown ds matches ssa → IsTable matches → IsPicked ds matches ssa width packs
+    → IsChosenPlan ds matches ssa width packs
     → cost ≡ plans.cost_of ds matches ssa (dependences ssa) packs
     → plain ≡ plans.cost_of ds matches ssa (dependences ssa) (plain_of ds matches ssa (dependences ssa))
-    → IsPlanned ds ssa width packs cost plain
-planned-is ds matches ssa width packs cost plain known ordered picked e f = record {
-  matches = matches;
-  table = record { matched = known.matched; ordered = ordered };
-  chosen = picked.is;
-  costs = e;
-  plain_costs = f;
-  optimal = optimal-cost ds matches ssa width packs cost known picked e;
-}
+    → IsPlanned ds matches ssa width packs cost plain
+planned-is ds matches ssa width packs cost plain chosen e f =
+    let below = chosen.below_plain in
+    let few = chosen.below_scalar in
+    record {
+      chosen = chosen;
+      costs = e;
+      plain_costs = f;
+      below_plain = omega (arith, e, f, below);
+      below_scalar = omega (arith, e, few);
+    }

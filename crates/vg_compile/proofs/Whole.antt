@@ -7,11 +7,11 @@ use Rattle.vg_kernel.specs.Cost.{scalar_cost}
 use Rattle.vg_kernel.specs.Tree.{Tree}
 use Rattle.vg_program.specs.declared.param.Param.{Param}
 use Rattle.vg_program.specs.declared.program.Program.{Program}
-use Rattle.vg_program.specs.Cost.{cost_of}
 use Rattle.vg_program.specs.Sizes.{TakeFew}
 use Rattle.vg_program.proofs.TextSizes.{short_fits}
 use Rattle.vg_plan_text.specs.declared.costs.Costs.{Costs}
 use Rattle.vg_plan_text.specs.PlanText.{plan_text}
+use Rattle.vg_shapes.specs.declared.match_table.Match.{Match}
 use Rattle.vg_shapes.specs.declared.pack.Pack.{Pack as Packed}
 use Rattle.vg_shapes.specs.declared.ssa.Ssa.{Ssa}
 use Rattle.vg_shapes.specs.Description.{Description}
@@ -26,7 +26,7 @@ use Rattle.vg_plan_laws.proofs.Chosen.{kernels-are-small}
 use Rattle.vg_instances.specs.Descriptions.{AreOf, descriptions}
 use Rattle.vg_instances.specs.Proper.{AreProper, IsProper}
 use Rattle.vg_compile.specs.Compiled.{IsCompiled}
-use Rattle.vg_compile.specs.Emitted.{IsChosenCost, IsProgramFor}
+use Rattle.vg_compile.specs.Emitted.{IsChosenProgram, IsProgramFor}
 use Rattle.vg_compile.specs.Means.{param_of}
 use Rattle.vg_compile.specs.Planned.{IsExplained, IsPlanOf, IsPlanned}
 use Rattle.vg_compile.proofs.Joined.{units-mean-kernels}
@@ -73,7 +73,7 @@ compiled entries set k width ssa ds p is stands sound same are proper program =
       calls = subst (λ xs. CallsDescribed xs p.lines) same (program.calls headers (all-headers entries ds are));
       scalar = program.scalar ∙ units;
       cost = omega (arith, program.cost, units);
-      chosen = (ssa, is, subst (λ xs. IsChosenCost xs ssa width (cost_of p)) same program.chosen);
+      chosen = (ssa, is, subst (λ xs. IsChosenProgram xs ssa width p) same program.chosen);
     }
 
 -- the same by the descriptions of a catalogue's entries
@@ -87,24 +87,25 @@ compiled-by entries all set k width ssa ds xs p same slice is stands sound liste
 -- ---- what is told of the plan
 
 -- by the descriptions of a catalogue's entries
-pub planned-by : (entries all : List Entry) (set : ℕ) (k : Tree) (width : ℕ) (ssa : Ssa) (ds xs : List Description) (packs : List Packed) (cost plain : ℕ)
-    → entries ≡ all → xs ≡ ds → IsNumbering k ssa → ds ≡ descriptions set entries → IsPlanned xs ssa width packs cost plain
+pub planned-by : (entries all : List Entry) (set : ℕ) (k : Tree) (width : ℕ) (ssa : Ssa) (ds xs : List Description) (matches : List Match) (packs : List Packed) (cost plain : ℕ)
+    → entries ≡ all → xs ≡ ds → IsNumbering k ssa → ds ≡ descriptions set entries → IsPlanned xs matches ssa width packs cost plain
     → IsPlanOf all set k width packs cost plain
-planned-by entries all set k width ssa ds xs packs cost plain same slice is listed planned =
-    (ssa, is, subst (λ d. IsPlanned d ssa width packs cost plain) (slice ∙ listed ∙ ap (descriptions set) same) planned)
+planned-by entries all set k width ssa ds xs matches packs cost plain same slice is listed planned =
+    (ssa, matches, is, subst (λ d. IsPlanned d matches ssa width packs cost plain) (slice ∙ listed ∙ ap (descriptions set) same) planned)
 
-pub explained-by : (entries all : List Entry) (set : ℕ) (k : Tree) (width : ℕ) (ssa : Ssa) (ds xs : List Description) (packs : List Packed) (costs : Costs) (params : List Param) (text : List ℕ)
-    → entries ≡ all → xs ≡ ds → IsNumbering k ssa → ds ≡ descriptions set entries → IsPlanned xs ssa width packs costs.plan costs.plain
+pub explained-by : (entries all : List Entry) (set : ℕ) (k : Tree) (width : ℕ) (ssa : Ssa) (ds xs : List Description) (matches : List Match) (packs : List Packed) (costs : Costs) (params : List Param) (text : List ℕ)
+    → entries ≡ all → xs ≡ ds → IsNumbering k ssa → ds ≡ descriptions set entries → IsPlanned xs matches ssa width packs costs.plan costs.plain
     → costs.scalar ≡ scalar_cost k → params ≡ map param_of k.params → text ≡ plan_text params xs ssa packs costs
     → IsExplained all set k width text
-explained-by entries all set k width ssa ds xs packs costs params text same slice is listed planned scalar named e =
+explained-by entries all set k width ssa ds xs matches packs costs params text same slice is listed planned scalar named e =
     let about : xs ≡ descriptions set all = slice ∙ listed ∙ ap (descriptions set) same in
     record {
       ssa = ssa;
+      matches = matches;
       numbering = is;
       packs = packs;
       costs = costs;
-      planned = subst (λ d. IsPlanned d ssa width packs costs.plan costs.plain) about planned;
+      planned = subst (λ d. IsPlanned d matches ssa width packs costs.plan costs.plain) about planned;
       scalar = scalar;
       lines = e ∙ ap (λ ps. plan_text ps xs ssa packs costs) named ∙ ap (λ d. plan_text (map param_of k.params) d ssa packs costs) about;
     }

@@ -11,13 +11,13 @@ use Rattle.vg_shapes.specs.declared.ssa.Ssa.{Ssa}
 use Rattle.vg_ssa.specs.Numbering.{IsNumbering}
 use Rattle.vg_emission.specs.Fit.{CallsDescribed}
 use Rattle.vg_instances.specs.Descriptions.{descriptions}
-use Rattle.vg_compile.specs.Emitted.{IsChosenCost}
+use Rattle.vg_compile.specs.Emitted.{IsChosenProgram}
 use Rattle.vg_compile.specs.Means.{Means}
 
 -- A valid program that means a kernel, where a call gives what the text of its entry means. It calls
--- instances of the entries in a set of extensions alone, states the scalar cost of the kernel, and costs
--- at most that and exactly what the chosen plan costs by the descriptions of those instances, where the
--- search keeps so many plans of each size.
+-- instances of the entries in a set of extensions alone, states the scalar cost of the kernel, costs at most
+-- that, and is the program of the chosen plan by the descriptions of those instances, where the search keeps
+-- so many plans of each size: the plan that is told of the kernel, in a legal order.
 pub record IsCompiled (entries : List Entry) (set : ℕ) (k : Tree) (width : ℕ) (p : Program) : Type 0 where
   pub means : Means (called_by entries) p k
   pub valid : IsValid (headers_of entries) p
@@ -25,4 +25,4 @@ pub record IsCompiled (entries : List Entry) (set : ℕ) (k : Tree) (width : ℕ
   pub scalar : p.scalar ≡ scalar_cost k
   pub cost : cost_of p ≤ scalar_cost k
   pub chosen : (ssa : Ssa) × IsNumbering k ssa
-      × IsChosenCost (descriptions set entries) ssa width (cost_of p)
+      × IsChosenProgram (descriptions set entries) ssa width p

@@ -1,3 +1,4 @@
+pub mod Chosen
 pub mod Compiled
 pub mod Emitted
 pub mod Laws

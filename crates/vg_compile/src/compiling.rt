@@ -22,8 +22,8 @@ use vg_ssa::number_values;
 ///
 /// It leaves the memory that the kernel leaves and traps where the kernel traps, in each layout that
 /// respects noalias, each call giving what the text of its entry means. It costs at most the kernel's
-/// scalar cost, and exactly what the chosen plan costs, where the search keeps `width` plans of each size:
-/// 1 to 4,096 on the command line, any number here.
+/// scalar cost, and is the program of the chosen plan, which `explain` tells of, where the search keeps
+/// `width` plans of each size: 1 to 4,096 on the command line, any number here.
 ///
 /// Fails for want of memory, also at the bounds of the code (docs/limits.md): those of `descriptions_of`, and
 /// past 2^24 matches and leaves that they bind, together, or 2^24 packs that the search meets.

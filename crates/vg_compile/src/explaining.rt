@@ -21,8 +21,8 @@ use vg_ssa::number_values;
 
 /// The lines on the chosen plan of a kernel, where the search keeps `width` plans of each size, as for
 /// `compile`: a line for each pack, in the order of the plan, and one on what the plan, the plain plan and the
-/// kernel cost. The code of `compile` emits this plan, of which its contract tells the cost alone. Fails for
-/// want of memory, also at the bounds of `compile`.
+/// kernel cost. It is the plan that `compile` emits. Fails for want of memory, also at the bounds of
+/// `compile`.
 pub fn explain(
     alloc: Global,
     catalog: &Catalog,
@@ -52,7 +52,7 @@ pub fn explain(
         params.as_slice(),
         descriptions,
         &ssa,
-        &planned.plan,
+        &planned.chosen.plan,
         costs,
     )
 }

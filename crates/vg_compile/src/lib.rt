@@ -1,10 +1,11 @@
 //! The compiler over values: from the entries of a catalogue and a kernel to the program that calls them.
 //!
 //! `specs/Compiled.antt` says what is compiled of a kernel, `specs/Means.antt` when a program means it,
-//! `specs/Emitted.antt` what is emitted for its numbered values by the descriptions of instances, and
-//! `specs/Planned.antt` which plan is emitted and what is told of it.
+//! `specs/Chosen.antt` which plan is chosen for its numbered values, `specs/Emitted.antt` what is emitted for
+//! it by the descriptions of instances, and `specs/Planned.antt` what is told of it.
 #![tactic(auto)]
 
+mod choosing;
 mod compiling;
 mod emitting;
 mod explaining;

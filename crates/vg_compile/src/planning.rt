@@ -7,7 +7,7 @@ ghost use Rattle.vg_catalog.specs.Extensions.{bits_in};
 ghost use Rattle.vg_catalog.specs.Written.{AllWritten};
 ghost use Rattle.vg_compile.specs.Planned.{IsPlanOf, IsPlanned};
 ghost use Rattle.vg_emission.specs.Truth.{IsCallable};
-ghost use Rattle.vg_instances.specs.Descriptions.{descriptions};
+ghost use Rattle.vg_instances.specs.Descriptions.{AreOf, descriptions};
 ghost use Rattle.vg_instances.specs.Proper.{AreProper};
 ghost use Rattle.vg_kernel.specs.Cost.{scalar_cost};
 ghost use Rattle.vg_kernel.specs.Tree.{tree_of};
@@ -16,27 +16,26 @@ ghost use Rattle.vg_listing.specs.Listed.{HaveLanes};
 ghost use Rattle.vg_shapes.specs.Description.{description_of};
 ghost use Rattle.vg_shapes.specs.Sound.{IsSound};
 
+use crate::choosing::{ChosenPlan, choose_plan};
 use std::alloc::{AllocError, Global};
-use vg_beam::choose;
 use vg_catalog::{Catalog, Extensions};
 use vg_cost::plan_cost;
-use vg_deps::depends;
 use vg_instances::descriptions_of;
 use vg_kernel::{Kernel, scalar_cost};
-use vg_match::build;
 use vg_packs::plain_plan;
 use vg_shapes::{Description, Plan, Ssa};
 use vg_ssa::number_values;
 
-/// A plan of numbered values, with what it and the plain plan cost.
+/// The chosen plan of numbered values, with what it and the plain plan cost.
 #[derive(Drop)]
 pub(crate) struct Planned {
-    pub(crate) plan: Plan,
+    pub(crate) chosen: ChosenPlan,
     pub(crate) cost: u64,
     pub(crate) plain: u64,
 }
 
-/// The chosen plan of numbered values, where the search keeps `width` plans of each size.
+/// The chosen plan of numbered values, where the search keeps `width` plans of each size, and what is told
+/// of it.
 pub(crate) fn plan_units(
     alloc: Global,
     descriptions: &[Description],
@@ -45,17 +44,15 @@ pub(crate) fn plan_units(
 ) -> Result<Planned, AllocError>
     requires sound { IsSound ssa.now }
     requires callable { AllByRecursion IsCallable (map description_of descriptions.now) }
-    ensures { IfOk result (λ p. IsPlanned (map description_of descriptions.now) ssa.now width
-        p.plan p.cost p.plain) }
+    ensures { IfOk result (λ p. IsPlanned (map description_of descriptions.now) p.chosen.table
+        ssa.now width p.chosen.plan p.cost p.plain) }
 {
-    let table = build(alloc, descriptions, ssa)?;
-    let deps = depends(alloc, ssa)?;
-    let plan = choose(alloc, descriptions, &table, ssa, &deps, width)?;
-    let plain = plain_plan(alloc, descriptions, &table, ssa, &deps)?;
-    let cost = plan_cost(alloc, &plan, descriptions, &table, ssa)?;
-    let plain_cost = plan_cost(alloc, &plain, descriptions, &table, ssa)?;
+    let chosen = choose_plan(alloc, descriptions, ssa, width)?;
+    let plain = plain_plan(alloc, descriptions, &chosen.table, ssa, &chosen.deps)?;
+    let cost = plan_cost(alloc, &chosen.plan, descriptions, &chosen.table, ssa)?;
+    let plain_cost = plan_cost(alloc, &plain, descriptions, &chosen.table, ssa)?;
     Ok(Planned {
-        plan,
+        chosen,
         cost,
         plain: plain_cost,
     })
@@ -81,8 +78,8 @@ pub struct Chosen {
 /// kernel of more than 256 loads, operations and stores is not searched, and gets the cheaper of the plain
 /// and the empty plan.
 ///
-/// The code of `compile` emits this plan, of which its contract tells the cost alone. Fails for want of
-/// memory, also at the bounds of `compile`.
+/// It is the plan that `compile` emits. The descriptions are true of the instances that they are of. Fails
+/// for want of memory, also at the bounds of `compile`.
 pub fn plan_of(
     alloc: Global,
     catalog: &Catalog,
@@ -98,11 +95,22 @@ pub fn plan_of(
         (tree_of kernel.now) width c.plan c.cost c.plain) }
     ensures descriptions { IfOk result (λ c. map description_of c.descriptions.items
         ≡ descriptions (bits_in allowed) (entries_in catalog.now)) }
+    ensures truth { IfOk result (λ c. AreOf (entries_in catalog.now)
+        (map description_of c.descriptions.items)) }
     ensures scalar { IfOk result (λ c. c.scalar ≡ scalar_cost (tree_of kernel.now)) }
 {
     let ssa = number_values(alloc, kernel)?;
     let descriptions = descriptions_of(alloc, catalog.entries(), allowed)?;
-    let Planned { plan, cost, plain } = plan_units(alloc, descriptions.as_slice(), &ssa, width)?;
+    let Planned {
+        chosen,
+        cost,
+        plain,
+    } = plan_units(alloc, descriptions.as_slice(), &ssa, width)?;
+    let ChosenPlan {
+        table: _,
+        deps: _,
+        plan,
+    } = chosen;
     Ok(Chosen {
         plan,
         descriptions,

@@ -7,11 +7,9 @@ ghost use Rattle.vg_emission.specs.Truth.{IsCallable};
 ghost use Rattle.vg_shapes.specs.Description.{description_of};
 ghost use Rattle.vg_shapes.specs.Sound.{IsSound};
 
+use crate::choosing::choose_plan;
 use crate::emitting::emit_plan;
 use std::alloc::{AllocError, Global};
-use vg_beam::choose;
-use vg_deps::depends;
-use vg_match::build;
 use vg_program::Program;
 use vg_shapes::{Description, Ssa};
 
@@ -28,8 +26,13 @@ pub fn compile_units(
     requires callable { AllByRecursion IsCallable (map description_of descriptions.now) }
     ensures { IfOk result (IsProgramFor (map description_of descriptions.now) ssa.now width) }
 {
-    let table = build(alloc, descriptions, ssa)?;
-    let deps = depends(alloc, ssa)?;
-    let plan = choose(alloc, descriptions, &table, ssa, &deps, width)?;
-    emit_plan(alloc, descriptions, &plan, &table, ssa, &deps)
+    let chosen = choose_plan(alloc, descriptions, ssa, width)?;
+    emit_plan(
+        alloc,
+        descriptions,
+        &chosen.plan,
+        &chosen.table,
+        ssa,
+        &chosen.deps,
+    )
 }

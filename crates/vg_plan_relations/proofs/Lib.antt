@@ -5,7 +5,7 @@ pub mod Fitting
 mod Held
 pub mod Lists
 pub mod Loading
-mod Planning
+pub mod Planning
 mod Producing
 mod Rising
 pub mod TwoSums

@@ -14,7 +14,7 @@ returns c =
     IfOk-weaker c.print_plan.result _ _
     (λ text is. explained-by (map entry_of c.entries.result.now) (entries_in c.args.catalog.now) (bits_in c.args.allowed) (tree_of c.args.kernel.now) c.args.width
     c.in_ok-ssa.ssa (map description_of c.in_ok-descriptions.descriptions.items) (map description_of c.as_slice-descriptions.result.now)
-    c.in_ok-planned.planned.plan
+    c.in_ok-planned.planned.chosen.table c.in_ok-planned.planned.chosen.plan
     (record { plan = c.in_ok-planned.planned.cost; plain = c.in_ok-planned.planned.plain; scalar = c.from.result })
     c.as_slice-2.result.now text.items
     c.entries.ensures.entries (ap (map description_of) c.as_slice-descriptions.ensures.value) c.in_ok-ssa.ensures.exact

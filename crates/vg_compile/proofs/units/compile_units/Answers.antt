@@ -1,29 +1,29 @@
 use Rattle.std.proofs.Common.{map}
 use Rattle.std.proofs.lemmas.Result.{IfOk-weaker}
 use Rattle.vg_shapes.specs.Description.{description_of}
-use Rattle.vg_compile.proofs.Carried.{emitted-is, picked-by}
-use Rattle.vg_compile.proofs.Near.{matches-near}
-use Rattle.vg_compile.proofs.Ordered.{known, short_packs}
+use Rattle.vg_compile.proofs.Carried.{emitted-is, plan-grows}
+use Rattle.vg_compile.proofs.Ordered.{known}
 use Rattle.vg_compile.proofs.units.compile_units.Goals as goal
 
-pub choose-requires-clause-near : goal.choose-requires-clause-near
-choose-requires-clause-near c =
-    let ds = map description_of c.args.descriptions.now in
-    matches-near ds c.in_ok-table.table c.args.ssa.now
-    (known ds c.in_ok-table.table c.args.ssa.now c.requires.sound c.requires.callable c.in_ok-table.ensures.matches)
+pub emit_plan-requires-clause-known : goal.emit_plan-requires-clause-known
+emit_plan-requires-clause-known c =
+    let chosen = c.in_ok-chosen.ensures.plan in
+    known (map description_of c.args.descriptions.now) c.in_ok-chosen.chosen.table c.args.ssa.now c.requires.sound c.requires.callable
+    chosen.table.matched
 
-pub choose-requires-clause-short : goal.choose-requires-clause-short
-choose-requires-clause-short c =
+pub emit_plan-requires-clause-plan : goal.emit_plan-requires-clause-plan
+emit_plan-requires-clause-plan c =
     let ds = map description_of c.args.descriptions.now in
-    short_packs ds c.in_ok-table.table c.args.ssa.now c.in_ok-deps.deps
-    (known ds c.in_ok-table.table c.args.ssa.now c.requires.sound c.requires.callable c.in_ok-table.ensures.matches)
+    let chosen = c.in_ok-chosen.ensures.plan in
+    let all = known ds c.in_ok-chosen.chosen.table c.args.ssa.now c.requires.sound c.requires.callable chosen.table.matched in
+    plan-grows ds c.in_ok-chosen.chosen.table c.args.ssa.now c.in_ok-chosen.chosen.deps c.args.width c.in_ok-chosen.chosen.plan all
+    c.in_ok-chosen.ensures.deps chosen
 
 pub returns : goal.returns
 returns c =
     let ds = map description_of c.args.descriptions.now in
-    let all = known ds c.in_ok-table.table c.args.ssa.now c.requires.sound c.requires.callable c.in_ok-table.ensures.matches in
-    let picked = picked-by ds c.in_ok-table.table c.args.ssa.now c.in_ok-deps.deps c.args.width c.in_ok-plan.plan c.in_ok-deps.ensures.exact
-    c.in_ok-plan.ensures.plan c.in_ok-plan.ensures.chosen in
+    let chosen = c.in_ok-chosen.ensures.plan in
+    let all = known ds c.in_ok-chosen.chosen.table c.args.ssa.now c.requires.sound c.requires.callable chosen.table.matched in
     IfOk-weaker c.emit_plan.result _ _
-    (λ p is. emitted-is ds c.in_ok-table.table c.args.ssa.now c.args.width c.in_ok-plan.plan p all c.in_ok-table.ensures.order picked is)
+    (λ p is. emitted-is ds c.in_ok-chosen.chosen.table c.args.ssa.now c.args.width c.in_ok-chosen.chosen.plan p all chosen is)
     c.emit_plan.ensures
