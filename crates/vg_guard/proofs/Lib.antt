@@ -1,0 +1,11 @@
+pub mod Accesses
+pub mod Reaches
+pub mod Numbers
+pub mod NoaliasLaws
+pub mod Apart
+pub mod Listed
+pub mod Rising
+pub mod CheckLoop
+pub mod CheckTexts
+pub mod GuardedTexts
+pub mod GuardedSizes

@@ -1,0 +1,25 @@
+//! Laws of guards.
+
+ghost use Rattle.vg_guard.specs.Laws.{ChecksKeepApart, ChecksKeepRules, GuardedProgramsFit, NoaliasIsWellFormed};
+
+/// A law: where the checks of a kernel hold, a layout that respects the kernel's own noalias
+/// respects noalias on every pointer.
+pub fn checks_keep_apart()
+    ensures { ChecksKeepApart }
+{}
+
+/// A law: a well-formed kernel with every pointer noalias is well formed.
+pub fn noalias_is_well_formed()
+    ensures { NoaliasIsWellFormed }
+{}
+
+/// A law: the checks of a well-formed kernel keep the rules on checks, and are at most 120.
+pub fn checks_keep_rules()
+    ensures { ChecksKeepRules }
+{}
+
+/// A law: two valid programs of at most 12,288 lines each, and at most 120 checks of their
+/// pointers, have a text within the bound, where the instructions take at most four registers.
+pub fn guarded_programs_fit()
+    ensures { GuardedProgramsFit }
+{}

@@ -1,0 +1,28 @@
+//! Guards: two programs for one kernel, one of them as if every pointer were noalias, and the
+//! checks that choose between them.
+//!
+//! `specs/Checks.antt` says which checks a kernel has and when they hold, `specs/Noalias.antt` what
+//! the kernel with every pointer noalias is, `specs/Guarded.antt` what the text and the meaning of
+//! guarded programs are, and `specs/Grammar.antt` what the first fault of any other text is.
+#![tactic(auto)]
+
+pub mod check;
+pub mod guarded;
+mod kernel_checks;
+mod laws;
+mod noalias;
+mod printing;
+mod reach;
+mod reaching;
+mod reading;
+mod span;
+
+pub use check::Check;
+pub use guarded::{Guarded, checks_hold};
+pub use kernel_checks::checks_of;
+pub use laws::{
+    checks_keep_apart, checks_keep_rules, guarded_programs_fit, noalias_is_well_formed,
+};
+pub use noalias::all_noalias;
+pub use printing::print_guarded;
+pub use reading::parse_guarded;

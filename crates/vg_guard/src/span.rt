@@ -1,0 +1,12 @@
+//! Ranges of bytes behind pointers.
+
+/// Bytes behind a pointer.
+#[derive(Clone, Copy)]
+pub struct Span {
+    /// The number of the pointer among the pointers, from 0.
+    pub pointer: u32,
+    /// The offset of the first byte.
+    pub low: i64,
+    /// How many bytes they are.
+    pub len: u64,
+}
