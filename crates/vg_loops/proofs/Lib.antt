@@ -1,3 +1,4 @@
 pub mod MayTurn
 pub mod Steps
 pub mod Both
+pub mod Found

@@ -1,3 +1,5 @@
 pub mod View
 pub mod MayMove
 pub mod Counts
+pub mod Reader
+pub mod Formed

@@ -3,14 +3,13 @@
 ghost use Rattle.std.specs.Prelude.{◌≡◌, IfOk};
 
 use std::alloc::{AllocError, Global};
-use vg_base::Name;
 use vg_kernel::KParam;
 
 /// A parameter like another.
 fn copied_param(alloc: Global, param: &KParam) -> Result<KParam, AllocError>
     ensures { IfOk result (λ p. p ≡ param.now) }
 {
-    let name = Name::new(alloc, param.name.bytes())?;
+    let name = param.name.copy(alloc)?;
     Ok(KParam {
         name,
         kind: param.kind,

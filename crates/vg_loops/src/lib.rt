@@ -7,6 +7,7 @@
 mod copying;
 pub mod counted;
 mod limits;
+mod loop_reading;
 mod moving;
 mod running;
 mod turn;
@@ -14,6 +15,7 @@ mod unrolling;
 
 pub use counted::Loop;
 pub use limits::turns_of;
+pub use loop_reading::{loop_place, parse_loop};
 pub use running::run_loop;
 pub use unrolling::unroll;
 pub use vg_bits::Outcome;

@@ -12,7 +12,7 @@ use crate::copying::copied_params;
 use crate::counted::Loop;
 use crate::moving::moved_statement;
 use std::alloc::{AllocError, Global};
-use vg_base::{Items, Name};
+use vg_base::Items;
 use vg_kernel::{KStmt, Kernel};
 
 /// How many names statements give.
@@ -81,7 +81,7 @@ pub fn unroll(alloc: Global, source: &Loop, turns: u32) -> Result<Kernel, AllocE
 {
     let statements = unrolled_statements(alloc, source, turns)?;
     let params = copied_params(alloc, source.kernel.params.as_slice())?;
-    let name = Name::new(alloc, source.kernel.name.bytes())?;
+    let name = source.kernel.name.copy(alloc)?;
     Ok(Kernel {
         name,
         params: Items::from_vec(params),

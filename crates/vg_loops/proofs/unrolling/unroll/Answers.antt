@@ -9,7 +9,7 @@ use Rattle.vg_loops.proofs.unrolling.unroll.Goals as goal
 pub returns-clause-well_formed : goal.returns-clause-well_formed
 returns-clause-well_formed c =
     let l = loop_of c.args.source.now in
-    let name = c.in_ok-name.ensures ∙ c.bytes.ensures in
+    let name = c.in_ok-name.ensures in
     let params = c.from_vec.ensures ∙ c.in_ok-params.ensures ∙ c.as_slice.ensures in
     let statements = ap (map statement_of) c.from_vec-2.ensures ∙ c.in_ok-statements.ensures in
     let same : unrolled l c.args.turns ≡ record { name = c.in_ok-name.name; params = c.from_vec.result; statements = map statement_of c.from_vec-2.result } =
