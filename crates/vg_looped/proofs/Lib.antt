@@ -1,0 +1,3 @@
+pub mod Dense
+pub mod Turns
+pub mod LoopedTexts

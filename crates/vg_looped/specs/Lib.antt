@@ -1,0 +1,4 @@
+pub mod Steps
+pub mod Looped
+pub mod Grammar
+pub mod Laws
