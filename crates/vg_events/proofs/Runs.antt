@@ -54,7 +54,7 @@ IsBytes-drop zero l p = p
 IsBytes-drop (suc n) [] p = tt
 IsBytes-drop (suc n) (x ∷ l) p = IsBytes-drop n l p.1
 
-loaded-bytes : (m : List ℕ) (at : ℤ) (n : ℕ) (bs : List ℕ) → IsBytes m → loaded m at n ≡ Some bs → IsBytes bs
+pub loaded-bytes : (m : List ℕ) (at : ℤ) (n : ℕ) (bs : List ℕ) → IsBytes m → loaded m at n ≡ Some bs → IsBytes bs
 loaded-bytes m (negsuc a) n bs are e = absurd (cc)
 loaded-bytes m (pos a) n bs are e = subst IsBytes (sym (was-inside m a n bs e).1) (IsBytes-take n (drop a m) (IsBytes-drop a m are))
 

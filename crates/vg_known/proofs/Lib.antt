@@ -1,0 +1,16 @@
+pub mod Values
+pub mod Follow
+pub mod Walk
+pub mod Terms
+pub mod Firsts
+pub mod Below
+pub mod Classes
+pub mod Naming
+pub mod Fitting
+pub mod Means
+pub mod Absent
+pub mod Begin
+pub mod Reading
+pub mod Calls
+pub mod Stored
+pub mod Same

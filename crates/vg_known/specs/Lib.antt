@@ -1,0 +1,9 @@
+pub mod Cuts
+pub mod FirstLoads
+pub mod Kernels
+pub mod Calls
+pub mod Known
+pub mod Labels
+pub mod Params
+pub mod Difference
+pub mod Laws

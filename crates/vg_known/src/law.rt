@@ -1,0 +1,10 @@
+//! The law on the first difference.
+
+ghost use Rattle.vg_known.specs.Laws.{SameMeansUnits};
+
+/// Where a valid program has no difference to a sound kernel, it leaves what the units of the kernel leave,
+/// or traps where they do, in each layout that respects noalias: whatever calls give, if the lanes of the
+/// instances that are called say what that is.
+pub fn same_means_units()
+    ensures { SameMeansUnits }
+{}
