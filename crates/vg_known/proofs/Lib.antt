@@ -14,3 +14,4 @@ pub mod Reading
 pub mod Calls
 pub mod Stored
 pub mod Same
+pub mod OneWord

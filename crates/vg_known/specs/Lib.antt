@@ -7,3 +7,4 @@ pub mod Labels
 pub mod Params
 pub mod Difference
 pub mod Laws
+pub mod OneWord

@@ -7,4 +7,4 @@
 
 mod law;
 
-pub use law::same_means_units;
+pub use law::{bytes_mean_the_word, same_means_units};
