@@ -143,7 +143,7 @@ class Translation:
                                '{\n    memcpy(p, &x, sizeof x);\n}')
             return self.put(f'{name}({self.place(words[1])}, {value});')
         if words[0] == 'vstore':
-            return self.vstore(int(words[1]), self.place(words[2]), *self.register(words[3]))
+            return self.vstore(int(words[1]), self.place(words[2]), self.register(words[3])[0])
         target, kind = (words[0].split(':') + [None])[:2]
         if target.startswith('%v'):
             c, width = self.vector(words[2], words[3:])
@@ -247,7 +247,7 @@ class Translation:
                 32: f'_mm256_loadu_si256((const __m256i *)({place}))', 64: f'_mm512_loadu_si512((const void *)({place}))'}[size], \
             max(128, size * 8)
 
-    def vstore(self, size, place, register, _):
+    def vstore(self, size, place, register):
         if size == 4:
             name = self.helper('vegen_vstore4', 'static inline void vegen_vstore4(unsigned char *p, __m128i v)\n'
                                '{\n    const int x = _mm_cvtsi128_si32(v);\n    memcpy(p, &x, sizeof x);\n}')
