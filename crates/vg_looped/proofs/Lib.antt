@@ -1,3 +1,5 @@
 pub mod Dense
 pub mod Turns
 pub mod LoopedTexts
+pub mod PairLoop
+pub mod Printed

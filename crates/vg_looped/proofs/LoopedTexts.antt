@@ -1,8 +1,14 @@
 -- Whole looped texts.
-use Rattle.std.proofs.Common.{◌≡◌, ℕ, ◌+◌, ◌<◌, ◌≤◌, List, [], ◌∷◌, ◌++◌, length, ◌==◌, Result, Ok, Err, refl, sym, ap, subst, ◌∙◌, append_assoc, append-nil, length-append, arith}
+use Rattle.std.proofs.Common.{◌≡◌, ℕ, ◌+◌, ◌<◌, ◌≤◌, List, [], ◌∷◌, ◌++◌, length, ◌==◌, Result, Ok, Err, refl, sym, ap, subst, ◌∙◌, inl, inr, append_assoc, append-nil, length-append, arith}
 use Rattle.std.specs.Prelude.{codes}
 use Rattle.std.specs.List.{AllByRecursion}
-use Rattle.std.proofs.lemmas.Bool.{eqb-true}
+use Rattle.std.specs.Prelude.{nat_lt}
+use Rattle.std.specs.Result.{IfOk}
+use Rattle.std.proofs.lemmas.Bool.{cases_Bool, eqb-true, le-ltb, ltb-false}
+use Rattle.vg_text.specs.Place.{first_place}
+use Rattle.vg_program.specs.declared.program_fault.ProgramFault.{ProgramFault}
+use Rattle.vg_program.specs.declared.program_fault.ProgramFault.TheVariants as refused
+use Rattle.vg_program.specs.Faults.{Returns}
 use Rattle.std.proofs.lemmas.List.{nil_from_length}
 use Rattle.vg_pseudo.specs.declared.header.Header.{Header}
 use Rattle.vg_program.specs.declared.param.Param.{Param}
@@ -16,11 +22,11 @@ use Rattle.vg_program.proofs.Steps.{Holds, and_then, if_ok}
 use Rattle.vg_program.proofs.TokenLaws.{signs_takes, word_takes}
 use Rattle.vg_program.specs.Grammar.{signature_at, body_at}
 use Rattle.vg_program.proofs.ParamLaws.{signature-takes, signature-again}
-use Rattle.vg_program.proofs.ProgramLaws.{body-takes, body-again}
+use Rattle.vg_program.proofs.ProgramLaws.{body-takes, body-again, located_ok}
 use Rattle.vg_looped.specs.declared.looped.Looped.{Looped}
 use Rattle.vg_looped.specs.Steps.{Pair, stepped, steps_of}
 use Rattle.vg_looped.specs.Looped.{turns_text, looped_text, IsLooped, ArePairs, IsTimes}
-use Rattle.vg_looped.specs.Grammar.{turns_at, word_line_at, looped_at}
+use Rattle.vg_looped.specs.Grammar.{turns_at, word_line_at, looped_at, read_looped}
 use Rattle.vg_looped.specs.Laws.{WhatIsReadIsLooped, LoopedTextsAreRead}
 use Rattle.vg_looped.proofs.Dense.{length-steps, near-steps, pairs-back, steps-back, pairs-are}
 use Rattle.vg_looped.proofs.Turns.{turns-take, turns-again}
@@ -159,3 +165,23 @@ looped-texts-are-read headers l is =
       last_line.2,
       back,
     ) refl
+
+-- ---- with the limit and the places
+
+pub read_sound : (headers : List Header) (text : List ℕ) (r : Result Looped ProgramFault) → Returns r (read_looped headers text) → IfOk r (λ l. IsLooped headers l × (looped_text l ≡ text))
+unfolding read_looped
+read_sound headers text (Ok l) given = elim (cases_Bool (nat_lt 4194304 (length text))) [
+  | inl large ↦ let is : refusing ≡ Ok l = rw large at given in absurd cc
+  | inr small ↦ what-is-read-is-looped headers text l (ltb-false 4194304 (length text) small) (located_ok text (looped_at headers text) l (rw small at given))
+]
+  where
+    refusing : Result Looped ProgramFault
+    refusing = Err (refused.TooLarge first_place)
+read_sound headers text (Err fault) given = tt
+
+read_again : (headers : List Header) (l : Looped) → IsLooped headers l → read_looped headers (looped_text l) ≡ Ok l
+unfolding read_looped
+read_again headers l is = rw (le-ltb 4194304 (length (looped_text l)) is.size, looped-texts-are-read headers l is) refl
+
+pub read_complete : (headers : List Header) (text : List ℕ) (r : Result Looped ProgramFault) → Returns r (read_looped headers text) → (l : Looped) → IsLooped headers l → text ≡ looped_text l → Returns r (Ok l)
+read_complete headers text r given l is same = subst (λ (a : Result Looped ProgramFault). Returns r a) (ap (read_looped headers) same ∙ read_again headers l is) given

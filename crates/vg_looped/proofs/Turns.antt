@@ -20,7 +20,8 @@ use Rattle.vg_program.proofs.TokenLaws.{signs_takes, word_takes, name_takes, nam
 use Rattle.vg_program.proofs.NameLaws.{PointerAt, pointer_at, pointer_found, pointer_named, IntegerAt, integer_at, integer_found, integer_named}
 use Rattle.vg_looped.specs.Steps.{Pair}
 use Rattle.vg_looped.specs.Looped.{pair_text, pairs_text, turns_text, ArePairs, IsTimes}
-use Rattle.vg_looped.specs.Grammar.{number_from, times_at, pair_at, pairs_at, Told, turns_at}
+use Rattle.vg_looped.specs.Grammar.{number_from, times_at, pair_at, step_at, pairs_at, turns_at}
+use Rattle.vg_looped.specs.declared.told.Told.{Told}
 
 abbrev good : ℕ → Result ℕ Fault
 good x = Ok x
@@ -85,7 +86,7 @@ abbrev IsPair : List Param → ℕ → Pair → Type 0
 IsPair params least x = (least ≤ x.0) × (x.0 < length (pointers params)) × (1 ≤ x.1) × (x.1 ≤ 65536)
 
 pair-takes : (params : List Param) (least : ℕ) (text : List ℕ) → Holds (pair_at params least text) (λ x. (text ≡ pair_text params x.0 ++ x.1) × IsPair params least x.0)
-unfolding pair_at
+unfolding pair_at step_at
 pair-takes params least text =
     and_then _ _ _ _ (name_takes text) (λ name n.
     and_then _ _ (PointerAt 0 params name.0) _ (judged_ok _ _ _ (λ k e. pointer_at 0 0 params name.0 k (pointer_is _ k e))) (λ k p.
@@ -104,7 +105,7 @@ pair-takes params least text =
     joined a b rest = simp append_assoc
 
 pair-again : (params : List Param) (least : ℕ) (x : Pair) (rest : List ℕ) → AreParams params → IsPair params least x → Stops is_digit rest → pair_at params least (pair_text params x ++ rest) ≡ Ok (x, rest)
-unfolding pair_at signs_at
+unfolding pair_at step_at signs_at
 pair-again params least x rest p is stops =
     let name = name_of (slice_get (pointers params) x.0) in
     let found : named_in 0 0 params name ≡ named.Pointer x.0 = pointer_found 0 0 params x.0 is.1 p.distinct ∙ ap named.Pointer (let same : 0 + x.0 ≡ x.0 = omega arith in same) in

@@ -15,6 +15,7 @@ use Rattle.vg_program.specs.Params.{pointers}
 use Rattle.vg_program.specs.Text.{line_end}
 use Rattle.vg_program.specs.Tokens.{Read, met, unfit, begins, word_at, signs_at, name_at, number_at}
 use Rattle.vg_looped.specs.declared.looped.Looped.{Looped}
+use Rattle.vg_looped.specs.declared.told.Told.{Told}
 use Rattle.vg_looped.specs.Steps.{Pair, steps_of}
 
 -- a number from 1 to this one
@@ -28,16 +29,20 @@ times_at params text = do
   k ← judged text (integer_of (named_in 0 0 params name.0))
   Ok (k.0, name.1)
 
+-- a step behind its pointer
+unfoldable pub step_at : ℕ → List ℕ → Read Pair
+step_at pointer text = do
+  gap ← signs_at (codes " ") text
+  n ← number_at gap
+  step ← judged gap (number_from 65536 n.0)
+  Ok ((pointer, step), n.1)
+
 -- `p 4`, where a pointer may stand from this one on
 unfoldable pub pair_at : List Param → ℕ → List ℕ → Read Pair
 pair_at params least text = do
   name ← name_at text
   pointer ← judged text (pointer_of (named_in 0 0 params name.0))
-  if nat_lt pointer least then Err (met Shape text) else do
-    gap ← signs_at (codes " ") name.1
-    n ← number_at gap
-    step ← judged gap (number_from 65536 n.0)
-    Ok ((pointer, step), n.1)
+  if nat_lt pointer least then Err (met Shape text) else step_at pointer name.1
 
 -- pairs behind these, with room for so many more; 17 are never in order
 unfoldable pub pairs_at : ℕ → List Param → List Pair → ℕ → List ℕ → Read (List Pair)
@@ -48,12 +53,6 @@ pairs_at (suc room) params done least text = do
     rest ← signs_at (codes ", ") x.1
     pairs_at room params (done ++ x.0 ∷ []) (x.0.0 + 1) rest)
       else Ok (done ++ x.0 ∷ [], x.1)
-
--- what the first line tells of the turns
-pub record Told : Type 0 where
-  pub times : ℕ
-  pub pairs : List Pair
-  pub turns : ℕ
 
 -- ` times n step p 4 block 16`
 unfoldable pub turns_at : List Param → List ℕ → Read Told
@@ -100,8 +99,8 @@ looped_at headers text = do
   })
       else Err (unfit last)
 
--- the looped text that a text is, or its first fault, where these instructions may be called; a text of
--- more than 4 MiB is not looked at
+-- the looped text that a text is, or its first fault, where these instructions may be called; a
+-- text of more than 4 MiB is not looked at
 unfoldable pub read_looped : List Header → List ℕ → Result Looped ProgramFault
 read_looped headers text =
     if nat_lt 4194304 (length text) then Err (TooLarge first_place)

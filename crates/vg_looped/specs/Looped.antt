@@ -27,6 +27,18 @@ turns_text params times xs turns =
     codes " times " ++ (name_of (slice_get (integers params) times)
     ++ (codes " step " ++ (pairs_text params xs ++ (codes " block " ++ decimal turns))))
 
+-- `looped copy(d: ptr, n: i32) times n step d 4 block 16`, where these pointers have steps
+abbrev pub first_text : Looped → List Pair → List ℕ
+first_text l xs =
+    codes "looped " ++ (signature_text (signature_of l.block)
+    ++ (turns_text l.block.params l.times xs l.turns ++ line_end))
+
+-- the lines of both programs, and the last line
+abbrev pub programs_text : Looped → List ℕ
+programs_text l =
+    body_text l.block ++ (codes "rest" ++ (line_end ++ (body_text l.rest
+    ++ (codes "end looped" ++ line_end))))
+
 unfoldable pub looped_text : Looped → List ℕ
 looped_text l =
     codes "looped " ++ (signature_text (signature_of l.block)
@@ -44,9 +56,9 @@ abbrev pub IsTimes : List Param → ℕ → Type 0
 IsTimes params times =
     (b : ℕ) × (option_map (λ q. kind_bits q.kind) (slice_get (integers params) times) ≡ Some b)
 
--- The rules on a looped text: both programs keep theirs and have one name and the same parameters, the turns
--- are counted by an integer parameter, at least one pointer moves, a block has 1 to 16 turns, and the text has at
--- most 4 MiB.
+-- The rules on a looped text: both programs keep theirs and have one name and the same parameters,
+-- the turns are counted by an integer parameter, at least one pointer moves, a block has 1 to 16
+-- turns, and the text has at most 4 MiB.
 pub record IsLooped (headers : List Header) (l : Looped) : Type 0 where
   pub block : KeepsRules headers l.block
   pub rest : KeepsRules headers l.rest

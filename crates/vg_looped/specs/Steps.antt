@@ -16,3 +16,8 @@ steps_of k zero xs = []
 steps_of k (suc n) [] = 0 ∷ steps_of (k + 1) n []
 steps_of k (suc n) (x ∷ xs) =
     if x.0 == k then x.1 ∷ steps_of (k + 1) n xs else 0 ∷ steps_of (k + 1) n (x ∷ xs)
+
+-- the step of this pointer where no pair is of an earlier one, and the pairs that are left
+unfoldable pub step_for : ℕ → List Pair → ℕ × List Pair
+step_for k [] = (0, [])
+step_for k (x ∷ xs) = if x.0 == k then (x.1, xs) else (0, x ∷ xs)

@@ -3,8 +3,8 @@
 use vg_base::Items;
 use vg_program::Program;
 
-/// The program of a block of turns and that of one turn, under one first line: blocks run as long as there are
-/// turns for one, and the turns that are left over run one by one.
+/// The program of a block of turns and that of one turn, under one first line: blocks run as long
+/// as there are turns for one, and the turns that are left over run one by one.
 #[derive(Drop)]
 pub struct Looped {
     pub block: Program,
