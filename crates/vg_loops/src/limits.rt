@@ -73,7 +73,8 @@ fn statement_stays(steps: &[u32], turn: u32, statement: &KStmt) -> bool
 
 /// Whether the accesses of all statements do.
 fn all_stay(steps: &[u32], turn: u32, statements: &[KStmt]) -> bool
-    ensures { result ≡ list_all (statement_stays steps.now turn) (map statement_of statements.now) }
+    ensures { result ≡ list_all (statement_stays steps.now turn)
+        (map statement_of statements.now) }
 {
     let mut rest = statements;
     'statements: while let [statement, behind @ ..] = rest {
@@ -111,7 +112,8 @@ fn uses_of(kernel: &Kernel) -> u32
     cost - stores
 }
 
-/// Whether the kernel of so many turns keeps the limits, where a turn has so many loads and operations.
+/// Whether the kernel of so many turns keeps the limits, where a turn has so many loads and
+/// operations.
 #[tactic(auto, unfolding(vg_loop_laws::specs::Limits::keeps_limits))]
 fn keeps_limits(source: &Loop, uses: u32, turns: u32) -> bool
     requires well_formed { IsWellFormed (tree_of source.now.kernel) }

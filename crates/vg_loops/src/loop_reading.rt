@@ -297,11 +297,11 @@ fn read(alloc: Global, text: &[u8]) -> Result<Loop, KernelFault>
 
 /// Reads the text of a loop: `loop name (parameters) times n step p S, .. { statements }`.
 ///
-/// Where the text is none, the fault is the first that is met as it is read from left to right, with the place
-/// of its token; of two faults at one token the one with the greater number. `NoMovingStore` comes exactly where
-/// no store goes through a pointer with a step, at the brace that closes the statements, before what stands
-/// behind it. `TooLarge` comes exactly where the text has more than 262,144 bytes, and `LoopHere` never.
-/// `Memory` says nothing of the text.
+/// Where the text is none, the fault is the first that is met as it is read from left to right,
+/// with the place of its token; of two faults at one token the one with the greater number.
+/// `NoMovingStore` comes exactly where no store goes through a pointer with a step, at the brace
+/// that closes the statements, before what stands behind it. `TooLarge` comes exactly where the
+/// text has more than 262,144 bytes, and `LoopHere` never. `Memory` says nothing of the text.
 pub fn parse_loop(alloc: Global, text: &[u8]) -> Result<Loop, KernelFault>
     // What the reader answers, word by word: the loop, or the first fault and its place.
     ensures exact { Gives loop_of result (loop_from text.now) }
@@ -311,7 +311,8 @@ pub fn parse_loop(alloc: Global, text: &[u8]) -> Result<Loop, KernelFault>
     read(alloc, text)
 }
 
-/// The place of the word `loop` where a text begins with it, and so is read as a loop. Takes no memory.
+/// The place of the word `loop` where a text begins with it, and so is read as a loop. Takes no
+/// memory.
 pub fn loop_place(text: &[u8]) -> Option<Place>
     requires { length text.now ≤ 262144 }
     ensures place { result ≡ loop_place text.now }

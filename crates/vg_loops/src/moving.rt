@@ -48,7 +48,8 @@ fn moved(
     expression: &KExpr,
 ) -> Result<KExpr, AllocError>
     requires { MayMove steps.now turn names (expression_of expression.now) }
-    ensures { IfOk result (λ e. expression_of e ≡ moved steps.now turn names (expression_of expression.now)) }
+    ensures { IfOk result
+        (λ e. expression_of e ≡ moved steps.now turn names (expression_of expression.now)) }
 {
     match expression {
         KExpr::Argument { number, width } => Ok(KExpr::Argument {
@@ -162,7 +163,8 @@ pub(crate) fn moved_statement(
     statement: &KStmt,
 ) -> Result<KStmt, AllocError>
     requires { StatementMayMove steps.now turn names (statement_of statement.now) }
-    ensures { IfOk result (λ s. statement_of s ≡ moved_statement steps.now turn names (statement_of statement.now)) }
+    ensures { IfOk result
+        (λ s. statement_of s ≡ moved_statement steps.now turn names (statement_of statement.now)) }
 {
     match statement {
         KStmt::Assign { value } => {

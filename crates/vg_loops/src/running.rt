@@ -34,8 +34,8 @@ fn move_places(places: &mut [u64], steps: &[u32], count: u64)
     }
 }
 
-/// Runs so many blocks, each of so many turns, and moves the places on behind each. Behind a trap places and
-/// memory may be any. Takes no memory.
+/// Runs so many blocks, each of so many turns, and moves the places on behind each. Behind a trap
+/// places and memory may be any. Takes no memory.
 fn run_turns<T: Turn>(
     runner: &mut T,
     memory: &mut [u8],
@@ -106,10 +106,10 @@ fn turns_asked(times: u32, args: &[u64]) -> u64
     }
 }
 
-/// Runs a loop on a memory, in the room that was made for its kernel. The places are those of its pointers at the
-/// first turn, in bytes from the start of the memory, and the args the numbers of its integer parameters, each
-/// kind in the order of the parameters. `Trap` exactly where a turn traps; then the memory may hold any bytes.
-/// Takes no memory.
+/// Runs a loop on a memory, in the room that was made for its kernel. The places are those of its
+/// pointers at the first turn, in bytes from the start of the memory, and the args the numbers of
+/// its integer parameters, each kind in the order of the parameters. `Trap` exactly where a turn
+/// traps; then the memory may hold any bytes. Takes no memory.
 pub fn run_loop(
     source: &Loop,
     state: &mut KState,

@@ -57,7 +57,8 @@ fn put_turn(
 fn unrolled_statements(alloc: Global, source: &Loop, turns: u32) -> Result<Vec<KStmt>, AllocError>
     requires well_formed { IsWellFormed (tree_of source.now.kernel) }
     requires limits { KeepsLimits (loop_of source.now) turns }
-    ensures { IfOk result (λ ss. map statement_of ss.items ≡ (unrolled (loop_of source.now) turns).statements) }
+    ensures { IfOk result
+        (λ ss. map statement_of ss.items ≡ (unrolled (loop_of source.now) turns).statements) }
 {
     let statements = source.kernel.statements.as_slice();
     let steps = source.steps.as_slice();
@@ -71,8 +72,8 @@ fn unrolled_statements(alloc: Global, source: &Loop, turns: u32) -> Result<Vec<K
     Ok(unrolled)
 }
 
-/// The kernel of so many turns of a loop: its statements so many times, one turn behind the other, each with its
-/// offsets moved on by the turns before it and with names of its own.
+/// The kernel of so many turns of a loop: its statements so many times, one turn behind the other,
+/// each with its offsets moved on by the turns before it and with names of its own.
 pub fn unroll(alloc: Global, source: &Loop, turns: u32) -> Result<Kernel, AllocError>
     requires well_formed { IsWellFormed (tree_of source.now.kernel) }
     requires limits { KeepsLimits (loop_of source.now) turns }

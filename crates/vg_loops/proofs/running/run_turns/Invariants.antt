@@ -1,4 +1,5 @@
--- the places have moved by the turns that were run, and the turns that are left do from here what all were to do
+-- the places have moved by the turns that were run, and the turns that are left do from here what
+-- all were to do
 use Rattle.std.proofs.Common.{◌≡◌, ◌*◌, ◌-◌, ◌≤◌, length}
 use Rattle.vg_loop_laws.specs.Loops.{places_at, turns, block_of}
 use Rattle.vg_loops.proofs.running.run_turns.Given as goal
