@@ -120,10 +120,10 @@ pairs-none P v w (x ∷ vs) h s =
     ]
 
 -- none among the pairs of numbers in a row
-row-none : (P : (ℕ × ℕ) → Bool) (first n v w : ℕ) → find P (unit_pairs 0 (numbers_from first n)) ≡ None → first ≤ v → v < w → w < first + n → P (v, w) ≡ false
+row-none : (P : (ℕ × ℕ) → Bool) (first n v w : ℕ) → find P (unit_pairs (numbers_from first n)) ≡ None → first ≤ v → v < w → w < first + n → P (v, w) ≡ false
 row-none P first zero v w h low less high = absurd (omega arith)
 row-none P first (suc n) v w h low less high =
-    let parts = find-behind P (map (λ x. (first, x)) (numbers_from (first + 1) n)) (unit_pairs 0 (numbers_from (first + 1) n)) h in
+    let parts = find-behind P (map (λ x. (first, x)) (numbers_from (first + 1) n)) (unit_pairs (numbers_from (first + 1) n)) h in
     elim (cases_lt first v) [
       | inl later ↦ row-none P (first + 1) n v w parts.1 (omega arith) less (omega arith)
       | inr here ↦
@@ -165,7 +165,7 @@ none-turned ssa lines h v w = elim (cases_Bool (is_out_of_order ssa lines v w)) 
       let both = first-access (noalias_flags ssa) (access_at ssa v) (access_at ssa w) two.0 in
       let vin = unit-inside ssa v both.0.0 both.0.1 in
       let win = unit-inside ssa w both.1.0 both.1.1 in
-      row-none (λ p. is_out_of_order ssa lines p.0 p.1) (arguments ssa) (length ssa.units) v w (mapped-none _ (find (λ p. is_out_of_order ssa lines p.0 p.1) (unit_pairs 0 (unit_numbers ssa))) h) vin.0 less win.1
+      row-none (λ p. is_out_of_order ssa lines p.0 p.1) (arguments ssa) (length ssa.units) v w (mapped-none _ (find (λ p. is_out_of_order ssa lines p.0 p.1) (unit_pairs (unit_numbers ssa))) h) vin.0 less win.1
 ]
 
 -- ---- values

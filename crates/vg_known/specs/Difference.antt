@@ -76,9 +76,9 @@ uneven_label ls ms =
 -- ---- order
 
 -- the numbers of units, each with every later one
-abbrev pub unit_pairs : ℕ → List ℕ → List (ℕ × ℕ)
-unit_pairs last [] = []
-unit_pairs last (v ∷ vs) = map (λ w. (v, w)) vs ++ unit_pairs last vs
+abbrev pub unit_pairs : List ℕ → List (ℕ × ℕ)
+unit_pairs [] = []
+unit_pairs (v ∷ vs) = map (λ w. (v, w)) vs ++ unit_pairs vs
 
 abbrev pub unit_numbers : Ssa → List ℕ
 unit_numbers ssa = numbers_from (arguments ssa) (length ssa.units)
@@ -87,7 +87,7 @@ unit_numbers ssa = numbers_from (arguments ssa) (length ssa.units)
 abbrev pub turned_units : Ssa → List (List ℕ) → Option Difference
 turned_units ssa lines =
     option_map (λ p. order p.0 p.1)
-    (find (λ p. is_out_of_order ssa lines p.0 p.1) (unit_pairs 0 (unit_numbers ssa)))
+    (find (λ p. is_out_of_order ssa lines p.0 p.1) (unit_pairs (unit_numbers ssa)))
 
 -- ---- values
 
