@@ -1,30 +1,26 @@
 -- What holds where there is no difference.
-use Rattle.std.proofs.Common.{◌≡◌, ℕ, zero, suc, ◌+◌, ◌-◌, ◌<◌, ◌≤◌, Bool, true, false, List, [], ◌∷◌, ◌++◌, length, map, Option, Some, None, refl, sym, ap, subst, ◌∙◌, inl, inr, arith, length-append}
+use Rattle.std.proofs.Common.{◌≡◌, ℕ, zero, suc, ◌+◌, ◌-◌, ◌<◌, ◌≤◌, Bool, true, false, List, [], ◌∷◌, ◌++◌, length, map, Option, Some, None, refl, sym, ap, ◌∙◌, inl, inr, arith}
 use Rattle.std.specs.Prelude.{filter, nat_eq, nat_lt, not, slice_get, ◌&&◌}
 use Rattle.std.specs.List.{find, list_any}
 use Rattle.std.specs.Option.{option_map, option_or}
 use Rattle.std.proofs.lemmas.Bool.{cases_Bool, cases_lt, cond-true, cond-false, eqb-true, le-ltb, lt-ltb, ltb-true}
 use Rattle.vg_base.specs.Trap.{◌>>=◌}
-use Rattle.vg_terms.specs.Order.{is_same_term}
-use Rattle.vg_terms.specs.Term.{Tree}
-use Rattle.vg_terms.proofs.Orders.{same_term}
-use Rattle.vg_program.specs.declared.line.Line.{Line}
 use Rattle.vg_program.specs.declared.program.Program.{Program}
 use Rattle.vg_shapes.specs.declared.access.Access.{Access}
 use Rattle.vg_shapes.specs.declared.ssa.Ssa.{Ssa}
 use Rattle.vg_shapes.specs.declared.unit.Unit.{Unit as Work}
 use Rattle.vg_shapes.specs.Depends.{conflict_at, conflict_of}
 use Rattle.vg_shapes.specs.Layout.{access_at, access_of, noalias_flags}
-use Rattle.vg_shapes.specs.Order.{count_of, numbers_from, one_if, Stands}
-use Rattle.vg_shapes.specs.Units.{arguments, unit_at}
+use Rattle.vg_shapes.specs.Order.{numbers_from, one_if, Stands}
+use Rattle.vg_shapes.specs.Units.{arguments}
 use Rattle.vg_catalog.specs.Entries.{Entry}
 use Rattle.vg_events.specs.Events.{kernel_labels, Label}
 use Rattle.vg_events.specs.Lines.{line_labels}
 use Rattle.vg_events.specs.Ranks.{count_label, SameCounts, same_label}
 use Rattle.vg_events.specs.UnitOrder.{is_late, is_out_of_order, unit_events}
 use Rattle.vg_events.proofs.Ranks.{numbers-inside, same-labels}
-use Rattle.vg_known.specs.Difference.{access, difference, Difference, first_of, is_opaque_call, is_uneven, opaque, opaque_line, order, other_value, params, lines_by_rank, sides_of, Sides, turned_units, uneven_label, unit_numbers, unit_pairs, value_at}
-use Rattle.vg_known.specs.Labels.{least_label, lesser}
+use Rattle.vg_known.specs.Difference.{difference, first_of, is_uneven, opaque_line, other_value, params, lines_by_rank, sides_of, turned_units, uneven_label, unit_numbers, unit_pairs, value_at}
+use Rattle.vg_known.specs.Labels.{least_label}
 use Rattle.vg_known.specs.Params.{same_head}
 
 -- ---- the parts

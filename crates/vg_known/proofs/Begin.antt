@@ -1,6 +1,6 @@
 -- What a sound kernel gives to begin with: widths, and the environment of a run.
-use Rattle.std.proofs.Common.{◌≡◌, ℕ, zero, suc, ◌+◌, ◌-◌, ◌%◌, ◌^◌, ◌<◌, ◌≤◌, Bool, true, false, List, [], ◌∷◌, ◌++◌, length, map, drop, get_or, Option, Some, None, refl, sym, ap, subst, ◌∙◌, inl, inr, arith, append_assoc, length-append}
-use Rattle.std.specs.Prelude.{filter, nat_eq, nat_lt, slice_get, slice_index, slice_index_or}
+use Rattle.std.proofs.Common.{◌≡◌, ℕ, zero, suc, ◌+◌, ◌-◌, ◌%◌, ◌^◌, ◌<◌, true, List, [], ◌∷◌, ◌++◌, length, map, Option, Some, None, refl, sym, ap, subst, ◌∙◌, inl, inr, arith, append_assoc, length-append}
+use Rattle.std.specs.Prelude.{slice_get, slice_index, slice_index_or}
 use Rattle.std.specs.List.{AllByRecursion}
 use Rattle.std.specs.Option.{option_map}
 use Rattle.std.proofs.lemmas.Bool.{cases_Bool, cases_lt, cond-true, cond-false, le-ltb, lt-ltb}
@@ -9,9 +9,8 @@ use Rattle.std.proofs.Math.Nat.{mod-eq_of_lt}
 use Rattle.vg_base.specs.Trap.{◌>>=◌}
 use Rattle.vg_base.specs.declared.width.Width.{Width}
 use Rattle.vg_base.specs.Width.{bits_of}
-use Rattle.vg_terms.specs.declared.term.LeafKey.{LeafKey}
 use Rattle.vg_terms.specs.declared.value.Env.{Env}
-use Rattle.vg_terms.specs.Term.{Tree, leaf, IsWidth}
+use Rattle.vg_terms.specs.Term.{leaf, IsWidth}
 use Rattle.vg_terms.specs.Value.{number_at, value}
 use Rattle.vg_shapes.specs.declared.ssa.Ssa.{Ssa}
 use Rattle.vg_shapes.specs.declared.ssa.SsaParam.{SsaParam}
@@ -25,8 +24,7 @@ use Rattle.vg_shapes.specs.declared.unit.Unit.TheVariants.{Load, Store, Operatio
 use Rattle.vg_shapes.specs.declared.wanted.Wanted.{Wanted}
 use Rattle.vg_shapes.specs.declared.wanted.Wanted.TheVariants.{Value, Constant, Nothing}
 use Rattle.vg_shapes.specs.Sound.{AreArguments, argument_key, IsBit, IsEarlier, IsNumber, IsOperation, IsUnit, kind_bits, pointers, TakeEarlier, TakesEarlier, unit_bits, value_bits}
-use Rattle.vg_shapes.specs.Units.{arguments, integers, integers_of, is_integer, unit_at}
-use Rattle.vg_order_laws.proofs.Runs.{unit-there}
+use Rattle.vg_shapes.specs.Units.{arguments, integers, integers_of, is_integer}
 use Rattle.vg_ssa.specs.Fitting.{IsTermOf}
 use Rattle.vg_ssa.specs.ValueTerm.{no_term}
 use Rattle.vg_ssa.proofs.OperationTerms.{bits-width}

@@ -1,11 +1,10 @@
 -- Which classes terms name: those of terms that were met before.
-use Rattle.std.proofs.Common.{◌≡◌, ℕ, zero, suc, ◌+◌, ◌<◌, ◌≤◌, ◌⊎◌, inl, inr, Bool, true, false, List, [], ◌∷◌, ◌++◌, length, map, take, drop, replicate, get_or, Option, Some, None, refl, sym, ap, subst, ◌∙◌, arith, length-append}
+use Rattle.std.proofs.Common.{◌≡◌, ℕ, zero, suc, ◌<◌, ◌≤◌, ◌⊎◌, inl, inr, Bool, true, false, List, [], ◌∷◌, ◌++◌, length, take, drop, replicate, get_or, Option, Some, None, refl, sym, subst, arith}
 use Rattle.std.specs.Prelude.{if◌then◌else◌, nat_eq, nat_le, position}
 use Rattle.std.specs.List.{list_any}
 use Rattle.std.proofs.lemmas.Bool.{cases_Bool, cases_lt, cond-true, cond-false}
 use Rattle.std.proofs.lemmas.List.{get_or_append_left, get_or_push, length_push}
 use Rattle.std.proofs.lemmas.List.Quantifiers.{position-Some}
-use Rattle.vg_bits.specs.Range.{range, replaced as put_in}
 use Rattle.vg_terms.specs.declared.term.LeafKey.{LeafKey}
 use Rattle.vg_terms.specs.Order.{is_same_term}
 use Rattle.vg_terms.specs.Resize.{low}
@@ -19,11 +18,11 @@ use Rattle.vg_scalar.specs.declared.resize.Resize.TheVariants.{Sext, Zext, Trunc
 use Rattle.vg_scalar.specs.declared.comparison.Comparison.TheVariants.{Eq, Slt, Ult}
 use Rattle.vg_shapes.specs.declared.unit.Operator.{Operator}
 use Rattle.vg_shapes.specs.declared.unit.Operator.TheVariants as operator
-use Rattle.vg_shapes.specs.Fits.{EachLeaf, replaced}
+use Rattle.vg_shapes.specs.Fits.{EachLeaf}
 use Rattle.vg_shapes.specs.Sound.{cut_key}
 use Rattle.vg_ssa.specs.ValueTerm.{no_term, operation_term}
 use Rattle.vg_lift.specs.Gather.{Bit, clear, input, of_term, Run, zeros, inputs, terms, start, longer, continues, shifted, whole, gather_from, gather, bits_from}
-use Rattle.vg_lift.specs.LaneTerm.{piece, pieces}
+use Rattle.vg_lift.specs.LaneTerm.{pieces}
 use Rattle.vg_known.specs.Cuts.{built, computed, cut, cut_bit, cut_bits, gathered, is_atom, leaf_for, met_with, small_or}
 
 -- a key names no class, or one below this

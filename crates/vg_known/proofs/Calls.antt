@@ -1,7 +1,7 @@
 -- A call gives what is known of its lanes.
-use Rattle.std.proofs.Common.{◌≡◌, ℕ, zero, suc, ◌+◌, ◌*◌, ◌%◌, ◌^◌, ◌<◌, ◌≤◌, Bool, true, false, List, [], ◌∷◌, ◌++◌, length, map, take, drop, get_or, Option, Some, None, refl, sym, ap, subst, ◌∙◌, inl, inr, arith, length-append}
-use Rattle.std.specs.Prelude.{IsSomeAnd, pos, slice_get, ◌||◌}
-use Rattle.std.specs.List.{AllByRecursion, find, flat_map, list_any}
+use Rattle.std.proofs.Common.{◌≡◌, ℕ, zero, suc, ◌+◌, ◌*◌, ◌≤◌, Bool, true, false, List, [], ◌∷◌, ◌++◌, length, map, take, drop, get_or, Option, Some, None, refl, sym, ap, subst, ◌∙◌, inl, inr, arith, length-append}
+use Rattle.std.specs.Prelude.{IsSomeAnd, slice_get, ◌||◌}
+use Rattle.std.specs.List.{AllByRecursion, flat_map, list_any}
 use Rattle.std.specs.Option.{option_map, option_map_or}
 use Rattle.std.specs.Str.{bytes_eq}
 use Rattle.std.proofs.lemmas.Bool.{cases_Bool, cond-true, cond-false}
@@ -12,8 +12,6 @@ use Rattle.vg_bits.specs.Range.{range}
 use Rattle.vg_bits.proofs.BitLists.{bits-num-range}
 use Rattle.vg_bits.proofs.Ranges.{length-range, range-halves}
 use Rattle.vg_terms.specs.declared.term.LeafKey.{LeafKey}
-use Rattle.vg_terms.specs.declared.term.OneOp.{OneOp}
-use Rattle.vg_terms.specs.declared.term.TwoOp.{TwoOp}
 use Rattle.vg_terms.specs.declared.value.Env.{Env}
 use Rattle.vg_terms.specs.Term.{Tree, leaf, constant, one, two, sel, IsWidth, OneFits, TwoFits, width_of, WellFormed}
 use Rattle.vg_terms.specs.Value.{value}
@@ -24,30 +22,28 @@ use Rattle.vg_pseudo.specs.declared.header.ImmRange.{ImmRange}
 use Rattle.vg_pseudo.specs.declared.header.Param.{Param}
 use Rattle.vg_program.specs.declared.line.Line.TheVariants.{Call}
 use Rattle.vg_program.specs.Before.{Before}
-use Rattle.vg_program.specs.Meaning.{Instructions, lane_number}
+use Rattle.vg_program.specs.Meaning.{Instructions}
 use Rattle.vg_program.specs.Valid.{header_of, IsCallOf, IsImm, IsLine}
 use Rattle.vg_program.proofs.Steps.{same_bytes}
 use Rattle.vg_shapes.specs.Description.{IsLane}
 use Rattle.vg_shapes.specs.Fits.{EachLeaf, replaced}
 use Rattle.vg_shapes.specs.Lane.{Lane, known, big, dynamic}
-use Rattle.vg_shapes.specs.Leaves.{bit_number}
 use Rattle.vg_shapes.specs.Registers.{AllBits, bits_key, env_of, LeavesInside, Reads}
 use Rattle.vg_shapes.proofs.Readings.{leaves-read}
 use Rattle.vg_shapes.proofs.Replacing.{replaced-value}
-use Rattle.vg_lanes.specs.Described.{canonical_lane, description, immediate, MayBeLane, registers, terms_of}
+use Rattle.vg_lanes.specs.Described.{canonical_lane, immediate, MayBeLane, registers, terms_of}
 use Rattle.vg_lift.specs.Gather.{Bit, bits_from, gather}
 use Rattle.vg_lift.proofs.Holding.{formed-drop, formed-take, range-map}
 use Rattle.vg_lift.proofs.Joining.{bits_from-formed, length-bits_from}
 use Rattle.vg_lift.proofs.Stands.{bit_value, BitsFormed}
-use Rattle.vg_emission.specs.Truth.{Answers, AreRegisters, LanesMean}
+use Rattle.vg_emission.specs.Truth.{AreRegisters, LanesMean}
 use Rattle.vg_catalog.specs.Called.{entry_named, headers_of, imm_number}
 use Rattle.vg_catalog.specs.Entries.{Entry}
 use Rattle.vg_known.specs.Calls.{bits_of_terms, call_terms, calls_opaque, is_opaque, lane_bits, lane_on, lanes_of, read_leaf, term_on}
 use Rattle.vg_known.specs.Cuts.{cut_bits}
 use Rattle.vg_known.specs.Known.{Given, Known, known_bits}
-use Rattle.vg_known.specs.Laws.{CallsAreTold, IsTold}
+use Rattle.vg_known.specs.Laws.{CallsAreTold}
 use Rattle.vg_known.proofs.Below.{canonical-each}
-use Rattle.vg_known.proofs.Fitting.{CallBits}
 use Rattle.vg_known.proofs.Follow.{CallFits, formed-append, HasBits, KnownFits, vector-at, VectorsFit, whole-image}
 use Rattle.vg_known.proofs.Means.{IsBits-image}
 use Rattle.vg_known.proofs.Values.{built-means, ClassesMean, cut_bits-formed, cut_bits-image, gather-made, image, Made, Means}

@@ -1,5 +1,5 @@
 -- In each run in a layout that respects noalias, a load reads what its first load read.
-use Rattle.std.proofs.Common.{◌≡◌, ℕ, zero, suc, ◌+◌, ◌%◌, ◌^◌, ◌<◌, ℤ, pos, negsuc, ◌⊎◌, inl, inr, Bool, true, false, List, [], ◌∷◌, ◌++◌, length, Option, Some, None, refl, sym, ap, subst, ◌∙◌, arith, append_assoc, length-append}
+use Rattle.std.proofs.Common.{◌≡◌, ℕ, ◌+◌, ℤ, pos, negsuc, ◌⊎◌, inl, inr, Bool, true, false, List, [], ◌∷◌, ◌++◌, length, Option, Some, None, refl, sym, ap, subst, ◌∙◌, arith, append_assoc}
 use Rattle.std.specs.Prelude.{nat_eq, nat_le, slice_index, ◌+ℤ◌, ◌≤ℤ◌, ◌&&◌, ◌||◌, not}
 use Rattle.std.specs.List.{cons_option, filter_map, list_any}
 use Rattle.std.specs.Ordering.{int_eq}
@@ -15,7 +15,7 @@ use Rattle.vg_base.specs.Bits.{bytes, number}
 use Rattle.vg_base.specs.Memory.{loaded, stored}
 use Rattle.vg_base.specs.Trap.{◌>>=◌}
 use Rattle.vg_base.specs.Width.{bits_of, size_of}
-use Rattle.vg_bits.specs.Range.{range, replaced}
+use Rattle.vg_bits.specs.Range.{replaced}
 use Rattle.vg_bits.proofs.ByteLists.{length-bytes}
 use Rattle.vg_bits.proofs.Ranges.{length-replaced, range-replaced_beside}
 use Rattle.vg_shapes.specs.declared.access.Access.{Access}
@@ -23,14 +23,14 @@ use Rattle.vg_shapes.specs.declared.ssa.Ssa.{Ssa}
 use Rattle.vg_shapes.specs.declared.unit.Unit.{Unit as Work}
 use Rattle.vg_shapes.specs.declared.unit.Unit.TheVariants.{Load, Store, Operation}
 use Rattle.vg_shapes.specs.Depends.{conflict}
-use Rattle.vg_shapes.specs.Layout.{access_at, access_of, AreApart, noalias_flags, Respects}
+use Rattle.vg_shapes.specs.Layout.{access_at, access_of, noalias_flags, Respects}
 use Rattle.vg_shapes.specs.RunUnits.{number_of, Reached, reached, result_of, run_units, unit_run}
 use Rattle.vg_shapes.specs.Units.{arguments, unit_at}
 use Rattle.vg_shapes.proofs.Apart.{access-listed, no-conflict-apart}
 use Rattle.vg_order_laws.proofs.Accesses.{Apart, loaded-inside, loaded-outside, NatApart, stored-inside, stored-outside}
 use Rattle.vg_order_laws.proofs.Runs.{more-numbers, unit-there, went_well}
 use Rattle.vg_known.proofs.Terms.{gave}
-use Rattle.vg_known.specs.FirstLoads.{are_quiet, first_in, first_load, is_load, read_of}
+use Rattle.vg_known.specs.FirstLoads.{are_quiet, first_in, is_load, read_of}
 
 -- ---- a store apart keeps what a load reads
 

@@ -1,16 +1,15 @@
 -- What is known fits what is defined, and what is stored is eight bits for each event, whatever runs.
-use Rattle.std.proofs.Common.{◌≡◌, ℕ, zero, suc, ◌+◌, ◌-◌, ◌*◌, ◌<◌, ◌≤◌, Bool, false, List, [], ◌∷◌, ◌++◌, length, map, take, drop, replicate, Option, Some, None, refl, sym, ap, subst, ◌∙◌, inl, inr, arith, length-append}
+use Rattle.std.proofs.Common.{◌≡◌, ℕ, ◌+◌, ◌-◌, ◌*◌, ◌<◌, ◌≤◌, false, List, [], ◌∷◌, ◌++◌, length, map, take, drop, replicate, refl, sym, ap, subst, ◌∙◌, inl, inr, arith, length-append}
 use Rattle.std.specs.Prelude.{nat_eq, slice_get}
-use Rattle.std.proofs.lemmas.Bool.{cases_Bool, cond-true, cond-false, eqb-true}
+use Rattle.std.proofs.lemmas.Bool.{cases_Bool, cond-true, cond-false}
 use Rattle.std.proofs.lemmas.List.{length-drop, length-take-le}
 use Rattle.vg_base.specs.declared.width.Width.{Width}
 use Rattle.vg_base.specs.Bits.{bits_of_bytes, num}
-use Rattle.vg_base.specs.Width.{bits_of, size_of}
+use Rattle.vg_base.specs.Width.{bits_of}
 use Rattle.vg_bits.specs.Range.{range, replaced}
 use Rattle.vg_bits.proofs.Ranges.{length-range, length-replaced}
 use Rattle.vg_terms.specs.declared.value.Env.{Env}
-use Rattle.vg_terms.specs.Term.{Tree, WellFormed, width_of}
-use Rattle.vg_terms.specs.Value.{value}
+use Rattle.vg_terms.specs.Term.{Tree}
 use Rattle.vg_program.specs.declared.defined.Defined.TheVariants.{Scalar, Vector}
 use Rattle.vg_program.specs.declared.line.Line.{Line}
 use Rattle.vg_program.specs.declared.line.Line.TheVariants.{Load, Store, Two, Shift, Resize, Compare, Select, VectorLoad, VectorStore, Constant, Insert, Extract, Call}
@@ -18,11 +17,11 @@ use Rattle.vg_program.specs.declared.param.Param.{Param}
 use Rattle.vg_program.specs.Before.{Before, with_defined}
 use Rattle.vg_program.specs.Params.{integers, kind_bits}
 use Rattle.vg_program.specs.Text.{defined}
-use Rattle.vg_program.specs.Valid.{AreLines, IsLane, IsLine}
+use Rattle.vg_program.specs.Valid.{IsLane, IsLine}
 use Rattle.vg_program.specs.Vectors.{bytes_of, constant_bits, register_of}
 use Rattle.vg_shapes.specs.declared.unit.Operator.{Operator}
 use Rattle.vg_shapes.specs.declared.unit.Operator.TheVariants as operator
-use Rattle.vg_shapes.specs.Order.{count_of, one_if, Stands}
+use Rattle.vg_shapes.specs.Order.{one_if, Stands}
 use Rattle.vg_shapes.specs.Registers.{Reads}
 use Rattle.vg_shapes.specs.Sound.{result_bits}
 use Rattle.vg_order_laws.proofs.Sequences.{counts-itself}
@@ -35,14 +34,13 @@ use Rattle.vg_lift.proofs.Joining.{bits_from-formed, length-bits_from}
 use Rattle.vg_lift.proofs.Stands.{BitsFormed}
 use Rattle.vg_events.specs.Events.{Label, label_at}
 use Rattle.vg_events.specs.Lines.{line_access}
-use Rattle.vg_events.specs.Pairs.{ArePaired, IsPaired, joined}
+use Rattle.vg_events.specs.Pairs.{IsPaired}
 use Rattle.vg_known.specs.Calls.{bits_of_terms, call_terms, lane_bits, met_with_all}
 use Rattle.vg_known.specs.Cuts.{computed, gathered}
 use Rattle.vg_known.specs.Kernels.{bits_at, pairs_of}
-use Rattle.vg_known.specs.Known.{event_bits, Given, know, know_all, Known, known_bits, operand_term, read_bits, with_met, with_puts, with_scalar, with_vector}
+use Rattle.vg_known.specs.Known.{event_bits, Given, know, Known, known_bits, operand_term, read_bits, with_met, with_puts, with_scalar, with_vector}
 use Rattle.vg_known.proofs.Follow.{bytes-fit, change-is, clears-formed, constant-wide, eight-size, few-bits, formed-append, HasBits, KnownFits, labelled-writes, lane-inside, length-clears, operand-fits, scalar-push, ScalarsFit, some-bits, some-there, vector-at, vector-push}
 use Rattle.vg_known.proofs.Values.{ClassesMean, computed-means, gathered-means, Means}
-use Rattle.vg_known.proofs.Walk.{classes-front, Grows, grows-on, know-grows, know_all-grows}
 
 -- eight bits of well-formed terms
 abbrev pub IsByte : List Bit → Type 0

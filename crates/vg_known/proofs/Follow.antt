@@ -1,9 +1,9 @@
 -- Each line leaves what is known of it.
-use Rattle.std.proofs.Common.{◌≡◌, ℕ, zero, suc, ◌+◌, ◌-◌, ◌*◌, ◌/◌, ◌%◌, ◌^◌, ◌<◌, ◌≤◌, ℤ, div-one, Bool, true, false, List, [], ◌∷◌, ◌++◌, length, map, take, drop, replicate, get_or, Option, Some, None, refl, sym, ap, subst, ◌∙◌, inl, inr, arith, length-append}
+use Rattle.std.proofs.Common.{◌≡◌, ℕ, zero, suc, ◌+◌, ◌-◌, ◌*◌, ◌/◌, ◌^◌, ◌<◌, ◌≤◌, ℤ, div-one, Bool, true, false, List, [], ◌∷◌, ◌++◌, length, map, take, drop, replicate, get_or, Option, Some, None, refl, sym, ap, subst, ◌∙◌, inl, inr, arith, length-append}
 use Rattle.std.specs.Prelude.{nat_eq, nat_lt, slice_get, slice_index, ◌||◌, IsSomeAnd, IsTrue}
 use Rattle.std.specs.Option.{option_map}
 use Rattle.std.proofs.lemmas.Bool.{cases_Bool, cond-true, cond-false, eqb-true, ltb-true}
-use Rattle.std.proofs.lemmas.List.{length-map, length_push, map-append}
+use Rattle.std.proofs.lemmas.List.{length-map, map-append}
 use Rattle.vg_base.specs.declared.address.Address.{Address}
 use Rattle.vg_base.specs.declared.width.Width.{Width}
 use Rattle.vg_base.specs.declared.width.Width.TheVariants.{W8, W16, W32, W64}
@@ -22,7 +22,7 @@ use Rattle.vg_scalar.specs.Scalar.{comparison_result, resize_result, select_resu
 use Rattle.vg_scalar.specs.declared.resize.Resize.{Resize as ResizeOp}
 use Rattle.vg_scalar.specs.declared.resize.Resize.TheVariants.{Sext, Zext, Trunc}
 use Rattle.vg_terms.specs.declared.value.Env.{Env}
-use Rattle.vg_terms.specs.Term.{Tree, constant, IsWidth, width_of, WellFormed}
+use Rattle.vg_terms.specs.Term.{Tree, constant}
 use Rattle.vg_terms.specs.Value.{value}
 use Rattle.vg_program.specs.declared.line.Line.{Line}
 use Rattle.vg_program.specs.declared.line.Line.TheVariants.{Load, Store, Two, Shift, Resize, Compare, Select, VectorLoad, VectorStore, Constant, Insert, Extract, Call}

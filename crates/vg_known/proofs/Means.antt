@@ -1,5 +1,5 @@
 -- The bits of events have the bytes of the kernel's run.
-use Rattle.std.proofs.Common.{◌≡◌, ℕ, zero, suc, ◌+◌, ◌-◌, ◌*◌, ◌<◌, ◌≤◌, Bool, true, false, List, [], ◌∷◌, ◌++◌, length, map, take, drop, Option, Some, None, refl, sym, ap, subst, ◌∙◌, inl, inr, arith, append_assoc, length-append}
+use Rattle.std.proofs.Common.{◌≡◌, ℕ, ◌+◌, ◌*◌, ◌<◌, ◌≤◌, true, false, List, [], ◌∷◌, ◌++◌, length, map, take, drop, sym, ap, subst, ◌∙◌, inl, inr, arith, append_assoc, length-append}
 use Rattle.std.specs.Prelude.{nat_eq, slice_index}
 use Rattle.std.proofs.lemmas.Bool.{cases_Bool, cases_lt, cond-true, cond-false, eqb-true}
 use Rattle.std.proofs.lemmas.List.{drop_at, length-drop, length-map, length-take-le, map-append, take_at}
@@ -25,8 +25,8 @@ use Rattle.vg_lift.proofs.Joining.{bits_from-formed, length-bits_from}
 use Rattle.vg_lift.proofs.Stands.{bit_value, BitsFormed}
 use Rattle.vg_events.specs.Events.{Label, label_at, labels_in, unit_labels}
 use Rattle.vg_events.specs.Steps.{all_bytes, unit_bytes}
-use Rattle.vg_events.proofs.Ranks.{length-labels, numbers-inside}
-use Rattle.vg_events.proofs.Runs.{event_count, length-unit_bytes, length-unit_labels}
+use Rattle.vg_events.proofs.Ranks.{numbers-inside}
+use Rattle.vg_events.proofs.Runs.{length-unit_bytes, length-unit_labels}
 use Rattle.vg_events.proofs.Steps.{bytes-numbers, labelled-numbers, length-numbers_from}
 use Rattle.vg_known.specs.Kernels.{bits_at, pairs_of, read_by, reads_from}
 use Rattle.vg_known.specs.Known.{event_bits}

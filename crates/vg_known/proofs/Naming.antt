@@ -1,10 +1,10 @@
 -- All terms that are known name classes of terms that were met before.
-use Rattle.std.proofs.Common.{◌≡◌, ℕ, zero, suc, ◌+◌, ◌-◌, ◌*◌, ◌<◌, ◌≤◌, inl, Bool, true, false, List, [], ◌∷◌, ◌++◌, length, map, take, drop, replicate, get_or, Option, Some, None, refl, sym, ap, subst, ◌∙◌, arith, length-append}
+use Rattle.std.proofs.Common.{ℕ, zero, suc, ◌+◌, ◌-◌, ◌*◌, ◌≤◌, inl, Bool, true, false, List, [], ◌∷◌, ◌++◌, length, map, take, drop, replicate, get_or, Option, Some, None, refl, ap, arith, length-append}
 use Rattle.std.specs.Prelude.{if◌then◌else◌, nat_eq, slice_index_or}
 use Rattle.std.specs.List.{flat_map}
 use Rattle.std.specs.Option.{option_map_or}
 use Rattle.vg_base.specs.Bits.{bits_of_bytes, num}
-use Rattle.vg_base.specs.Width.{bits_of, size_of}
+use Rattle.vg_base.specs.Width.{bits_of}
 use Rattle.vg_terms.specs.declared.term.LeafKey.{LeafKey}
 use Rattle.vg_terms.specs.Term.{Tree, leaf, constant, one, two, sel}
 use Rattle.vg_canon.specs.Canonical.{canonical}
@@ -20,7 +20,7 @@ use Rattle.vg_shapes.specs.declared.unit.Unit.{Unit as Work}
 use Rattle.vg_shapes.specs.declared.unit.Unit.TheVariants as unit
 use Rattle.vg_shapes.specs.declared.wanted.Wanted.{Wanted}
 use Rattle.vg_shapes.specs.declared.wanted.Wanted.TheVariants as wanted
-use Rattle.vg_shapes.specs.Fits.{EachLeaf, replaced}
+use Rattle.vg_shapes.specs.Fits.{replaced}
 use Rattle.vg_shapes.specs.Lane.{Lane, known, big, dynamic}
 use Rattle.vg_shapes.specs.Leaves.{bit_number}
 use Rattle.vg_ssa.specs.ValueTerm.{no_term}
@@ -34,10 +34,9 @@ use Rattle.vg_shapes.specs.Layout.{access_of}
 use Rattle.vg_events.specs.Events.{labels_in}
 use Rattle.vg_known.specs.Calls.{bits_of_terms, call_terms, lane_bits, lane_on, lanes_of, met_with_all, read_leaf, term_on}
 use Rattle.vg_known.specs.Cuts.{computed, cut_bits, gathered, met_with}
-use Rattle.vg_known.specs.FirstLoads.{first_load}
 use Rattle.vg_known.specs.Kernels.{argument_leaves, bits_at, pairs_of, read_by, reads_from, Terms, terms_behind, unit_term, with_term}
 use Rattle.vg_known.specs.Known.{event_bits, Given, know, know_all, Known, known_bits, operand_term, read_bits, with_met, with_puts, with_scalar, with_vector}
-use Rattle.vg_known.proofs.Below.{AreClasses, below-append, below-drop, below-take, bits-more, bits_from-below, BitsBelow, built-below, canonical-each, clears-below, computed-below, cut_bits-below, gather-below, gathered-below, met-classes, pieces-below, term-more, TermBelow}
+use Rattle.vg_known.proofs.Below.{AreClasses, below-append, below-drop, below-take, bits-more, bits_from-below, BitsBelow, built-below, clears-below, computed-below, cut_bits-below, gather-below, gathered-below, met-classes, pieces-below, term-more, TermBelow}
 use Rattle.vg_known.proofs.Walk.{Grows, met-grows, met_all-grows}
 
 longer : {A : Type 0} (xs ys : List A) → Grows xs ys → length xs ≤ length ys

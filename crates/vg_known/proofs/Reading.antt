@@ -1,7 +1,7 @@
 -- The environment of a run: each load's leaf has the number that the load read.
-use Rattle.std.proofs.Common.{◌≡◌, ℕ, zero, suc, ◌+◌, ◌-◌, ◌*◌, ◌%◌, ◌^◌, ◌<◌, ◌≤◌, Bool, List, [], ◌∷◌, ◌++◌, length, take, drop, get_or, Option, Some, None, refl, sym, ap, subst, ◌∙◌, arith, append_assoc, length-append}
+use Rattle.std.proofs.Common.{◌≡◌, ℕ, zero, suc, ◌+◌, ◌%◌, ◌^◌, ◌<◌, ◌≤◌, List, [], ◌∷◌, ◌++◌, length, drop, Option, Some, None, refl, sym, ap, subst, ◌∙◌, arith, append_assoc, length-append}
 use Rattle.std.specs.Prelude.{slice_get, slice_index, unwrap_or}
-use Rattle.std.proofs.lemmas.List.{get_or_append_left, get_or_push, length_push}
+use Rattle.std.proofs.lemmas.List.{length_push}
 use Rattle.std.proofs.lemmas.Nat.{mod_below, pow_pos}
 use Rattle.std.proofs.Math.Nat.{mod-eq_of_lt}
 use Rattle.vg_base.specs.declared.address.Address.{Address}
@@ -31,7 +31,7 @@ use Rattle.vg_events.proofs.Runs.{loaded-bytes, one-unit}
 use Rattle.vg_events.proofs.Steps.{loaded-length}
 use Rattle.vg_known.specs.FirstLoads.{first_in, first_load}
 use Rattle.vg_known.proofs.Classes.{class_env, class_values, other-key}
-use Rattle.vg_known.proofs.Firsts.{first-reads, found, IsBehind, load-reads, number-there, run-both}
+use Rattle.vg_known.proofs.Firsts.{first-reads, found, load-reads, number-there}
 use Rattle.vg_known.proofs.Follow.{eight-size}
 use Rattle.vg_known.proofs.Terms.{gave, LoadsStand}
 

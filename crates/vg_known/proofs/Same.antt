@@ -1,33 +1,29 @@
 -- Where there is no difference, the program means the units of the kernel.
-use Rattle.std.proofs.Common.{◌≡◌, ℕ, zero, suc, ◌+◌, ◌-◌, ◌*◌, ◌<◌, ◌≤◌, Bool, true, false, cond, List, [], ◌∷◌, ◌++◌, length, map, take, drop, Option, Some, None, refl, sym, ap, subst, ◌∙◌, inl, inr, arith, append_assoc, append-nil, length-append}
+use Rattle.std.proofs.Common.{◌≡◌, ℕ, zero, suc, ◌+◌, ◌<◌, ◌≤◌, Bool, true, false, cond, List, [], ◌∷◌, ◌++◌, length, map, take, drop, Option, Some, None, refl, sym, ap, subst, ◌∙◌, inl, inr, arith, append_assoc, append-nil, length-append}
 use Rattle.std.specs.Prelude.{nat_lt, not, position, slice_index, slice_index_or, ◌||◌, ◌&&◌}
 use Rattle.std.specs.List.{list_any, position_or_len}
 use Rattle.std.specs.Option.{is_some, option_map}
 use Rattle.std.specs.Str.{bytes_eq}
 use Rattle.std.proofs.lemmas.Bool.{cases_Bool, cond-true, cond-false, eqb-true, lt-ltb}
 use Rattle.std.proofs.lemmas.List.{length-drop, length-map, length_push, take_at}
-use Rattle.vg_base.specs.Bits.{bits, bits_of_bytes, bytes, num}
+use Rattle.vg_base.specs.Bits.{bits, bytes}
 use Rattle.vg_base.specs.Trap.{◌>>=◌}
 use Rattle.vg_base.specs.declared.width.Width.{Width}
 use Rattle.vg_base.specs.Width.{bits_of, size_of}
 use Rattle.vg_bits.specs.BitList.{IsBytes}
-use Rattle.vg_bits.proofs.ByteLists.{bits_of_bytes-bytes, IsBytes-bytes, length-bytes}
+use Rattle.vg_bits.proofs.ByteLists.{IsBytes-bytes}
 use Rattle.vg_terms.specs.declared.value.Env.{Env}
-use Rattle.vg_terms.specs.Order.{is_same_term}
 use Rattle.vg_terms.specs.Term.{Tree, constant, IsWidth}
 use Rattle.vg_terms.specs.Value.{value}
-use Rattle.vg_terms.proofs.Orders.{same_term}
 use Rattle.vg_program.specs.declared.line.Line.{Line}
 use Rattle.vg_program.specs.declared.param.Param.{Param}
 use Rattle.vg_program.specs.declared.param_kind.ParamKind.{ParamKind}
 use Rattle.vg_program.specs.declared.param_kind.ParamKind.TheVariants as kind
 use Rattle.vg_program.specs.declared.program.Program.{Program}
-use Rattle.vg_program.specs.Before.{Before, nothing_before, with_defined}
-use Rattle.vg_program.specs.Meaning.{begun, Inputs, Instructions, meaning, run, State}
+use Rattle.vg_program.specs.Before.{nothing_before}
+use Rattle.vg_program.specs.Meaning.{Inputs, Instructions, meaning, State}
 use Rattle.vg_program.specs.Params as program
-use Rattle.vg_program.specs.Text.{defined}
 use Rattle.vg_program.specs.Valid.{KeepsRules}
-use Rattle.vg_shapes.specs.declared.access.Access.{Access}
 use Rattle.vg_shapes.specs.declared.ssa.Ssa.{Ssa}
 use Rattle.vg_shapes.specs.declared.ssa.SsaParam.{SsaParam}
 use Rattle.vg_shapes.specs.declared.ssa.SsaParamKind.{SsaParamKind}
@@ -36,31 +32,25 @@ use Rattle.vg_shapes.specs.declared.unit.Unit.{Unit as Work}
 use Rattle.vg_shapes.specs.declared.unit.Unit.TheVariants.{Load, Store, Operation}
 use Rattle.vg_shapes.specs.declared.wanted.Wanted.{Wanted}
 use Rattle.vg_shapes.specs.declared.wanted.Wanted.TheVariants.{Value, Constant, Nothing}
-use Rattle.vg_shapes.specs.Layout.{access_at, access_of, noalias_flags, Respects}
-use Rattle.vg_shapes.specs.Order.{count_of, numbers_from, Stands}
+use Rattle.vg_shapes.specs.Layout.{noalias_flags, Respects}
+use Rattle.vg_shapes.specs.Order.{Stands}
 use Rattle.vg_shapes.specs.RunUnits.{number_of, Reached, run_units, start_of}
 use Rattle.vg_shapes.specs.Sound.{AreArguments, IsSound, kind_bits, pointers, TakeEarlier, unit_bits}
 use Rattle.vg_shapes.specs.Units.{arguments, integers, integers_of, is_integer}
-use Rattle.vg_order_laws.specs.Sequence.{run_steps}
 use Rattle.vg_order_laws.proofs.Runs.{more-numbers}
-use Rattle.vg_order_laws.proofs.Sequences.{count_of-append, count_of-numbers}
+use Rattle.vg_order_laws.proofs.Sequences.{count_of-numbers}
 use Rattle.vg_ssa.specs.ValueTerm.{no_term}
 use Rattle.vg_ssa.specs.ValueTerm as kernel
 use Rattle.vg_ssa.specs.Fitting.{IsTermOf}
 use Rattle.vg_ssa.proofs.OperationTerms.{bits-width}
 use Rattle.vg_ssa.proofs.Terms.{constant-term, Stand}
 use Rattle.vg_ssa.proofs.Typing.{number-stays, NumberIn, UnitIn, UnitsIn}
-use Rattle.vg_lift.specs.Gather.{Bit, bits_from}
-use Rattle.vg_lift.proofs.Joining.{bits_from-formed, length-bits_from}
-use Rattle.vg_lift.proofs.Stands.{BitsFormed}
 use Rattle.vg_catalog.specs.Called.{headers_of}
 use Rattle.vg_catalog.specs.Entries.{Entry}
-use Rattle.vg_events.specs.Events.{kernel_labels, Label, label_at, unit_labels}
+use Rattle.vg_events.specs.Events.{kernel_labels, label_at}
 use Rattle.vg_events.specs.Lines.{line_access, line_labels}
-use Rattle.vg_events.specs.Orders.{LinesInOrder}
-use Rattle.vg_events.specs.Pairs.{AreEvents, ArePaired, joined}
-use Rattle.vg_events.specs.Ranks.{by_rank, SameCounts}
-use Rattle.vg_events.specs.Steps.{all_bytes, event_step, unit_bytes}
+use Rattle.vg_events.specs.Pairs.{joined}
+use Rattle.vg_events.specs.Steps.{all_bytes}
 use Rattle.vg_events.proofs.Orders.{event-inside, orders-step}
 use Rattle.vg_events.proofs.Ranks.{equal-counts-pair, numbers-inside}
 use Rattle.vg_events.proofs.Runs.{IsBytes-append, runs-are-events}
@@ -69,21 +59,21 @@ use Rattle.vg_events.proofs.Traps.{trap-together}
 use Rattle.vg_events.proofs.UnitOrder.{unit-order-is-by-events}
 use Rattle.vg_known.specs.Difference.{is_opaque_call, lines_by_rank, opaque, opaque_line, sides_of}
 use Rattle.vg_known.specs.Kernels.{argument_leaves, bits_at, kernel_reads, kernel_terms, reads_from, Terms, terms_behind, unit_term, with_term}
-use Rattle.vg_known.specs.Known.{event_bits, Given, know, know_all, Known}
+use Rattle.vg_known.specs.Known.{Given, know_all, Known}
 use Rattle.vg_known.specs.Laws.{CallsAreTold, SameMeansUnits}
-use Rattle.vg_known.specs.Params.{same_head, same_kind, same_params}
+use Rattle.vg_known.specs.Params.{same_kind, same_params}
 use Rattle.vg_known.proofs.Absent.{absent, Absent, none-other, none-turned, same-counts}
 use Rattle.vg_known.proofs.Begin.{argument_bits, arguments-long, arguments-mean, arguments-stand, bits_behind, units-in}
 use Rattle.vg_known.proofs.Below.{AreClasses}
 use Rattle.vg_known.proofs.Classes.{classes-mean}
 use Rattle.vg_known.proofs.Fitting.{found-formed}
-use Rattle.vg_known.proofs.Follow.{CallFits, GivenFits, HasByte, KnownFits, ScalarsFit, shown, whole-image}
-use Rattle.vg_known.proofs.Means.{each-has, found-has, LoadsMean, PairsHave, reads-have, reads-there, same-image}
+use Rattle.vg_known.proofs.Follow.{HasByte, KnownFits, ScalarsFit}
+use Rattle.vg_known.proofs.Means.{found-has, LoadsMean, PairsHave, reads-have, reads-there}
 use Rattle.vg_known.proofs.Naming.{know_all-named, leaves-named, Named, reads-below, terms-named, TermsBelow}
 use Rattle.vg_known.proofs.Reading.{argument-reads, loads-stand, reads-nothing, run_env, run_pairs}
 use Rattle.vg_known.proofs.Stored.{calls-fit, puts-there, Stored, stores-have, StoresMean, walk-formed}
-use Rattle.vg_known.proofs.Terms.{AllMean, Each, terms-grow, terms-mean}
-use Rattle.vg_known.proofs.Values.{ClassesMean, gathered-means, image}
+use Rattle.vg_known.proofs.Terms.{AllMean, Each, terms-mean}
+use Rattle.vg_known.proofs.Values.{image}
 use Rattle.vg_known.proofs.Walk.{classes-front, Grows, grows-not, grows-on, know_all-grows, lines-follow}
 
 -- ---- lists

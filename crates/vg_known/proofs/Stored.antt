@@ -1,9 +1,9 @@
 -- What a program stores has the bytes that the kernel stores, where the stored terms are equal.
-use Rattle.std.proofs.Common.{◌≡◌, ℕ, zero, suc, ◌+◌, ◌-◌, ◌*◌, ◌<◌, ◌≤◌, Bool, true, false, List, [], ◌∷◌, ◌++◌, length, map, take, Option, Some, None, refl, sym, ap, subst, ◌∙◌, inl, inr, arith, append_assoc, append-nil, length-append}
+use Rattle.std.proofs.Common.{◌≡◌, ℕ, ◌+◌, ◌-◌, ◌*◌, ◌<◌, ◌≤◌, Bool, true, false, List, [], ◌∷◌, ◌++◌, length, map, Some, None, refl, sym, ap, subst, ◌∙◌, inl, inr, arith, append_assoc, append-nil, length-append}
 use Rattle.std.specs.Prelude.{if◌then◌else◌, slice_index, slice_index_or, ◌||◌}
 use Rattle.std.specs.List.{list_any}
-use Rattle.std.proofs.lemmas.Bool.{cases_Bool, cases_lt, cond-true, cond-false}
-use Rattle.std.proofs.lemmas.List.{length_push, map-append}
+use Rattle.std.proofs.lemmas.Bool.{cases_Bool, cases_lt, cond-false}
+use Rattle.std.proofs.lemmas.List.{map-append}
 use Rattle.vg_base.specs.declared.address.Address.{Address}
 use Rattle.vg_base.specs.declared.width.Width.{Width}
 use Rattle.vg_base.specs.Bits.{bits, bits_of_bytes, bytes, num}
@@ -37,27 +37,25 @@ use Rattle.vg_lift.specs.Gather.{Bit, bits_from}
 use Rattle.vg_lift.proofs.Joining.{bits_from-formed, length-bits_from}
 use Rattle.vg_shapes.specs.Registers.{Reads}
 use Rattle.vg_catalog.specs.Called.{headers_of}
-use Rattle.vg_catalog.specs.Entries.{Entry}
 use Rattle.vg_events.specs.Events.{kernel_labels, Label, label_at, labels_in, unit_labels}
-use Rattle.vg_events.specs.Lines.{line_access, writes_of}
+use Rattle.vg_events.specs.Lines.{line_access}
 use Rattle.vg_events.specs.Pairs.{ArePaired, IsPaired, joined}
 use Rattle.vg_events.specs.Steps.{all_bytes, unit_bytes}
 use Rattle.vg_events.specs.UnitOrder.{spans, unit_events}
 use Rattle.vg_events.proofs.Ranks.{number-inside, numbers-inside}
-use Rattle.vg_events.proofs.Runs.{length-unit_bytes, length-unit_labels, some-bytes}
+use Rattle.vg_events.proofs.Runs.{length-unit_bytes, length-unit_labels}
 use Rattle.vg_events.proofs.Steps.{bytes-numbers, labelled-numbers, length-numbers_from}
-use Rattle.vg_known.specs.Calls.{calls_opaque}
 use Rattle.vg_known.specs.Cuts.{gathered}
 use Rattle.vg_known.specs.Difference.{is_opaque_call, own_term, put_term, Sides, value as differs, value_at}
-use Rattle.vg_known.specs.Kernels.{bits_at, pairs_of}
+use Rattle.vg_known.specs.Kernels.{bits_at}
 use Rattle.vg_known.specs.Known.{event_bits, Given, know, know_all, Known}
 use Rattle.vg_known.specs.Laws.{CallsAreTold}
 use Rattle.vg_known.proofs.Calls.{call-fits}
-use Rattle.vg_known.proofs.Fitting.{CallBits, events-formed, Fitted, found-formed, GivenFormed, IsByte, line-fits, PairsFormed}
+use Rattle.vg_known.proofs.Fitting.{CallBits, events-formed, Fitted, GivenFormed, IsByte, line-fits, PairsFormed}
 use Rattle.vg_known.proofs.Follow.{CallFits, eight-size, few-bits, KnownFits, labelled-writes, some-bits, whole-image}
 use Rattle.vg_known.proofs.Means.{each-has, same-image}
 use Rattle.vg_known.proofs.Values.{ClassesMean, gathered-means, image}
-use Rattle.vg_known.proofs.Walk.{CallsFit, classes-front, Grows, grows-on, keys, know-grows, know-puts, know_all-grows, know_all-puts, line_puts, pairs-keys, same-params}
+use Rattle.vg_known.proofs.Walk.{CallsFit, classes-front, grows-on, keys, know-grows, know-puts, know_all-grows, know_all-puts, line_puts, pairs-keys, same-params}
 
 -- ---- calls
 

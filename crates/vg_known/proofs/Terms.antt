@@ -1,17 +1,15 @@
 -- The terms of a kernel's values have the numbers of the values, in each run.
-use Rattle.std.proofs.Common.{◌≡◌, ℕ, zero, suc, ◌+◌, ◌<◌, Bool, true, false, List, [], ◌∷◌, ◌++◌, length, map, Option, Some, None, refl, sym, ap, subst, ◌∙◌, arith, append_assoc, append-nil}
+use Rattle.std.proofs.Common.{◌≡◌, ℕ, zero, suc, ◌+◌, Bool, List, [], ◌∷◌, ◌++◌, length, map, Option, Some, None, refl, sym, ap, subst, ◌∙◌, arith, append_assoc, append-nil}
 use Rattle.std.specs.Prelude.{slice_index, slice_index_or}
 use Rattle.std.proofs.lemmas.List.{get_or_append_left, get_or_push, length_push}
 use Rattle.vg_base.specs.declared.width.Width.{Width}
 use Rattle.vg_base.specs.Address.{place_of}
 use Rattle.vg_base.specs.Bits.{bytes, number}
 use Rattle.vg_base.specs.Memory.{loaded, stored}
-use Rattle.vg_base.specs.Trap.{◌>>=◌}
 use Rattle.vg_base.specs.Width.{bits_of, size_of}
 use Rattle.vg_terms.specs.declared.value.Env.{Env}
 use Rattle.vg_terms.specs.Term.{Tree, leaf, IsWidth}
 use Rattle.vg_terms.specs.Value.{value}
-use Rattle.vg_shapes.specs.declared.unit.Operands.{Operands}
 use Rattle.vg_shapes.specs.declared.unit.Operator.{Operator}
 use Rattle.vg_shapes.specs.declared.unit.Operator.TheVariants.{Two, Shift, Resize, Compare, Select}
 use Rattle.vg_shapes.specs.declared.unit.Unit.{Unit as Work}
@@ -25,7 +23,7 @@ use Rattle.vg_ssa.specs.Fitting.{IsTermOf}
 use Rattle.vg_ssa.specs.ValueTerm.{no_term, operand_term}
 use Rattle.vg_ssa.proofs.OperationTerms.{bits-width}
 use Rattle.vg_ssa.proofs.Terms.{leaf-term, Stand, whole-fit}
-use Rattle.vg_ssa.proofs.Typing.{OperationIn, UnitIn, UnitsIn}
+use Rattle.vg_ssa.proofs.Typing.{UnitIn, UnitsIn}
 use Rattle.vg_known.specs.Cuts.{computed}
 use Rattle.vg_known.specs.FirstLoads.{first_load}
 use Rattle.vg_known.specs.Kernels.{Terms, terms_behind, unit_term, with_term}

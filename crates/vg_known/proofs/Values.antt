@@ -1,5 +1,5 @@
 -- The values of terms that are made of known ones, cut or not.
-use Rattle.std.proofs.Common.{◌≡◌, ℕ, zero, suc, ◌+◌, ◌*◌, ◌/◌, ◌%◌, ◌^◌, ◌<◌, ◌≤◌, Bool, true, false, cond, List, [], ◌∷◌, ◌++◌, length, map, get_or, Option, Some, None, refl, sym, ap, subst, ◌∙◌, inl, inr, arith, length-append}
+use Rattle.std.proofs.Common.{◌≡◌, ℕ, ◌/◌, ◌%◌, ◌^◌, ◌<◌, ◌≤◌, List, [], ◌∷◌, length, map, get_or, Option, Some, None, refl, sym, ap, subst, ◌∙◌, inl, inr, arith}
 use Rattle.std.specs.Prelude.{nat_le, position}
 use Rattle.std.proofs.lemmas.Bool.{cases_Bool, cond-true, cond-false}
 use Rattle.std.proofs.lemmas.List.{length-map}
@@ -7,14 +7,12 @@ use Rattle.std.proofs.lemmas.List.Quantifiers.{position-Some}
 use Rattle.vg_base.specs.Bits.{num}
 use Rattle.vg_base.specs.declared.width.Width.{Width}
 use Rattle.vg_base.specs.Width.{bits_of}
-use Rattle.vg_terms.specs.declared.term.LeafKey.{LeafKey}
 use Rattle.vg_terms.specs.declared.value.Env.{Env}
 use Rattle.vg_terms.specs.Order.{is_same_term}
 use Rattle.vg_terms.specs.Term.{Tree, leaf, constant, one, two, sel, IsWidth, node_count, width_of, WellFormed}
 use Rattle.vg_terms.specs.Value.{value}
 use Rattle.vg_terms.proofs.Orders.{same_term}
-use Rattle.vg_terms.proofs.Soundness.{width_some}
-use Rattle.vg_canon.specs.Canonical.{canonical, IsCanonical}
+use Rattle.vg_canon.specs.Canonical.{canonical}
 use Rattle.vg_canon.proofs.Forms.{canonical-settled}
 use Rattle.vg_shapes.specs.declared.unit.Operator.{Operator}
 use Rattle.vg_shapes.specs.declared.unit.Operator.TheVariants as operator
@@ -25,7 +23,7 @@ use Rattle.vg_ssa.specs.Fitting.{IsTermOf, OperandsFit}
 use Rattle.vg_ssa.specs.ValueTerm.{no_term, operation_term}
 use Rattle.vg_ssa.proofs.OperationTerms.{canonical-term, operation-formed, operation-means}
 use Rattle.vg_ssa.proofs.Terms.{leaf-term}
-use Rattle.vg_lift.specs.Gather.{Bit, clear, input, of_term, bits_from, gather}
+use Rattle.vg_lift.specs.Gather.{Bit, clear, input, of_term, gather}
 use Rattle.vg_lift.proofs.Gathering.{gather-formed, gather-value, gather-width}
 use Rattle.vg_lift.proofs.Stands.{BitFormed, BitsFormed, bit_value}
 use Rattle.vg_known.specs.Cuts.{built, computed, cut, cut_bit, cut_bits, gathered, is_atom, leaf_for, small_or}

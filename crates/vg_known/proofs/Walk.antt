@@ -1,12 +1,12 @@
 -- A walk over lines: what was met and stored stays, and the lines leave what is known of them.
-use Rattle.std.proofs.Common.{◌≡◌, ℕ, zero, suc, ◌+◌, ◌*◌, ◌<◌, ◌≤◌, Bool, true, false, List, [], ◌∷◌, ◌++◌, length, map, take, drop, get_or, Option, Some, None, refl, sym, ap, subst, ◌∙◌, inl, inr, arith, append_assoc, append-nil, length-append}
+use Rattle.std.proofs.Common.{◌≡◌, ℕ, ◌+◌, ◌*◌, ◌<◌, ◌≤◌, true, List, [], ◌∷◌, ◌++◌, length, map, take, drop, get_or, Some, refl, sym, ap, subst, ◌∙◌, inl, inr, arith, append_assoc, append-nil, length-append}
 use Rattle.std.specs.Prelude.{nat_eq}
 use Rattle.std.specs.List.{list_any}
 use Rattle.std.proofs.lemmas.Bool.{cases_Bool, cond-true, cond-false, eq-eqb}
 use Rattle.std.proofs.lemmas.List.{get_or_append_left, length-drop, length-take-le, map-append}
 use Rattle.vg_base.specs.Bits.{bits}
 use Rattle.vg_base.specs.Trap.{◌>>=◌}
-use Rattle.vg_base.specs.Width.{bits_of, size_of}
+use Rattle.vg_base.specs.Width.{bits_of}
 use Rattle.vg_bits.proofs.Ranges.{range-halves}
 use Rattle.vg_terms.specs.declared.value.Env.{Env}
 use Rattle.vg_terms.specs.Order.{is_same_term}

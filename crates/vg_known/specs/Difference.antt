@@ -1,15 +1,13 @@
 -- The first difference between a kernel and a program.
-use Rattle.std.specs.Prelude.{ℕ, ◌+◌, ◌-◌, Bool, true, false, ◌&&◌, not, nat_eq, List, [], ◌∷◌, ◌++◌, length, map, filter, flat_map, position, take, Option, Some, None, if◌then◌else◌}
+use Rattle.std.specs.Prelude.{ℕ, ◌+◌, Bool, false, not, nat_eq, List, [], ◌∷◌, ◌++◌, length, map, filter, position, take, Option, Some, None, if◌then◌else◌}
 use Rattle.std.specs.List.{find}
 use Rattle.std.specs.Option.{option_map, option_or}
-use Rattle.std.specs.Str.{bytes_eq}
 use Rattle.vg_base.specs.Trap.{◌>>=◌}
 use Rattle.vg_base.specs.Width.{bits_of}
 use Rattle.vg_terms.specs.Term.{Tree}
 use Rattle.vg_terms.specs.Order.{is_same_term}
 use Rattle.vg_program.specs.declared.line.Line.{Line}
 use Rattle.vg_program.specs.declared.line.Line.TheVariants.{Load, Store, Two, Shift, Resize, Compare, Select, VectorLoad, VectorStore, Constant, Insert, Extract, Call}
-use Rattle.vg_program.specs.declared.param.Param.{Param}
 use Rattle.vg_program.specs.declared.program.Program.{Program}
 use Rattle.vg_shapes.specs.declared.ssa.Ssa.{Ssa}
 use Rattle.vg_shapes.specs.declared.unit.Unit.{Unit as Work}
@@ -17,7 +15,7 @@ use Rattle.vg_shapes.specs.declared.unit.Unit.TheVariants as unit
 use Rattle.vg_shapes.specs.Order.{numbers_from}
 use Rattle.vg_shapes.specs.Units.{arguments, unit_at}
 use Rattle.vg_ssa.specs.ValueTerm as kernel
-use Rattle.vg_lift.specs.Gather.{Bit, bits_from}
+use Rattle.vg_lift.specs.Gather.{bits_from}
 use Rattle.vg_catalog.specs.Entries.{Entry}
 use Rattle.vg_events.specs.Events.{kernel_labels, Label}
 use Rattle.vg_events.specs.Lines.{line_access, line_labels}
@@ -25,8 +23,8 @@ use Rattle.vg_events.specs.Ranks.{by_rank, count_label}
 use Rattle.vg_events.specs.UnitOrder.{is_out_of_order, unit_events}
 use Rattle.vg_known.specs.Calls.{calls_opaque}
 use Rattle.vg_known.specs.Cuts.{gathered}
-use Rattle.vg_known.specs.Kernels.{bits_at, kernel_reads, kernel_terms, Terms}
-use Rattle.vg_known.specs.Known.{event_bits, Given, Known, know_all}
+use Rattle.vg_known.specs.Kernels.{bits_at, kernel_reads, kernel_terms}
+use Rattle.vg_known.specs.Known.{event_bits, Known, know_all}
 use Rattle.vg_known.specs.Labels.{least_label}
 use Rattle.vg_known.specs.Params.{same_head}
 

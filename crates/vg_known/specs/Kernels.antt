@@ -1,5 +1,5 @@
 -- The terms of the values of a kernel, and the bits of what its loads read.
-use Rattle.std.specs.Prelude.{ℕ, ◌+◌, ◌*◌, Bool, List, [], ◌∷◌, ◌++◌, length, drop, take, nat_eq, if◌then◌else◌}
+use Rattle.std.specs.Prelude.{ℕ, ◌+◌, Bool, List, [], ◌∷◌, ◌++◌, length, drop, take, nat_eq, if◌then◌else◌}
 use Rattle.vg_base.specs.Width.{bits_of, size_of}
 use Rattle.vg_terms.specs.Term.{Tree, leaf}
 use Rattle.vg_shapes.specs.declared.ssa.Ssa.{Ssa}

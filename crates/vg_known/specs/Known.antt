@@ -1,10 +1,10 @@
 -- What is known of scalars and registers behind the lines of a program, without a run: a term for each
 -- scalar, and for each bit of a register a bit of a term.
-use Rattle.std.specs.Prelude.{ℕ, ◌+◌, ◌-◌, ◌*◌, List, [], ◌∷◌, ◌++◌, length, map, take, replicate, get_or, slice_index}
+use Rattle.std.specs.Prelude.{ℕ, ◌-◌, ◌*◌, List, [], ◌∷◌, ◌++◌, length, map, take, replicate, get_or}
 use Rattle.vg_base.specs.Bits.{num, bits_of_bytes}
-use Rattle.vg_base.specs.Width.{bits_of, size_of}
+use Rattle.vg_base.specs.Width.{bits_of}
 use Rattle.vg_bits.specs.Range.{range, replaced}
-use Rattle.vg_terms.specs.Term.{Tree, leaf, constant}
+use Rattle.vg_terms.specs.Term.{Tree, constant}
 use Rattle.vg_program.specs.declared.line.Line.{Line}
 use Rattle.vg_program.specs.declared.line.Line.TheVariants.{Load, Store, Two, Shift, Resize, Compare, Select, VectorLoad, VectorStore, Constant, Insert, Extract, Call}
 use Rattle.vg_program.specs.declared.operand.Operand.{Operand}

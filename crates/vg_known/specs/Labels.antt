@@ -1,5 +1,5 @@
 -- The order of labels: loads before stores, then by pointer, then by offset.
-use Rattle.std.specs.Prelude.{ℕ, Bool, ◌&&◌, ◌||◌, not, nat_eq, nat_lt, int_lt, List, [], ◌∷◌, Option, Some, None, if◌then◌else◌}
+use Rattle.std.specs.Prelude.{Bool, ◌&&◌, ◌||◌, not, nat_eq, nat_lt, int_lt, List, [], ◌∷◌, Option, Some, None, if◌then◌else◌}
 use Rattle.vg_events.specs.Events.{Label}
 use Rattle.vg_events.specs.Ranks.{same_bool}
 

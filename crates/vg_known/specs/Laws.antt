@@ -1,6 +1,6 @@
 -- The law on the first difference: where there is none, the program means the units of the kernel.
-use Rattle.std.specs.Prelude.{◌≡◌, ℕ, ◌*◌, ◌<◌, ◌≤◌, false, List, length, map, Option, Some, None}
-use Rattle.std.specs.List.{AllByRecursion, list_any}
+use Rattle.std.specs.Prelude.{◌≡◌, ℕ, ◌<◌, ◌≤◌, false, List, map, Option, Some, None}
+use Rattle.std.specs.List.{list_any}
 use Rattle.vg_program.specs.declared.program.Program.{Program}
 use Rattle.vg_program.specs.Meaning.{Instructions}
 use Rattle.vg_program.specs.Valid.{IsImm, KeepsRules}

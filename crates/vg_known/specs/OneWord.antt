@@ -1,5 +1,5 @@
 -- A word that is stored, and a program that stores it byte by byte.
-use Rattle.std.specs.Prelude.{◌≡◌, ℕ, false, List, [], ◌∷◌, pos, codes, None}
+use Rattle.std.specs.Prelude.{◌≡◌, ℕ, false, [], ◌∷◌, pos, codes, None}
 use Rattle.vg_base.specs.declared.address.Address.{Address}
 use Rattle.vg_base.specs.declared.width.Width.TheVariants.{W8, W16}
 use Rattle.vg_program.specs.declared.line.Line.TheVariants as line

@@ -1,5 +1,5 @@
 -- Whether a program has the name and the parameters of a kernel.
-use Rattle.std.specs.Prelude.{ℕ, Bool, true, false, ◌&&◌, nat_eq, List, [], ◌∷◌}
+use Rattle.std.specs.Prelude.{Bool, true, false, ◌&&◌, nat_eq, List, [], ◌∷◌}
 use Rattle.std.specs.Str.{bytes_eq}
 use Rattle.vg_base.specs.Width.{bits_of}
 use Rattle.vg_program.specs.declared.param.Param.{Param}
