@@ -9,3 +9,4 @@ pub mod CheckLoop
 pub mod CheckTexts
 pub mod GuardedTexts
 pub mod GuardedSizes
+pub mod Whole

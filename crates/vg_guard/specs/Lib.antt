@@ -4,4 +4,5 @@ pub mod Checks
 pub mod Rules
 pub mod Guarded
 pub mod Grammar
+pub mod Compiled
 pub mod Laws

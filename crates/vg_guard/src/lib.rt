@@ -3,10 +3,12 @@
 //!
 //! `specs/Checks.antt` says which checks a kernel has and when they hold, `specs/Noalias.antt` what
 //! the kernel with every pointer noalias is, `specs/Guarded.antt` what the text and the meaning of
-//! guarded programs are, and `specs/Grammar.antt` what the first fault of any other text is.
+//! guarded programs are, `specs/Grammar.antt` what the first fault of any other text is, and
+//! `specs/Compiled.antt` what is compiled of a kernel with guards.
 #![tactic(auto)]
 
 pub mod check;
+mod compiling;
 pub mod guarded;
 mod kernel_checks;
 mod laws;
@@ -18,6 +20,7 @@ mod reading;
 mod span;
 
 pub use check::Check;
+pub use compiling::compile_guarded;
 pub use guarded::{Guarded, checks_hold};
 pub use kernel_checks::checks_of;
 pub use laws::{
