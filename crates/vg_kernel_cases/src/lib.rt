@@ -10,6 +10,8 @@ mod kernel_fronts;
 #[cfg(test)]
 mod kernel_limits;
 #[cfg(test)]
+mod kernel_parts;
+#[cfg(test)]
 mod kernel_readings;
 #[cfg(test)]
 mod kernel_runs;

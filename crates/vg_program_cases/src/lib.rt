@@ -6,6 +6,8 @@ mod machine_cases;
 #[cfg(test)]
 mod memories;
 #[cfg(test)]
+mod part_cases;
+#[cfg(test)]
 mod program_cases;
 #[cfg(test)]
 mod vector_cases;

@@ -1,0 +1,160 @@
+//! The checks of kernels, and the places at which they hold.
+
+ghost use Rattle.std.specs.Prelude.{IfOk};
+ghost use Rattle.vg_kernel.specs.Tree.{tree_of};
+ghost use Rattle.vg_kernel.specs.WellFormed.{IsWellFormed};
+
+use std::alloc::Global;
+use std::process::Abort;
+use std::test::Fail;
+use vg_guard::{Check, all_noalias, checks_hold, checks_of, parse_guarded};
+use vg_kernel::{KParamKind, Kernel, parse_kernel};
+
+fn read(alloc: Global, text: &str) -> Result<Kernel, Fail>
+    ensures { IfOk result (λ k. IsWellFormed (tree_of k)) }
+{
+    match parse_kernel(alloc, text.as_bytes()) {
+        Ok(kernel) => Ok(kernel),
+        Err(_) => Err("a kernel is refused".into()),
+    }
+}
+
+/// Writes each check as two ranges, `0+0:8 1-4:2`, a pointer by its number.
+fn spell(to: &mut String, checks: &[Check]) -> Result<(), Fail> {
+    for check in checks {
+        write!(
+            to,
+            "{}{:+}:{} {}{:+}:{};",
+            check.first,
+            check.first_low,
+            check.first_len,
+            check.second,
+            check.second_low,
+            check.second_len
+        )?;
+    }
+    Ok(())
+}
+
+/// Asserts that the kernel with these parameters and statements has these checks.
+fn expect(
+    rt: &impl Abort,
+    alloc: Global,
+    params: &str,
+    statements: &str,
+    checks: &str,
+) -> Result<(), Fail> {
+    let mut text = String::new(alloc);
+    for piece in ["kernel t(", params, ") { ", statements, " }"] {
+        text.push_str(piece)?;
+    }
+    let kernel = read(alloc, text.as_str())?;
+    let mut found = String::new(alloc);
+    spell(&mut found, checks_of(alloc, &kernel)?.as_slice())?;
+    assert!(rt; found.as_str() == checks, "{text}");
+    Ok(())
+}
+
+#[test]
+fn checks_are_of_pairs_of_which_one_is_stored_through(rt: HostRuntime) -> Result<(), Fail> {
+    let alloc = rt.alloc();
+    for (params, statements, checks) in [
+        (
+            "p: ptr, q: ptr",
+            "store32(p, load32(q)); store32(p + 4, load32(q + 4));",
+            "0+0:8 1+0:8;",
+        ),
+        ("p: noalias ptr, q: ptr", "store32(p, load32(q));", ""),
+        ("p: ptr, q: noalias ptr", "store32(p, load32(q));", ""),
+        ("p: ptr, q: ptr", "store32(p, 1i32);", ""),
+        ("p: ptr, q: ptr, k: i8", "x = load8(p) + load8(q);", ""),
+        (
+            "p: ptr, k: i8, q: ptr, d: ptr",
+            "store8(d, load8(p) + load8(q));",
+            "0+0:1 2+0:1;1+0:1 2+0:1;",
+        ),
+        (
+            "d: ptr, p: ptr, e: ptr",
+            "store8(d, 1i8); store8(e, load8(p));",
+            "0+0:1 1+0:1;0+0:1 2+0:1;1+0:1 2+0:1;",
+        ),
+        ("p: ptr", "store8(p, load8(p + 1));", ""),
+    ] {
+        expect(&rt, alloc, params, statements, checks)?;
+    }
+    Ok(())
+}
+
+#[test]
+fn a_check_goes_from_the_least_offset_to_the_farthest_byte(rt: HostRuntime) -> Result<(), Fail> {
+    let alloc = rt.alloc();
+    let params = "a: ptr, b: ptr, k: i8, d: i64";
+    for (statements, checks) in [
+        (
+            "store8(a - 2147483648, k); store64(a + 2147483647, d); x = load8(b);",
+            "0-2147483648:4294967303 1+0:1;",
+        ),
+        (
+            "x = load64(a - 3); store8(a + 1, k); y = load8(b + 7); z = load16(b + 5);",
+            "0-3:8 1+5:3;",
+        ),
+        (
+            "x = select(eq(load8(a), k), load8(a + 9), load8(b)); store8(b - 1, k);",
+            "0+0:10 1-1:2;",
+        ),
+    ] {
+        expect(&rt, alloc, params, statements, checks)?;
+    }
+    Ok(())
+}
+
+#[test]
+fn every_pointer_is_made_noalias(rt: HostRuntime) -> Result<(), Fail> {
+    let alloc = rt.alloc();
+    let kernel = read(
+        alloc,
+        "kernel t(p: ptr, k: i8, q: noalias ptr) { store8(p, k); }",
+    )?;
+    let noalias = all_noalias(alloc, &kernel)?;
+    assert!(rt; noalias.statements.as_slice().len() == 1);
+    for param in noalias.params.as_slice() {
+        let is_right = match param.kind {
+            KParamKind::Pointer { noalias } => noalias,
+            KParamKind::Integer(_) => true,
+        };
+        assert!(rt; is_right);
+    }
+    Ok(())
+}
+
+/// Two ranges of 8 bytes, that of q 2 bytes below its place.
+const TWO: &[u8] = b"guarded two(p: ptr, q: ptr)
+check disjoint p+0 8 q-2 8
+then
+end cost 0 scalar 0
+else
+end cost 0 scalar 0
+end checks 1
+";
+
+#[test]
+fn checks_hold_where_ranges_are_apart_or_touch(rt: HostRuntime) -> Result<(), Fail> {
+    let Ok(guarded) = parse_guarded(rt.alloc(), TWO, &[]) else {
+        return Err("a guarded text is refused".into());
+    };
+    for (p, q, holds) in [
+        (0, 10, true),
+        (0, 9, false),
+        (0, 2, false),
+        (6, 0, true),
+        (5, 0, false),
+        (100, 0, true),
+        (u64::MAX, u64::MAX - 6, true),
+        (u64::MAX, u64::MAX - 5, false),
+        (u64::MAX - 7, u64::MAX, false),
+        (u64::MAX, 0, true),
+    ] {
+        assert!(rt; checks_hold(&guarded, &[p, q]) == holds, "{p} {q}");
+    }
+    Ok(())
+}
