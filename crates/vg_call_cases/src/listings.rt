@@ -1,6 +1,7 @@
 //! The lines on the instances of a file, by the top call.
 
 use crate::desk::Desk;
+use std::alloc::Global;
 use std::test::Fail;
 use vg_top::Status;
 
@@ -60,7 +61,7 @@ const CASES: [Case; 11] = [
         "a shift by an unsigned local",
         "INSTRUCTION x PARAM a 128 SI32 RESULT dst 128 SI32 EXTENSION SSE2 COST 1 OPERATION\nv := a[31:0] t.dword := v dst[31:0] := a[31:0] >> t END\n",
         Status::Ok,
-        "instruction x\nlane 0 dynamic\nlane 1 0:32\nlane 2 0:32\nlane 3 0:32\nnot packable Dynamic\n",
+        "instruction x\nlane 0 dynamic\nlane 1 dynamic\nlane 2 dynamic\nlane 3 dynamic\nnot packable Dynamic\n",
         "",
     ),
     (
@@ -111,4 +112,42 @@ fn words_of_lift(rt: HostRuntime) -> Result<(), Fail> {
     desk.expect(&rt, &["lift"], Status::Usage, b"", b"vegen: usage\n")?;
     let mut desk = Desk::new(rt.alloc(), 1000)?;
     desk.expect(&rt, &["lift", "-i"], Status::Usage, b"", b"vegen: usage\n")
+}
+
+/// Four lanes that each extend a byte by zeros, since the name of a number variable is unsigned.
+const UNSIGNED_BYTES: &str =
+    "INSTRUCTION x PARAM a 128 SI8 RESULT dst 128 SI32 EXTENSION SSE2 COST 1 OPERATION\nFOR j := 0 to 3\nv := a.byte[j] t.byte := v dst.dword[j] := t\nENDFOR\nEND\n";
+
+const SIGNED_KERNEL: &str =
+    "kernel k(d: noalias ptr, p: ptr) { store32(d, sext32(load8(p))); store32(d + 4, sext32(load8(p + 1))); store32(d + 8, sext32(load8(p + 2))); store32(d + 12, sext32(load8(p + 3))); }";
+
+const UNSIGNED_KERNEL: &str =
+    "kernel k(d: noalias ptr, p: ptr) { store32(d, zext32(load8(p))); store32(d + 4, zext32(load8(p + 1))); store32(d + 8, zext32(load8(p + 2))); store32(d + 12, zext32(load8(p + 3))); }";
+
+const CALL_X: &str =
+    "program p(m: ptr)\n%v0 = vload 16 m+0\n%v1 = call x %v0\nvstore 4 m+0 %v1\nend cost 3 scalar 0\n";
+
+/// A desk with the instruction of unsigned bytes and one file more.
+fn desk_with(alloc: Global, name: &str, text: &str) -> Result<Desk, Fail> {
+    let mut desk = Desk::new(alloc, 1000)?;
+    desk.shelf.put("i", UNSIGNED_BYTES.as_bytes())?;
+    desk.shelf.put(name, text.as_bytes())?;
+    Ok(desk)
+}
+
+#[test]
+fn bytes_behind_number_variables_are_unsigned(rt: HostRuntime) -> Result<(), Fail> {
+    let mut desk = desk_with(rt.alloc(), "k", SIGNED_KERNEL)?;
+    assert!(rt; desk.run(&["compile", "i", "k"])? == Status::Ok);
+    assert!(rt; desk.out.written().ends_with(b"\nend cost 12 scalar 12\n"));
+    let mut desk = desk_with(rt.alloc(), "k", UNSIGNED_KERNEL)?;
+    assert!(rt; desk.run(&["compile", "i", "k"])? == Status::Ok);
+    assert!(rt; desk.out.written().ends_with(b"\nend cost 3 scalar 12\n"));
+    let mut desk = desk_with(rt.alloc(), "p", CALL_X)?;
+    desk.shelf.put(
+        "m",
+        &[255, 1, 2, 3, 4, 5, 6, 7, 8, 9, 10, 11, 12, 13, 14, 15],
+    )?;
+    let left: [u8; 16] = [255, 0, 0, 0, 4, 5, 6, 7, 8, 9, 10, 11, 12, 13, 14, 15];
+    desk.expect(&rt, &["run", "i", "p", "m", "m=0"], Status::Ok, &left, b"")
 }
