@@ -4,3 +4,4 @@ pub mod MemShelf
 pub mod MemSink
 pub mod Shelf
 pub mod Sink
+pub mod Text

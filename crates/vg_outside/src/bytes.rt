@@ -1,8 +1,10 @@
 //! Bytes that a collection owns.
 
 ghost use Rattle.std.specs.Prelude.{◌≡◌, IfOk};
+ghost use Rattle.vg_outside.specs.Text.{text_or_empty};
 
 use std::alloc::{AllocError, Global};
+use std::convert::AsStr;
 use std::marker::Model;
 
 /// Bytes of its own. Contracts see them as a list.
@@ -33,5 +35,17 @@ impl Bytes {
         ensures { result.now ≡ self.now }
     {
         self.all.as_slice()
+    }
+}
+
+/// As text: the empty text where the bytes are none in UTF-8.
+impl AsStr for Bytes {
+    ghost text = { text_or_empty };
+
+    fn as_str(&self) -> &str {
+        match std::str::from_utf8(self.as_slice()) {
+            Ok(text) => text,
+            Err(_) => "",
+        }
     }
 }
