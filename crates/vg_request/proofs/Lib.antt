@@ -1,2 +1,11 @@
+pub mod Asked
 pub mod Bindings
-pub mod Readings
+pub mod Command
+pub mod Commands
+pub mod Cuts
+pub mod PartsRead
+pub mod Plain
+pub mod Rows
+pub mod Spelled
+pub mod Texts
+pub mod Walks

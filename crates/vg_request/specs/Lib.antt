@@ -1,6 +1,8 @@
 pub mod Binding
+pub mod Found
 pub mod Options
 pub mod Parts
-pub mod Reading
+pub mod Readable
 pub mod Request
+pub mod Texts
 pub mod Word

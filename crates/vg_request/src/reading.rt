@@ -1,32 +1,127 @@
-//! Options and files read part after part.
+//! The words behind a command, read with `clap`.
 
-ghost use Rattle.std.specs.Prelude.{◌≡◌, option_map, length};
-ghost use Rattle.std.specs.Option.{option_and_then};
+ghost use Rattle.std.specs.Prelude.{◌≡◌, [], true, false, codes, Ok, None, IfOk, IfErr, option_map, unwrap_or};
+ghost use Rattle.clap.specs.Words.{kind_of};
 ghost use Rattle.vg_request.specs.Parts.{parts_of, part_seen};
-ghost use Rattle.vg_request.specs.Options.{kernel_asked, kernel_seen};
-ghost use Rattle.vg_request.specs.Reading.{more_width, more_allowed, more_files, with_part, read_on, nothing_read, asked_by, files_seen, read_seen};
-ghost use Rattle.vg_catalog.specs.Extensions.{bits_in};
+ghost use Rattle.vg_request.specs.Options.{kernel_asked, kernel_seen, two_files, choices_seen};
+ghost use Rattle.vg_request.specs.Readable.{is_width, is_second, are_options, are_plain};
+ghost use Rattle.vg_request.specs.Found.{HasParts, values_of, kernel_found};
+ghost use Rattle.vg_request.specs.Texts.{texts_of};
 
-use crate::options::{Options, USUAL_WIDTH, width_number};
+use crate::options::{Options, allowed_of, width_of};
 use crate::part::{Part, first_part};
-use bitflags::Flags;
-use vg_catalog::Extensions;
+use crate::word::is_plain;
+use clap::error::ErrorKind;
+use clap::{Arg, ArgAction, ArgMatches, Command, Error};
+use std::alloc::{AllocError, Global};
 use vg_outside::Bytes;
 
-/// The files that were read so far.
-#[derive(Clone, Copy)]
-pub(crate) enum Files<'a> {
-    None,
-    One(&'a str),
-    Two(&'a str, &'a str),
+fn is_width(part: Part<'_>) -> bool
+    ensures { result ≡ is_width (part_seen part.entry) }
+{
+    match part {
+        Part::Width(_) => true,
+        _ => false,
+    }
 }
 
-/// What was read so far.
-#[derive(Clone, Copy)]
-pub(crate) struct Reading<'a> {
-    width: Option<u32>,
-    allowed: Option<Extensions>,
-    files: Files<'a>,
+/// Whether a part is a width behind another one.
+fn is_second(seen: bool, part: Part<'_>) -> bool
+    ensures { result ≡ is_second seen (part_seen part.entry) }
+{
+    match part {
+        Part::Width(_) => seen,
+        _ => false,
+    }
+}
+
+/// Whether the words are options with their values, one width at most, and texts that do not begin
+/// with `-`. Takes no memory.
+fn are_options(words: &[Bytes]) -> bool
+    ensures { result ≡ are_options words.now }
+{
+    let mut left = words;
+    let mut seen = false;
+    'parts: while !left.is_empty() {
+        let Some(cut) = first_part(left) else {
+            return false;
+        };
+        if is_second(seen, cut.part) {
+            return false;
+        }
+        seen = seen || is_width(cut.part);
+        left = cut.behind;
+    }
+    true
+}
+
+/// Whether each word is text that does not begin with `-`. Takes no memory.
+pub(crate) fn are_plain(words: &[Bytes]) -> bool
+    ensures { result ≡ are_plain words.now }
+{
+    words.iter().all(|word| is_plain(word.as_slice()))
+}
+
+/// What `clap` reads of words that are options and files.
+fn read<'a>(alloc: Global, words: &'a [Bytes]) -> Result<ArgMatches<'a>, Error>
+    requires { are_options words.now ≡ true }
+    ensures ok { IfOk result (HasParts (parts_of words.now)) }
+    ensures err { IfErr result (λ e. kind_of e ≡ ErrorKind.OutOfMemory) }
+{
+    let width = Arg::new(alloc, "width")
+        .long("width")
+        .action(ArgAction::Set);
+    let with = Arg::new(alloc, "with")
+        .long("with")
+        .action(ArgAction::Append);
+    let files = Arg::new(alloc, "files").action(ArgAction::Append);
+    let command = Command::new(alloc, "vegen")
+        .no_binary_name(true)
+        .disable_help_flag(true)
+        .arg(width)?
+        .arg(with)?
+        .arg(files)?;
+    command.try_get_matches_from(words)
+}
+
+/// The same, where want of memory is the one fault.
+fn matched<'a>(alloc: Global, words: &'a [Bytes]) -> Result<ArgMatches<'a>, AllocError>
+    requires { are_options words.now ≡ true }
+    ensures { IfOk result (HasParts (parts_of words.now)) }
+{
+    match read(alloc, words) {
+        Ok(matches) => Ok(matches),
+        Err(_) => Err(AllocError),
+    }
+}
+
+/// What `clap` reads of words none of which is an option. Fails for want of memory alone.
+#[tactic(auto, using(crate::proofs::Plain::plain_are_options))]
+pub(crate) fn positional<'a>(
+    alloc: Global,
+    words: &'a [Bytes],
+) -> Result<ArgMatches<'a>, AllocError>
+    requires { are_plain words.now ≡ true }
+    ensures { IfOk result (λ m. values_of (codes "files") m ≡ words.now) }
+{
+    matched(alloc, words)
+}
+
+/// The values where there are some, else none.
+fn some_or_none<'m, 'a>(values: Option<&'m [&'a str]>) -> &'m [&'a str]
+    ensures { texts_of result.now ≡ unwrap_or (option_map (λ s. texts_of s.now) values.entry) [] }
+{
+    match values {
+        Some(values) => values,
+        None => &[],
+    }
+}
+
+/// The values of an argument, in their order. The texts outlive what `clap` matched.
+pub(crate) fn values_of<'m, 'a>(matches: &'m ArgMatches<'a>, id: &str) -> &'m [&'a str]
+    ensures { texts_of result.now ≡ values_of id.now matches.now }
+{
+    some_or_none(matches.get_strs(id))
 }
 
 /// An instruction file, a kernel, and what the options say.
@@ -37,109 +132,40 @@ pub(crate) struct OnKernel<'a> {
     pub(crate) options: Options,
 }
 
-fn nothing_read<'a>() -> Reading<'a>
-    ensures { read_seen result ≡ nothing_read }
+fn two_files<'a>(options: Options, files: &[&'a str]) -> Option<OnKernel<'a>>
+    ensures { option_map kernel_seen result ≡ two_files (choices_seen options) (texts_of files.now) }
 {
-    Reading {
-        width: None,
-        allowed: None,
-        files: Files::None,
-    }
-}
-
-/// The width, where none was given before.
-fn more_width(value: &str, before: Option<u32>) -> Option<Option<u32>>
-    ensures { result ≡ more_width value.now before }
-{
-    match before {
-        None => Some(Some(width_number(value)?)),
-        Some(_) => None,
-    }
-}
-
-/// The extensions named before, and one more.
-fn more_allowed(name: &str, before: Option<Extensions>) -> Option<Option<Extensions>>
-    ensures { option_map (λ set. option_map bits_in set) result
-        ≡ more_allowed name.now (option_map bits_in before) }
-{
-    let one = Extensions::from_name(name.as_bytes())?;
-    match before {
-        None => Some(Some(one)),
-        Some(set) => Some(Some(set.union(one))),
-    }
-}
-
-/// The files before, and one more. None behind two.
-fn more_files<'a>(name: &'a str, before: Files<'a>) -> Option<Files<'a>>
-    ensures { option_map files_seen result ≡ more_files name.now (files_seen before.entry) }
-{
-    match before {
-        Files::None => Some(Files::One(name)),
-        Files::One(first) => Some(Files::Two(first, name)),
-        Files::Two(..) => None,
-    }
-}
-
-impl<'a> Reading<'a> {
-    /// One part more.
-    fn with_part(self, part: Part<'a>) -> Option<Reading<'a>>
-        ensures { option_map read_seen result ≡ with_part (read_seen self.entry) (part_seen part.entry) }
-    {
-        match part {
-            Part::Width(value) => {
-                let width = more_width(value, self.width)?;
-                Some(Reading { width, ..self })
-            }
-            Part::Extension(name) => {
-                let allowed = more_allowed(name, self.allowed)?;
-                Some(Reading { allowed, ..self })
-            }
-            Part::Word(name) => {
-                let files = more_files(name, self.files)?;
-                Some(Reading { files, ..self })
-            }
-        }
-    }
-
-    /// What is asked for, where there are two files.
-    fn asked(self) -> Option<OnKernel<'a>>
-        ensures { option_map kernel_seen result ≡ asked_by (read_seen self.entry) }
-    {
-        let Files::Two(instructions, kernel) = self.files else {
-            return None;
-        };
-        let options = Options {
-            width: self.width.unwrap_or(USUAL_WIDTH),
-            allowed: self.allowed.unwrap_or(Extensions::every()),
-        };
-        Some(OnKernel {
-            instructions,
-            kernel,
+    match files {
+        [instructions, kernel] => Some(OnKernel {
+            instructions: *instructions,
+            kernel: *kernel,
             options,
-        })
+        }),
+        _ => None,
     }
 }
 
-/// Reads all parts of the words.
-#[tactic(auto, unfolding(crate::specs::Reading::read_on))]
-fn read(words: &[Bytes]) -> Option<Reading<'_>>
-    ensures { option_map read_seen result
-        ≡ option_and_then (λ parts. read_on parts nothing_read) (parts_of words.now) }
+fn kernel_found<'a>(matches: &ArgMatches<'a>) -> Option<OnKernel<'a>>
+    ensures { option_map kernel_seen result ≡ kernel_found matches.now }
 {
-    let mut reading = nothing_read();
-    let mut left = words;
-    'parts: while !left.is_empty() {
-        let cut = first_part(left)?;
-        reading = reading.with_part(cut.part)?;
-        left = cut.behind;
-    }
-    Some(reading)
+    let width = width_of(values_of(matches, "width"))?;
+    let allowed = allowed_of(values_of(matches, "with"))?;
+    two_files(Options { width, allowed }, values_of(matches, "files"))
 }
 
-/// `INSTRUCTIONS KERNEL`, with options anywhere among them.
-#[tactic(auto, using(crate::proofs::Readings::read_is_asked))]
-pub(crate) fn on_kernel(words: &[Bytes]) -> Option<OnKernel<'_>>
-    ensures { option_map kernel_seen result ≡ kernel_asked words.now }
+/// `INSTRUCTIONS KERNEL`, with options anywhere among them. Fails for want of memory alone, and
+/// takes none for words that are no options and files.
+#[tactic(auto, using(crate::proofs::Asked::found_is_asked, crate::proofs::Asked::no_options))]
+pub(crate) fn on_kernel<'a>(
+    alloc: Global,
+    words: &'a [Bytes],
+) -> Result<Option<OnKernel<'a>>, AllocError>
+    ensures asked { IfOk result (λ r. option_map kernel_seen r ≡ kernel_asked words.now) }
+    ensures refused { are_options words.now ≡ false → result ≡ Ok None }
 {
-    read(words)?.asked()
+    if !are_options(words) {
+        return Ok(None);
+    }
+    let matches = matched(alloc, words)?;
+    Ok(kernel_found(&matches))
 }

@@ -1,12 +1,15 @@
 //! What the words of a command line ask for.
 
-ghost use Rattle.std.specs.Prelude.{◌≡◌, option_map, drop, length, ◌≤◌};
+ghost use Rattle.std.specs.Prelude.{◌≡◌, false, Ok, None, option_map, IfOk, drop, length, ◌≤◌};
+ghost use Rattle.vg_request.specs.Found.{run_found, eval_found, lift_found, trial_found};
+ghost use Rattle.vg_request.specs.Readable.{are_options, are_plain, are_read};
 ghost use Rattle.vg_request.specs.Request.{run_words, eval_words, lift_words, compile_words, explain_words, trial_number, trial_words, request_of, files_of, file_name, asked_of};
+ghost use Rattle.vg_request.specs.Texts.{texts_of};
 
 use crate::binding::are_bindings;
 use crate::options::Options;
-use crate::reading::on_kernel;
-use crate::word::plain_word;
+use crate::reading::{are_plain, on_kernel, positional, values_of};
+use std::alloc::{AllocError, Global};
 use vg_outside::{Bytes, Words};
 use vg_text::decimal;
 
@@ -71,107 +74,165 @@ impl<'a> Request<'a> {
     }
 }
 
-/// What the words ask for. None where they are no request. Takes no memory.
-pub fn request_of(words: &Words) -> Option<Request<'_>>
-    ensures { option_map asked_of result ≡ request_of words.now }
+/// What the words ask for. None where they are no request.
+///
+/// The words behind the command are read with `clap`. Those that are refused before, since they are
+/// not text or begin with `-` where no option stands, give None and take no memory. Fails for want
+/// of memory alone.
+pub fn request_of(alloc: Global, words: &Words) -> Result<Option<Request<'_>>, AllocError>
+    ensures asked { IfOk result (λ r. option_map asked_of r ≡ request_of words.now) }
+    ensures refused { are_read words.now ≡ false → result ≡ Ok None }
 {
     if words.len() == 0 {
-        return None;
+        return Ok(None);
     }
     let command = words.get(0);
     if command == b"compile".as_slice() {
-        return compile_words(words);
+        return compile_words(alloc, words);
     }
     if command == b"run".as_slice() {
-        return run_words(words);
+        return run_words(alloc, words);
     }
     if command == b"eval".as_slice() {
-        return eval_words(words);
+        return eval_words(alloc, words);
     }
     if command == b"lift".as_slice() {
-        return lift_words(words);
+        return lift_words(alloc, words);
     }
     if command == b"explain".as_slice() {
-        return explain_words(words);
+        return explain_words(alloc, words);
     }
     if command == b"trial".as_slice() {
-        return trial_words(words);
+        return trial_words(alloc, words);
     }
-    None
+    Ok(None)
 }
 
-fn compile_words(words: &Words) -> Option<Request<'_>>
+fn compile_words(alloc: Global, words: &Words) -> Result<Option<Request<'_>>, AllocError>
     requires { 1 ≤ length words.now }
-    ensures { option_map asked_of result ≡ compile_words (drop 1 words.now) }
+    ensures asked { IfOk result (λ r. option_map asked_of r ≡ compile_words (drop 1 words.now)) }
+    ensures refused { are_options (drop 1 words.now) ≡ false → result ≡ Ok None }
 {
-    let asked = on_kernel(words.behind(1))?;
-    Some(Request::Compile {
+    let Some(asked) = on_kernel(alloc, words.behind(1))? else {
+        return Ok(None);
+    };
+    Ok(Some(Request::Compile {
         instructions: asked.instructions,
         kernel: asked.kernel,
         options: asked.options,
-    })
+    }))
 }
 
-fn run_words(words: &Words) -> Option<Request<'_>>
-    ensures { option_map asked_of result ≡ run_words (drop 1 words.now) }
+fn explain_words(alloc: Global, words: &Words) -> Result<Option<Request<'_>>, AllocError>
+    requires { 1 ≤ length words.now }
+    ensures asked { IfOk result (λ r. option_map asked_of r ≡ explain_words (drop 1 words.now)) }
+    ensures refused { are_options (drop 1 words.now) ≡ false → result ≡ Ok None }
 {
-    if words.len() < 4 {
-        return None;
+    let Some(asked) = on_kernel(alloc, words.behind(1))? else {
+        return Ok(None);
+    };
+    Ok(Some(Request::Explain {
+        instructions: asked.instructions,
+        kernel: asked.kernel,
+        options: asked.options,
+    }))
+}
+
+/// The words behind the first so many.
+fn words_behind(words: &Words, count: usize) -> &[Bytes]
+    ensures { result.now ≡ drop count words.now }
+{
+    if count <= words.len() {
+        words.behind(count)
+    } else {
+        &[]
     }
-    let bindings = words.behind(4);
+}
+
+fn run_found<'a>(files: &[&'a str], bindings: &'a [Bytes]) -> Option<Request<'a>>
+    ensures { option_map asked_of result ≡ run_found (texts_of files.now) bindings.now }
+{
+    let [instructions, program, memory, ..] = files else {
+        return None;
+    };
     if !are_bindings(bindings) {
         return None;
     }
-    let instructions = plain_word(words.get(1))?;
-    let program = plain_word(words.get(2))?;
-    let memory = plain_word(words.get(3))?;
     Some(Request::Run {
-        instructions,
-        program,
-        memory,
+        instructions: *instructions,
+        program: *program,
+        memory: *memory,
         bindings,
     })
 }
 
-fn eval_words(words: &Words) -> Option<Request<'_>>
-    ensures { option_map asked_of result ≡ eval_words (drop 1 words.now) }
+#[tactic(auto, using(crate::proofs::Plain::run_is, crate::proofs::Plain::run_none))]
+fn run_words(alloc: Global, words: &Words) -> Result<Option<Request<'_>>, AllocError>
+    requires { 1 ≤ length words.now }
+    ensures asked { IfOk result (λ r. option_map asked_of r ≡ run_words (drop 1 words.now)) }
+    ensures refused { are_plain (drop 1 words.now) ≡ false → result ≡ Ok None }
 {
-    if words.len() < 3 {
-        return None;
+    let behind = words.behind(1);
+    if !are_plain(behind) {
+        return Ok(None);
     }
-    let bindings = words.behind(3);
+    let matches = positional(alloc, behind)?;
+    Ok(run_found(values_of(&matches, "files"), words_behind(words, 4)))
+}
+
+fn eval_found<'a>(files: &[&'a str], bindings: &'a [Bytes]) -> Option<Request<'a>>
+    ensures { option_map asked_of result ≡ eval_found (texts_of files.now) bindings.now }
+{
+    let [kernel, memory, ..] = files else {
+        return None;
+    };
     if !are_bindings(bindings) {
         return None;
     }
-    let kernel = plain_word(words.get(1))?;
-    let memory = plain_word(words.get(2))?;
     Some(Request::Eval {
-        kernel,
-        memory,
+        kernel: *kernel,
+        memory: *memory,
         bindings,
     })
 }
 
-fn lift_words(words: &Words) -> Option<Request<'_>>
-    ensures { option_map asked_of result ≡ lift_words (drop 1 words.now) }
+#[tactic(auto, using(crate::proofs::Plain::eval_is, crate::proofs::Plain::eval_none))]
+fn eval_words(alloc: Global, words: &Words) -> Result<Option<Request<'_>>, AllocError>
+    requires { 1 ≤ length words.now }
+    ensures asked { IfOk result (λ r. option_map asked_of r ≡ eval_words (drop 1 words.now)) }
+    ensures refused { are_plain (drop 1 words.now) ≡ false → result ≡ Ok None }
 {
-    if words.len() != 2 {
-        return None;
+    let behind = words.behind(1);
+    if !are_plain(behind) {
+        return Ok(None);
     }
-    let instructions = plain_word(words.get(1))?;
-    Some(Request::Lift { instructions })
+    let matches = positional(alloc, behind)?;
+    Ok(eval_found(values_of(&matches, "files"), words_behind(words, 3)))
 }
 
-fn explain_words(words: &Words) -> Option<Request<'_>>
-    requires { 1 ≤ length words.now }
-    ensures { option_map asked_of result ≡ explain_words (drop 1 words.now) }
+fn lift_found<'a>(files: &[&'a str]) -> Option<Request<'a>>
+    ensures { option_map asked_of result ≡ lift_found (texts_of files.now) }
 {
-    let asked = on_kernel(words.behind(1))?;
-    Some(Request::Explain {
-        instructions: asked.instructions,
-        kernel: asked.kernel,
-        options: asked.options,
-    })
+    match files {
+        [instructions] => Some(Request::Lift {
+            instructions: *instructions,
+        }),
+        _ => None,
+    }
+}
+
+#[tactic(auto, using(crate::proofs::Plain::lift_is, crate::proofs::Plain::lift_none))]
+fn lift_words(alloc: Global, words: &Words) -> Result<Option<Request<'_>>, AllocError>
+    requires { 1 ≤ length words.now }
+    ensures asked { IfOk result (λ r. option_map asked_of r ≡ lift_words (drop 1 words.now)) }
+    ensures refused { are_plain (drop 1 words.now) ≡ false → result ≡ Ok None }
+{
+    let behind = words.behind(1);
+    if !are_plain(behind) {
+        return Ok(None);
+    }
+    let matches = positional(alloc, behind)?;
+    Ok(lift_found(values_of(&matches, "files")))
 }
 
 /// The number of a trial: decimal digits, 0 to 4294967295. None for any other word.
@@ -186,16 +247,29 @@ fn trial_number(digits: &[u8]) -> Option<u32>
     }
 }
 
-fn trial_words(words: &Words) -> Option<Request<'_>>
-    ensures { option_map asked_of result ≡ trial_words (drop 1 words.now) }
+fn trial_found<'a>(values: &[&'a str]) -> Option<Request<'a>>
+    ensures { option_map asked_of result ≡ trial_found (texts_of values.now) }
 {
-    if words.len() != 3 {
+    let [instructions, digits] = values else {
         return None;
-    }
-    let instructions = plain_word(words.get(1))?;
-    let number = trial_number(words.get(2))?;
+    };
+    let number = trial_number(digits.as_bytes())?;
     Some(Request::Trial {
-        instructions,
+        instructions: *instructions,
         number,
     })
+}
+
+#[tactic(auto, using(crate::proofs::Plain::trial_is, crate::proofs::Plain::trial_none))]
+fn trial_words(alloc: Global, words: &Words) -> Result<Option<Request<'_>>, AllocError>
+    requires { 1 ≤ length words.now }
+    ensures asked { IfOk result (λ r. option_map asked_of r ≡ trial_words (drop 1 words.now)) }
+    ensures refused { are_plain (drop 1 words.now) ≡ false → result ≡ Ok None }
+{
+    let behind = words.behind(1);
+    if !are_plain(behind) {
+        return Ok(None);
+    }
+    let matches = positional(alloc, behind)?;
+    Ok(trial_found(values_of(&matches, "files")))
 }

@@ -1,7 +1,7 @@
 //! Words behind a command.
 
 ghost use Rattle.std.specs.Prelude.{◌≡◌, option_map};
-ghost use Rattle.vg_request.specs.Word.{text_word, plain_word};
+ghost use Rattle.vg_request.specs.Word.{text_word, plain_word, is_plain};
 
 fn text_word(word: &[u8]) -> Option<&str>
     ensures { option_map (λ text. text.now) result ≡ text_word word.now }
@@ -19,5 +19,15 @@ pub(crate) fn plain_word(word: &[u8]) -> Option<&str>
     match word {
         [b'-', ..] => None,
         _ => text_word(word),
+    }
+}
+
+/// Whether it is one.
+pub(crate) fn is_plain(word: &[u8]) -> bool
+    ensures { result ≡ is_plain word.now }
+{
+    match plain_word(word) {
+        Some(_) => true,
+        None => false,
     }
 }

@@ -1,0 +1,12 @@
+-- what is said of what is left, with a width before it or none, is said of all words
+use Rattle.std.proofs.Common.{◌≡◌, length}
+use Rattle.vg_request.specs.Parts.{parts_of}
+use Rattle.vg_request.specs.Readable.{may_be_read, may_follow}
+use Rattle.vg_request.proofs.reading.are_options.Given as goal
+
+abbrev pub invariant-parts : goal.invariant-parts
+invariant-parts l = may_follow l.seen (parts_of l.left) ≡ may_be_read (parts_of l.words)
+
+-- less is left
+abbrev pub decreases-parts : goal.decreases-parts
+decreases-parts l = length l.left

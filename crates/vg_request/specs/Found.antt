@@ -1,0 +1,51 @@
+-- What `clap` finds in the words behind a command, and what is asked for by it.
+use Rattle.std.specs.Prelude.{◌≡◌, ℕ, List, [], ◌∷◌, Option, Some, None, codes, unwrap_or, if◌then◌else◌}
+use Rattle.std.specs.List.{list_all}
+use Rattle.std.specs.Option.{option_and_then, option_map}
+use Rattle.clap.specs.Words.{found_of, matched_of, raw_values}
+use Rattle.clap.specs.declared.parser.matches.ArgMatches.{ArgMatches}
+use Rattle.vg_request.specs.Binding.{is_binding, bindings_in}
+use Rattle.vg_request.specs.Options.{KernelAsked, width_of, allowed_of, two_files}
+use Rattle.vg_request.specs.Parts.{Part, widths_in, extensions_in, words_in}
+use Rattle.vg_request.specs.Request.{Asked, run, eval, lift, trial, trial_number}
+
+-- all values of an argument, in their order
+abbrev pub values_of : List ℕ → ArgMatches → List (List ℕ)
+values_of id m = unwrap_or (option_map raw_values (matched_of (found_of m) id)) []
+
+-- the values are those of these parts
+abbrev pub HasParts : Option (List Part) → ArgMatches → Type 0
+HasParts None m = ⊥
+HasParts (Some parts) m = (values_of (codes "width") m ≡ widths_in parts)
+    × (values_of (codes "with") m ≡ extensions_in parts)
+    × (values_of (codes "files") m ≡ words_in parts)
+
+-- what these values of options and files ask for
+abbrev pub kernel_by : List (List ℕ) → List (List ℕ) → List (List ℕ) → Option KernelAsked
+kernel_by widths names files =
+    option_and_then (λ width.
+    option_and_then (λ allowed. two_files (record { width = width; allowed = allowed }) files)
+    (allowed_of names)) (width_of widths)
+
+abbrev pub kernel_found : ArgMatches → Option KernelAsked
+kernel_found m =
+    kernel_by (values_of (codes "width") m) (values_of (codes "with") m) (values_of (codes "files") m)
+
+-- what the values ask for behind each other command, and the words behind its files
+abbrev pub run_found : List (List ℕ) → List (List ℕ) → Option Asked
+run_found (a ∷ b ∷ c ∷ values) words =
+    if list_all is_binding words then Some (run a b c (bindings_in words)) else None
+run_found _ words = None
+
+abbrev pub eval_found : List (List ℕ) → List (List ℕ) → Option Asked
+eval_found (a ∷ b ∷ values) words =
+    if list_all is_binding words then Some (eval a b (bindings_in words)) else None
+eval_found _ words = None
+
+abbrev pub lift_found : List (List ℕ) → Option Asked
+lift_found (a ∷ []) = Some (lift a)
+lift_found _ = None
+
+abbrev pub trial_found : List (List ℕ) → Option Asked
+trial_found (a ∷ digits ∷ []) = option_map (λ number. trial a number) (trial_number digits)
+trial_found _ = None
