@@ -11,34 +11,49 @@ use Rattle.vg_request.specs.Request.{Asked}
 use Rattle.vg_top.specs.Verdict.{Outcome, EndedBy, status_told}
 use Rattle.vg_top.specs.Works.{CountsFault}
 
--- words that are no request have one status, and no request has it
-pub usage_from : (a : Option Asked) (s : Status) → MayEnd a s → (s ≡ status.Usage → a ≡ None) × (a ≡ None → s ≡ status.Usage)
-usage_from None s may = (λ _. refl, λ _. may)
-usage_from (Some x) status.Ok may = (λ e. absurd (cc), λ e. absurd (cc))
-usage_from (Some x) status.Usage may = absurd may
-usage_from (Some x) status.InstructionsRefused may = (λ e. absurd (cc), λ e. absurd (cc))
-usage_from (Some x) status.KernelRefused may = (λ e. absurd (cc), λ e. absurd (cc))
-usage_from (Some x) status.ProgramRefused may = (λ e. absurd (cc), λ e. absurd (cc))
-usage_from (Some x) status.InputAbsent may = (λ e. absurd (cc), λ e. absurd (cc))
-usage_from (Some x) status.ReadFault may = (λ e. absurd (cc), λ e. absurd (cc))
-usage_from (Some x) status.WriteFault may = (λ e. absurd (cc), λ e. absurd (cc))
-usage_from (Some x) status.BindingsRefused may = (λ e. absurd (cc), λ e. absurd (cc))
-usage_from (Some x) status.Trap may = (λ e. absurd (cc), λ e. absurd (cc))
-usage_from (Some x) status.TooLarge may = (λ e. absurd (cc), λ e. absurd (cc))
-usage_from (Some x) status.NoMemory may = (λ e. absurd (cc), λ e. absurd (cc))
+-- no request has the status of words that are none
+pub usage_from : (a : Option Asked) (s : Status) → MayEnd a s → s ≡ status.Usage → a ≡ None
+usage_from None s may = λ e. refl
+usage_from (Some x) status.Usage may = λ e. absurd may
+usage_from (Some x) status.Ok may = λ e. absurd (cc)
+usage_from (Some x) status.InstructionsRefused may = λ e. absurd (cc)
+usage_from (Some x) status.KernelRefused may = λ e. absurd (cc)
+usage_from (Some x) status.ProgramRefused may = λ e. absurd (cc)
+usage_from (Some x) status.InputAbsent may = λ e. absurd (cc)
+usage_from (Some x) status.ReadFault may = λ e. absurd (cc)
+usage_from (Some x) status.WriteFault may = λ e. absurd (cc)
+usage_from (Some x) status.BindingsRefused may = λ e. absurd (cc)
+usage_from (Some x) status.Trap may = λ e. absurd (cc)
+usage_from (Some x) status.TooLarge may = λ e. absurd (cc)
+usage_from (Some x) status.NoMemory may = λ e. absurd (cc)
+
+-- want of memory may end all
+pub memory_may : (a : Option Asked) → MayEnd a status.NoMemory
+memory_may None = tt
+memory_may (Some x) = tt
 
 -- an answer that was written, and one that was not
 pub written_may : (a : Option Asked) → MayStop a None → MayEnd a status.Ok
-written_may None may = absurd (cc)
+written_may None may = absurd may
 written_may (Some x) may = tt
 
 pub unwritten_may : (a : Option Asked) → MayStop a None → MayEnd a (status_of WriteFault)
-unwritten_may None may = absurd (cc)
+unwritten_may None may = absurd may
 unwritten_may (Some x) may = tt
 
 -- an ending of the work is one of the whole
 pub stopped_may : (a : Option Asked) (e : Ending) → MayStop a (Some e) → MayEnd a (status_of e)
-stopped_may None e may = let k : e ≡ Usage = cc in ap status_of k
+stopped_may None Usage may = tt
+stopped_may None (Instructions n f) may = absurd may
+stopped_may None (Kernel n f) may = absurd may
+stopped_may None (Program n f) may = absurd may
+stopped_may None (Absent n) may = absurd may
+stopped_may None (ReadFault n) may = absurd may
+stopped_may None (TooLarge n) may = absurd may
+stopped_may None Bindings may = absurd may
+stopped_may None Trap may = absurd may
+stopped_may None WriteFault may = absurd may
+stopped_may None Memory may = tt
 stopped_may (Some x) Usage may = may
 stopped_may (Some x) (Instructions n f) may = may
 stopped_may (Some x) (Kernel n f) may = may
@@ -83,7 +98,17 @@ not_read_fault WriteFault before now counts same below = λ is. absurd (cc)
 not_read_fault Memory before now counts same below = λ is. absurd (cc)
 
 pub not_write_fault : (a : Option Asked) (e : Ending) → MayStop a (Some e) → status_of e ≢ status.WriteFault
-not_write_fault None e may = λ is. let k : e ≡ Usage = cc in let same : status.Usage ≡ status.WriteFault = sym (ap status_of k) ∙ is in absurd (cc)
+not_write_fault None Usage may = λ is. absurd (cc)
+not_write_fault None (Instructions n f) may = absurd may
+not_write_fault None (Kernel n f) may = absurd may
+not_write_fault None (Program n f) may = absurd may
+not_write_fault None (Absent n) may = absurd may
+not_write_fault None (ReadFault n) may = absurd may
+not_write_fault None (TooLarge n) may = absurd may
+not_write_fault None Bindings may = absurd may
+not_write_fault None Trap may = absurd may
+not_write_fault None WriteFault may = absurd may
+not_write_fault None Memory may = λ is. absurd (cc)
 not_write_fault (Some x) Usage may = λ is. absurd (cc)
 not_write_fault (Some x) (Instructions n f) may = λ is. absurd (cc)
 not_write_fault (Some x) (Kernel n f) may = λ is. absurd (cc)

@@ -1,7 +1,7 @@
 -- Which commands may end how. It is a fact on the words alone, whatever the files hold.
 use Rattle.std.specs.Prelude.{◌≡◌, Bool, true, false, Option, Some, None}
 use Rattle.vg_top.specs.declared.ending.Ending.{Ending}
-use Rattle.vg_top.specs.declared.ending.Ending.TheVariants.{Usage, WriteFault}
+use Rattle.vg_top.specs.declared.ending.Ending.TheVariants.{WriteFault}
 use Rattle.vg_top.specs.declared.status.Status.{Status}
 use Rattle.vg_top.specs.declared.status.Status.TheVariants as status
 use Rattle.vg_top.specs.Ending.{status_of}
@@ -45,9 +45,11 @@ runs (trial instructions number) = false
 
 -- A request may end so: its instructions, its kernel, its program are refused only where it reads
 -- them, and bindings are refused and runs trap only where it binds parameters and runs something.
--- Words that are no request have one ending.
+-- Words that are no request have one ending, want of memory aside.
 abbrev pub MayEnd : Option Asked → Status → Type 0
-MayEnd None s = s ≡ status.Usage
+MayEnd None status.Usage = Unit {0}
+MayEnd None status.NoMemory = Unit {0}
+MayEnd None s = ⊥
 MayEnd (Some asked) status.Usage = ⊥
 MayEnd (Some asked) status.InstructionsRefused = reads_instructions asked ≡ true
 MayEnd (Some asked) status.KernelRefused = reads_kernel asked ≡ true
@@ -59,7 +61,7 @@ MayEnd (Some asked) s = Unit {0}
 -- The work on what was asked for may end so: with an answer, or with an ending that its command may
 -- have. Nothing is written in it.
 abbrev pub MayStop : Option Asked → Option Ending → Type 0
-MayStop None ending = ending ≡ Some Usage
+MayStop None None = ⊥
 MayStop (Some asked) None = Unit {0}
-MayStop (Some asked) (Some WriteFault) = ⊥
-MayStop (Some asked) (Some e) = MayEnd (Some asked) (status_of e)
+MayStop asked (Some WriteFault) = ⊥
+MayStop asked (Some e) = MayEnd asked (status_of e)

@@ -1,9 +1,10 @@
 //! The top call.
 
-ghost use Rattle.std.specs.Prelude.{◌≡◌, ◌≢◌, ◌<◌, ◌≤◌, ◌-◌, ◌^◌, ◌↔◌, ℕ, List, Option, IfSome, Err, None, option_map, length};
+ghost use Rattle.std.specs.Prelude.{◌≡◌, ◌≢◌, ◌<◌, ◌≤◌, ◌-◌, ◌^◌, ℕ, List, Option, IfSome, Err, None, false, option_map, length};
 ghost use Rattle.vg_outside.specs.Count.{Rose};
 ghost use Rattle.vg_outside.specs.Sink.{Appends, AppendsFront};
 ghost use Rattle.vg_top.specs.declared.ending.Ending.{Ending};
+ghost use Rattle.vg_request.specs.Readable.{are_read};
 ghost use Rattle.vg_request.specs.Request.{request_of, files_in, asked_of};
 ghost use Rattle.vg_top.specs.Causes.{MayEnd};
 ghost use Rattle.vg_top.specs.Files.{Tells};
@@ -33,6 +34,7 @@ fn answer<S: Shelf>(
         Tells VecAnswers result (asked_outcome held (option_map asked_of request.entry))) }
     ensures shelf { Works S.Shelf (option_map asked_of request.entry)
         shelf.old shelf.new (ending_of result) }
+    ensures nothing { request.entry ≡ None → result ≡ Err Ending.Usage }
 {
     match request {
         Some(
@@ -90,8 +92,9 @@ fn answer<S: Shelf>(
 /// its kernel has, what the kernel costs and what the program costs that is compiled for it with all
 /// entries in the file, and the sum of the bytes that both leave of its memory.
 ///
-/// All files are read before the one write. What goes wrong is told by the status and by one line
-/// on `err`; a fault of `err` changes no status. Where `shelf` tells what it holds, the status is a
+/// The words are read with `clap`, which takes memory; words that it is not given are refused
+/// without. All files are read before the one write. What goes wrong is told by the status and by one
+/// line on `err`; a fault of `err` changes no status. Where `shelf` tells what it holds, the status is a
 /// function of the words and the files, but for faults of the outside, which counts show, and want
 /// of memory, which is answered also at the bounds of the code (docs/limits.md).
 pub fn vegen<S: Shelf, O: Sink, E: Sink>(
@@ -112,8 +115,11 @@ pub fn vegen<S: Shelf, O: Sink, E: Sink>(
     // With each other ending `out` is as it was, whatever it tells of itself.
     ensures unwritten { result ≢ Status.Ok → result ≢ Status.WriteFault → out.new ≡ out.old }
 
-    // When each status comes. Which command may end with which is a fact on the words alone.
-    ensures usage { (result ≡ Status.Usage) ↔ (request_of words.now ≡ None) }
+    // When each status comes. Which command may end with which is a fact on the words alone. Words
+    // that are no request end with `Usage` or want of memory, and those that are not read at all
+    // with `Usage`.
+    ensures usage { result ≡ Status.Usage → request_of words.now ≡ None }
+    ensures refused { are_read words.now ≡ false → result ≡ Status.Usage }
     ensures causes { MayEnd (request_of words.now) result }
     ensures absence { result ≡ Status.InputAbsent
         → Rose (S.absents shelf.old) (S.absents shelf.new) }
@@ -141,7 +147,10 @@ pub fn vegen<S: Shelf, O: Sink, E: Sink>(
 
     ensures keeps { S.holds shelf.new ≡ S.holds shelf.old }
 {
-    let request = request_of(words);
+    let Ok(request) = request_of(alloc, words) else {
+        say(err, None, &Ending::Memory);
+        return Status::NoMemory;
+    };
     let ending = match answer(alloc, shelf, request) {
         Ok(bytes) => match out.write(bytes.as_slice()) {
             Ok(()) => return Status::Ok,
