@@ -3,3 +3,4 @@ pub mod Turns
 pub mod LoopedTexts
 pub mod PairLoop
 pub mod Printed
+pub mod LoopedSizes

@@ -12,7 +12,7 @@ mod reading;
 mod steps;
 mod told;
 
-pub use law::{looped_texts_are_read, what_is_read_is_looped};
+pub use law::{looped_programs_fit, looped_texts_are_read, what_is_read_is_looped};
 pub use looped::Looped;
 pub use printing::print_looped;
 pub use reading::parse_looped;
