@@ -2,3 +2,5 @@ pub mod MayTurn
 pub mod Steps
 pub mod Both
 pub mod Found
+pub mod Meant
+pub mod Whole

@@ -3,3 +3,5 @@ pub mod MayMove
 pub mod Counts
 pub mod Reader
 pub mod Formed
+pub mod Inputs
+pub mod CompiledLoop

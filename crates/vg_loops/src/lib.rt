@@ -4,6 +4,7 @@
 //! (`specs/Unrolled.antt`) and how many turns a block has (`specs/Limits.antt`).
 #![tactic(auto)]
 
+mod compiling;
 mod copying;
 pub mod counted;
 mod limits;
@@ -13,9 +14,10 @@ mod running;
 mod turn;
 mod unrolling;
 
+pub use compiling::compile_loop;
 pub use counted::Loop;
 pub use limits::turns_of;
 pub use loop_reading::{loop_place, parse_loop};
-pub use running::run_loop;
+pub use running::{run_loop, run_looped};
 pub use unrolling::unroll;
 pub use vg_bits::Outcome;

@@ -1,7 +1,9 @@
 //! Turns that are run in place, on places that move.
 
-ghost use Rattle.std.specs.Prelude.{◌≡◌, ◌+◌, ◌*◌, ◌<◌, ◌≤◌, ◌^◌, length};
+ghost use Rattle.std.specs.Prelude.{◌≡◌, ◌+◌, ◌*◌, ◌<◌, ◌≤◌, ◌^◌, length, map};
 ghost use Rattle.vg_bits.specs.declared.outcome.Outcome.TheVariants.{Done};
+ghost use Rattle.vg_catalog.specs.Called.{called_by};
+ghost use Rattle.vg_catalog.specs.Entries.{entry_of};
 ghost use Rattle.vg_loop_laws.specs.Inputs.{StayNear};
 ghost use Rattle.vg_loop_laws.specs.Loops.{
   Run,
@@ -13,6 +15,7 @@ ghost use Rattle.vg_loop_laws.specs.Loops.{
   turns_asked,
   loop_meaning,
 };
+ghost use Rattle.vg_loops.specs.Inputs.{looped_meaning};
 ghost use Rattle.vg_loops.specs.View.{loop_of};
 ghost use Rattle.vg_memory.specs.Outcome.{Leaves};
 
@@ -20,6 +23,8 @@ use crate::counted::Loop;
 use crate::turn::{KernelTurn, Turn};
 use vg_bits::Outcome;
 use vg_keval::KState;
+use vg_looped::Looped;
+use vg_machine::Machine;
 
 /// Moves places on by so many turns. Takes no memory.
 fn move_places(places: &mut [u64], steps: &[u32], count: u64)
@@ -139,6 +144,46 @@ pub fn run_loop(
         here,
         source.steps.as_slice(),
         1,
+        args,
+        count,
+    )
+}
+
+/// Runs a looped text on a memory, by machines that were made for its two programs over the same entries. The
+/// places are those of its pointers at the first turn, in bytes from the start of the memory, and the args the
+/// numbers of its integer parameters, each kind in the order of the first line. `Trap` exactly where a block or a
+/// turn that is left over traps; then the memory may hold any bytes. Takes no memory.
+pub fn run_looped(
+    looped: &Looped,
+    block: &mut Machine<'_>,
+    rest: &mut Machine<'_>,
+    memory: &mut [u8],
+    places: &[u64],
+    args: &[u64],
+) -> Outcome
+    requires block { block.old.program ≡ looped.now.block }
+    requires rest { rest.old.program ≡ looped.now.rest }
+    requires entries { rest.old.entries ≡ block.old.entries }
+    requires some { 1 ≤ looped.now.turns }
+    requires near { StayNear looped.now.steps (turns_asked looped.now.times args.now) places.now }
+    requires long { length places.now ≡ length looped.now.steps }
+    requires few { length places.now ≤ 16 }
+    ensures outcome { Leaves result memory.new
+        (looped_meaning (called_by (map entry_of block.old.entries)) looped.now
+        memory.old places.now args.now) }
+    ensures size { length memory.new ≡ length memory.old }
+{
+    let mut room = [0u64; 16];
+    let here = &mut room[..places.len()];
+    here.copy_from_slice(places);
+    let count = turns_asked(looped.times, args);
+    run_both(
+        block,
+        rest,
+        memory,
+        here,
+        looped.steps.as_slice(),
+        looped.turns as u64,
         args,
         count,
     )

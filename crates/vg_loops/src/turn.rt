@@ -1,14 +1,18 @@
 //! What is run in each turn.
 
-ghost use Rattle.std.specs.Prelude.{◌≡◌, ◌≤◌, length};
+ghost use Rattle.std.specs.Prelude.{◌≡◌, ◌≤◌, length, map};
+ghost use Rattle.vg_catalog.specs.Called.{called_by};
+ghost use Rattle.vg_catalog.specs.Entries.{entry_of};
 ghost use Rattle.vg_kernel.specs.Meaning.{meaning};
 ghost use Rattle.vg_kernel.specs.Tree.{tree_of};
 ghost use Rattle.vg_loop_laws.specs.Loops.{Run};
 ghost use Rattle.vg_memory.specs.Outcome.{Leaves};
+ghost use Rattle.vg_program.specs.Meaning as program;
 
 use vg_bits::Outcome;
 use vg_kernel::Kernel;
 use vg_keval::{KState, run_kernel};
+use vg_machine::Machine;
 
 /// What can be run again and again: a kernel with its room, or a machine.
 pub(crate) trait Turn {
@@ -41,5 +45,15 @@ impl Turn for KernelTurn<'_> {
 
     fn run(&mut self, memory: &mut [u8], places: &[u64], args: &[u64]) -> Outcome {
         run_kernel(self.kernel, self.state, memory, places, args)
+    }
+}
+
+impl Turn for Machine<'_> {
+    ghost means = { λ m. program.meaning (called_by (map entry_of m.entries)) m.program };
+
+    ghost is_ready = { λ m. Unit {0} };
+
+    fn run(&mut self, memory: &mut [u8], places: &[u64], args: &[u64]) -> Outcome {
+        Machine::run(self, memory, places, args)
     }
 }

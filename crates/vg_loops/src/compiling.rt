@@ -1,0 +1,55 @@
+//! The looped text of a loop.
+
+ghost use Rattle.std.specs.Prelude.{◌≡◌, IfOk};
+ghost use Rattle.vg_catalog.specs.Catalogs.{entries_in};
+ghost use Rattle.vg_catalog.specs.Extensions.{bits_in};
+ghost use Rattle.vg_catalog.specs.Written.{AllWritten};
+ghost use Rattle.vg_instances.specs.Proper.{AreProper};
+ghost use Rattle.vg_listing.specs.Listed.{HaveLanes};
+ghost use Rattle.vg_loops.specs.CompiledLoop.{IsCompiledLoop};
+ghost use Rattle.vg_loops.specs.Formed.{IsLoop};
+ghost use Rattle.vg_loops.specs.View.{loop_of};
+
+use crate::counted::Loop;
+use crate::limits::turns_of;
+use crate::unrolling::unroll;
+use std::alloc::{AllocError, Global};
+use vg_base::Items;
+use vg_catalog::{Catalog, Extensions};
+use vg_compile::compile;
+use vg_looped::Looped;
+
+/// The looped text of a loop, whose programs may call the instructions of a catalogue whose extension is in the
+/// set: a block of as many turns as one kernel may have, and a rest of one turn.
+///
+/// It leaves the memory that the loop leaves and traps where a turn of the loop traps, in each layout in which
+/// the accesses of all turns respect noalias. Each of its programs is what `compile` gives for its kernel.
+///
+/// Fails for want of memory, also at the bounds of `compile`.
+pub fn compile_loop(
+    alloc: Global,
+    catalog: &Catalog,
+    allowed: Extensions,
+    source: &Loop,
+    width: u32,
+) -> Result<Looped, AllocError>
+    requires source { IsLoop (loop_of source.now) }
+    requires written { AllWritten (entries_in catalog.now) }
+    requires lanes { HaveLanes (entries_in catalog.now) }
+    requires proper { AreProper (entries_in catalog.now) }
+    ensures { IfOk result
+        (IsCompiledLoop (entries_in catalog.now) (bits_in allowed) (loop_of source.now) width) }
+{
+    let turns = turns_of(source);
+    let kernel = unroll(alloc, source, turns)?;
+    let block = compile(alloc, catalog, allowed, &kernel, width)?;
+    let rest = compile(alloc, catalog, allowed, &source.kernel, width)?;
+    let steps = Vec::from_slice(alloc, source.steps.as_slice())?;
+    Ok(Looped {
+        block,
+        rest,
+        times: source.times,
+        steps: Items::from_vec(steps),
+        turns,
+    })
+}
