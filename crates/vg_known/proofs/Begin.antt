@@ -54,7 +54,7 @@ integer-width : (k : SsaParamKind) → is_integer k ≡ true → IsWidth (kind_b
 integer-width (Pointer noalias) h = absurd (cc)
 integer-width (Integer w) h = bits-width w
 
-leaves-long : (v : ℕ) (ps : List SsaParam) → length (argument_leaves v ps) ≡ length ps
+pub leaves-long : (v : ℕ) (ps : List SsaParam) → length (argument_leaves v ps) ≡ length ps
 leaves-long v [] = refl
 leaves-long v (p ∷ ps) = ap suc (leaves-long (v + 1) ps)
 

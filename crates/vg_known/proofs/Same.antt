@@ -185,7 +185,7 @@ stores-mean env count bits ts numbers front (u ∷ us) h whole units =
     by (Operation op w k xs) e is rest = rest
     by (Store a w x) e is rest = (wanted-term env bits ts numbers w x h (subst (λ l. NumberIn l w x) (sym e) (number-stays front (map unit_bits (Store a w x ∷ us)) w x is.1)), rest)
 
-index-drop : {A : Type 0} (v : ℕ) (ts : List A) (t d : A) (rest : List A) → drop v ts ≡ t ∷ rest → (slice_index_or ts v d ≡ t) × (drop (v + 1) ts ≡ rest)
+pub index-drop : {A : Type 0} (v : ℕ) (ts : List A) (t d : A) (rest : List A) → drop v ts ≡ t ∷ rest → (slice_index_or ts v d ≡ t) × (drop (v + 1) ts ≡ rest)
 index-drop zero [] t d rest h = absurd (cc)
 index-drop zero (x ∷ ts) t d rest h = ((let e : x ≡ t = cc in e), (let e : ts ≡ rest = cc in e))
 index-drop (suc v) [] t d rest h = absurd (cc)
@@ -208,7 +208,7 @@ loads-mean env bits all numbers front (u ∷ us) (t ∷ ts) v h whole long at =
         ((subst (IsTermOf (bits_of w)) here.0 (h.stand.each v (bits_of w) bit).1, ap (value env) (sym here.0) ∙ h.each v), rest)
 
 -- the kernel's terms begin with the leaves of its arguments
-terms-front : (flags : List Bool) (first : ℕ) (done : List Work) (s : Terms) (us : List Work) → Grows s.terms (terms_behind flags first done s us).terms
+pub terms-front : (flags : List Bool) (first : ℕ) (done : List Work) (s : Terms) (us : List Work) → Grows s.terms (terms_behind flags first done s us).terms
 terms-front flags first done s [] = grows-not s.terms
 terms-front flags first done s (u ∷ us) =
     let own = unit_term flags first done s u in
@@ -216,13 +216,13 @@ terms-front flags first done s (u ∷ us) =
 
 -- ---- what is compared
 
-abbrev begin_terms : Ssa → Terms
+abbrev pub begin_terms : Ssa → Terms
 begin_terms ssa = record { terms = argument_leaves 0 (integers ssa); met = argument_leaves 0 (integers ssa) }
 
-abbrev given_of : List Entry → Ssa → Given
+abbrev pub given_of : List Entry → Ssa → Given
 given_of entries ssa = record { entries = entries; arguments = take (arguments ssa) (kernel_terms ssa).terms; reads = kernel_reads ssa (kernel_terms ssa).terms }
 
-abbrev nothing_known : Ssa → Known
+abbrev pub nothing_known : Ssa → Known
 nothing_known ssa = record { scalars = []; vectors = []; met = (kernel_terms ssa).met; puts = [] }
 
 abbrev final : List Entry → Ssa → Program → Known

@@ -16,6 +16,7 @@ use Rattle.vg_events.proofs.Ranks.{length-labels}
 use Rattle.vg_known.specs.Kernels.{bits_at, pairs_of, read_by, reads_from}
 use Rattle.vg_known.specs.Known.{event_bits}
 use Rattle.vg_known.proofs.Follow.{eight-size}
+use Rattle.vg_known.proofs.Same.{index-drop}
 
 -- ---- one unit
 
@@ -75,12 +76,6 @@ UnitReads bits ts f v (Operation op w k xs) = Unit {0}
 abbrev pub AllRead : (ℕ → List Bit) → List Tree → ℕ → ℕ → List Work → Type 0
 AllRead bits ts f v [] = Unit {0}
 AllRead bits ts f v (u ∷ us) = UnitReads bits ts f v u × AllRead bits ts (f + count_in u) (v + 1) us
-
-index-drop : {A : Type 0} (v : ℕ) (ts : List A) (t d : A) (rest : List A) → drop v ts ≡ t ∷ rest → (slice_index_or ts v d ≡ t) × (drop (v + 1) ts ≡ rest)
-index-drop zero [] t d rest h = absurd (cc)
-index-drop zero (x ∷ ts) t d rest h = ((let e : x ≡ t = cc in e), (let e : ts ≡ rest = cc in e))
-index-drop (suc v) [] t d rest h = absurd (cc)
-index-drop (suc v) (x ∷ ts) t d rest h = let r = index-drop v ts t d rest h in (r.0, ap (λ k. drop k (x ∷ ts)) (let e : suc v + 1 ≡ suc (v + 1) = omega arith in e) ∙ r.1)
 
 under-read : (f : ℕ) (u : Work) (t : Tree) → PairsUnder (f + count_in u) (read_by f u t)
 under-read f (Load a w) t = subst (λ n. PairsUnder (f + n) (read_by f (Load a w) t)) (sym (length-labels false a (size_of w))) (under-pairs f (size_of w) (bits_from t 0 (bits_of w)))

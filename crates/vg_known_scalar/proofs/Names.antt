@@ -1,6 +1,6 @@
 -- What stands for a value in the scalar program has the term that the value has in the kernel.
-use Rattle.std.proofs.Common.{◌≡◌, ℕ, zero, suc, ◌+◌, ◌<◌, ◌≤◌, Bool, true, false, List, [], ◌∷◌, ◌++◌, length, Option, Some, None, refl, sym, ap, subst, ◌∙◌, inl, inr, arith, length-append}
-use Rattle.std.specs.Prelude.{get_or, slice_index_or}
+use Rattle.std.proofs.Common.{◌≡◌, ℕ, zero, suc, ◌+◌, ◌<◌, Bool, true, false, List, [], ◌∷◌, ◌++◌, length, Option, Some, None, refl, sym, ap, subst, ◌∙◌, inl, inr, arith}
+use Rattle.std.specs.Prelude.{slice_index_or}
 use Rattle.std.proofs.lemmas.Bool.{cases_lt}
 use Rattle.std.proofs.lemmas.List.{get_or_append_left, get_or_push, length_push}
 use Rattle.vg_base.specs.declared.width.Width.{Width}
@@ -155,9 +155,14 @@ scalar-named needed g met k t v bits names terms h = record {
   bits_long = h.bits_long;
   names_long = h.names_long;
   terms_long = h.terms_long;
-  each = λ j l w e. (let own = h.each j l w e in (own.0, λ n.
-  let is = own.1 n in (subst (λ c. IsThere c (slice_index_or names j (Register 0))) (sym (length_push k.scalars t)) (there-more (length k.scalars) (slice_index_or names j (Register 0)) is.0),
-  term-more g k t (slice_index_or names j (Register 0)) is.0 ∙ is.1)));
+  each = λ j l w e. (let own = h.each j l w e in (
+    own.0,
+    λ n.
+        let is = own.1 n in (
+          subst (λ c. IsThere c (slice_index_or names j (Register 0))) (sym (length_push k.scalars t)) (there-more (length k.scalars) (slice_index_or names j (Register 0)) is.0),
+          term-more g k t (slice_index_or names j (Register 0)) is.0 ∙ is.1,
+        ),
+  ));
 }
 
 -- a load, or an operation that is needed: it has a scalar of its own

@@ -13,7 +13,7 @@ use Rattle.vg_shapes.specs.declared.unit.Unit.TheVariants.{Load, Store, Operatio
 use Rattle.vg_shapes.specs.declared.wanted.Wanted.{Wanted}
 use Rattle.vg_shapes.specs.declared.wanted.Wanted.TheVariants.{Value, Constant, Nothing}
 use Rattle.vg_shapes.specs.Layout.{access_at, access_of}
-use Rattle.vg_shapes.specs.Order.{count_of, one_if, Stands}
+use Rattle.vg_shapes.specs.Order.{one_if, Stands}
 use Rattle.vg_shapes.specs.Sound.{TakeEarlier}
 use Rattle.vg_shapes.specs.Units.{arguments, unit_at}
 use Rattle.vg_packing.specs.Packing.{falling_units, used_by}

@@ -7,7 +7,7 @@ use Rattle.std.proofs.lemmas.List.{length_push}
 use Rattle.vg_base.specs.declared.address.Address.{Address}
 use Rattle.vg_shapes.specs.declared.access.Access.{Access}
 use Rattle.vg_shapes.specs.Depends.{conflict, may_share}
-use Rattle.vg_shapes.specs.Order.{count_of, numbers_from, one_if, Stands}
+use Rattle.vg_shapes.specs.Order.{numbers_from, one_if, Stands}
 use Rattle.vg_order_laws.proofs.Sequences.{count_of-append}
 use Rattle.vg_events.specs.Events.{byte_access, Label, label_at, labels, labels_in, next}
 use Rattle.vg_events.specs.Orders.{line_of, LinesInOrder, MustFollow}

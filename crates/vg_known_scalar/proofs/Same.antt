@@ -1,6 +1,6 @@
 -- The scalar program of a kernel has no difference to it.
 use Rattle.std.proofs.Common.{◌≡◌, ℕ, zero, suc, ◌+◌, ◌-◌, ◌<◌, ◌≤◌, Bool, true, false, cond, List, [], ◌∷◌, ◌++◌, length, map, take, drop, Option, Some, None, refl, sym, ap, subst, ◌∙◌, inl, inr, arith, append_assoc, append-nil, length-append}
-use Rattle.std.specs.Prelude.{filter, if◌then◌else◌, nat_eq, nat_lt, not, position, slice_index_or, ◌||◌, ◌&&◌}
+use Rattle.std.specs.Prelude.{filter, if◌then◌else◌, nat_lt, not, position, slice_index_or, ◌||◌, ◌&&◌}
 use Rattle.std.specs.List.{find, list_any, position_or_len}
 use Rattle.std.specs.Option.{option_map, option_or}
 use Rattle.std.specs.Str.{bytes_eq}
@@ -13,7 +13,6 @@ use Rattle.vg_base.specs.Width.{bits_of}
 use Rattle.vg_terms.specs.Order.{is_same_term}
 use Rattle.vg_terms.specs.Term.{Tree}
 use Rattle.vg_terms.proofs.Orders.{same_term-means}
-use Rattle.vg_program.specs.declared.line.Line.{Line}
 use Rattle.vg_program.specs.declared.operand.Operand.{Operand as Number}
 use Rattle.vg_program.specs.declared.operand.Operand.TheVariants.{Argument, Register}
 use Rattle.vg_shapes.specs.declared.access.Access.{Access}
@@ -46,21 +45,22 @@ use Rattle.vg_events.specs.Ranks.{by_rank, count_label}
 use Rattle.vg_events.specs.UnitOrder.{is_out_of_order, spans, unit_events}
 use Rattle.vg_events.proofs.UnitOrder.{event-order-is-by-units}
 use Rattle.vg_known.specs.Cuts.{gathered}
-use Rattle.vg_known.specs.Difference.{access, Difference, difference, first_of, is_opaque_call, is_uneven, lines_by_rank, opaque, opaque_line, order, other_value, own_term, params, put_term, Sides, sides_of, turned_units, uneven_label, unit_numbers, unit_pairs, value_at}
+use Rattle.vg_known.specs.Difference.{access, Difference, difference, first_of, is_opaque_call, is_uneven, lines_by_rank, opaque, opaque_line, order, other_value, own_term, put_term, Sides, sides_of, turned_units, uneven_label, unit_numbers, unit_pairs, value_at}
 use Rattle.vg_known.specs.Difference.{value as differs}
-use Rattle.vg_known.specs.Kernels.{argument_leaves, bits_at, kernel_reads, kernel_terms, Terms, terms_behind, unit_term, with_term}
-use Rattle.vg_known.specs.Known.{event_bits, Given, Known, operand_term}
+use Rattle.vg_known.specs.Kernels.{argument_leaves, bits_at, kernel_terms, Terms, terms_behind, unit_term, with_term}
+use Rattle.vg_known.specs.Known.{event_bits, operand_term}
 use Rattle.vg_known.specs.Labels.{least_label}
 use Rattle.vg_known.specs.Params.{same_head, same_kind, same_params}
-use Rattle.vg_known.proofs.Begin.{argument_bits, arguments-stand, units-in}
-use Rattle.vg_known.proofs.Walk.{Grows}
+use Rattle.vg_known.proofs.Begin.{argument_bits, leaves-long, units-in}
+use Rattle.vg_known.proofs.Same.{begin_terms, given_of, nothing_known, terms-front}
+use Rattle.vg_known.proofs.Stored.{span-at}
 use Rattle.vg_known_scalar.specs.Laws.{ScalarProgramsAreSame}
-use Rattle.vg_known_scalar.proofs.Cutting.{IsMet, term-itself}
+use Rattle.vg_known_scalar.proofs.Cutting.{term-itself}
 use Rattle.vg_known_scalar.proofs.Found.{all-put, all-read, AllPut, count_in, puts_from, UnitPuts}
 use Rattle.vg_known_scalar.proofs.Names.{IsThere, Named}
 use Rattle.vg_known_scalar.proofs.Needing.{all-need}
 use Rattle.vg_known_scalar.proofs.Rows.{by_rank-own, joined-spans, rows-in-order}
-use Rattle.vg_known_scalar.proofs.Walk.{Followed, terms-front, walk}
+use Rattle.vg_known_scalar.proofs.Walk.{Followed, operation-access, walk}
 
 -- ---- name and parameters
 
@@ -118,13 +118,6 @@ none-opaque entries ssa =
     ap (option_map (λ i. opaque (i + 2))) (position-none (is_opaque_call entries) (lines_of_units ssa) (no-calls entries (is_needed ssa) 0 (argument_names 0 (arguments ssa)) ssa.units))
 
 -- ---- labels
-
-operation-access : (op : Operator) (w : Width) (n : ℕ) (a b c : Number) → line_access (operation_line op w n a b c) ≡ None
-operation-access (operator.Two op) w n a b c = refl
-operation-access (operator.Shift op) w n a b c = refl
-operation-access (operator.Resize op v) w n a b c = refl
-operation-access (operator.Compare op) w n a b c = refl
-operation-access operator.Select w n a b c = refl
 
 scalar-labels : (needed : ℕ → Bool) (k : ℕ) (names : List Number) (us : List Work) → labels (map line_access (scalar_lines needed k names us)) ≡ unit_labels us
 scalar-labels needed k names [] = refl
@@ -206,30 +199,18 @@ terms-long flags first done s (u ∷ us) =
 abbrev leaves_of : Ssa → List Tree
 leaves_of ssa = argument_leaves 0 (integers ssa)
 
-abbrev begin_terms : Ssa → Terms
-begin_terms ssa = record { terms = leaves_of ssa; met = leaves_of ssa }
-
-abbrev given_of : List Entry → Ssa → Given
-given_of entries ssa = record { entries = entries; arguments = take (arguments ssa) (kernel_terms ssa).terms; reads = kernel_reads ssa (kernel_terms ssa).terms }
-
-abbrev nothing_known : Ssa → Known
-nothing_known ssa = record { scalars = []; vectors = []; met = (kernel_terms ssa).met; puts = [] }
-
-leaves-long : (ssa : Ssa) → length (leaves_of ssa) ≡ arguments ssa
-leaves-long ssa = (arguments-stand ssa).long ∙ length-map (integers ssa) _
-
 begins : (ssa : Ssa) → take (arguments ssa) (kernel_terms ssa).terms ≡ leaves_of ssa
 begins ssa =
     let front = terms-front (noalias_flags ssa) (arguments ssa) [] (begin_terms ssa) ssa.units in
-    ap (take (arguments ssa)) front.1 ∙ take_at (leaves_of ssa) front.0 (arguments ssa) (leaves-long ssa)
+    ap (take (arguments ssa)) front.1 ∙ take_at (leaves_of ssa) front.0 (arguments ssa) (leaves-long 0 (integers ssa))
 
 begun : (entries : List Entry) (ssa : Ssa) → Named (is_needed ssa) (given_of entries ssa) (leaves_of ssa) (nothing_known ssa) (arguments ssa) (argument_bits (integers ssa)) (argument_names 0 (arguments ssa)) (leaves_of ssa)
 begun entries ssa = record {
   bits_long = length-map (integers ssa) _;
   names_long = length-names 0 (arguments ssa);
-  terms_long = leaves-long ssa;
+  terms_long = leaves-long 0 (integers ssa);
   each = λ j less w e. (
-    any-at (is_same_term (slice_index_or (leaves_of ssa) j no_term)) (leaves_of ssa) j no_term (let l = leaves-long ssa in omega (arith, l, less)) (term-itself (slice_index_or (leaves_of ssa) j no_term)),
+    any-at (is_same_term (slice_index_or (leaves_of ssa) j no_term)) (leaves_of ssa) j no_term (let l = leaves-long 0 (integers ssa) in omega (arith, l, less)) (term-itself (slice_index_or (leaves_of ssa) j no_term)),
     λ n. named j less,
   );
 }
@@ -253,7 +234,7 @@ followed entries ssa sound =
     let units = units-in ssa [] ssa.units refl (subst (λ k. TakeEarlier k ssa.units) (let e : a ≡ a + 0 = omega arith in e) sound.earlier) sound.units in
     let units_here = subst (λ l. UnitsIn (length (pointers ssa)) l ssa.units) (append-nil (argument_bits (integers ssa))) units in
     let size = terms-long (noalias_flags ssa) a [] (begin_terms ssa) ssa.units in
-    let many = leaves-long ssa in
+    let many = leaves-long 0 (integers ssa) in
     let enough : length ssa.units ≤ length (drop a ts) = omega (arith, length-drop a ts, size, many) in
     walk (is_needed ssa) g (noalias_flags ssa) a (length (pointers ssa)) (kernel_terms ssa) 0 a 0 (argument_bits (integers ssa)) (argument_names 0 a) [] (begin_terms ssa) ssa.units (nothing_known ssa) (record {
       whole = refl;
@@ -264,13 +245,6 @@ followed entries ssa sound =
       need = all-need ssa [] ssa.units a sound.earlier refl (omega arith);
       reads = all-read g.reads [] ts 0 a ssa.units (drop a ts) refl tt refl enough;
     })
-
--- the events of the unit behind these
-span-at : (f : ℕ) (done : List Work) (u : Work) (us : List Work) → slice_index_or (spans f (map access_of (done ++ u ∷ us))) (length done) [] ≡ numbers_from (f + length (unit_labels done)) (count_in u)
-span-at f [] u us = ap (λ n. numbers_from n (count_in u)) (let e : f ≡ f + 0 = omega arith in e)
-span-at f (d ∷ done) u us =
-    span-at (f + count_in d) done u us
-    ∙ ap (λ n. numbers_from n (count_in u)) (let l = length-append (labels_in (access_of d)) (unit_labels done) in let e : f + count_in d + length (unit_labels done) ≡ f + length (labels_in (access_of d) ++ unit_labels done) = omega arith in e)
 
 labels-push : (done : List Work) (u : Work) → length (unit_labels (done ++ u ∷ [])) ≡ length (unit_labels done) + count_in u
 labels-push [] u = length-append (labels_in (access_of u)) [] ∙ omega arith

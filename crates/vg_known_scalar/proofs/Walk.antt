@@ -1,14 +1,12 @@
 -- The walk over the scalar program finds the terms of the kernel, and stores what the kernel stores.
-use Rattle.std.proofs.Common.{◌≡◌, ℕ, zero, suc, ◌+◌, ◌<◌, ◌≤◌, Bool, true, false, List, [], ◌∷◌, ◌++◌, length, map, Option, Some, None, refl, sym, ap, subst, ◌∙◌, inl, inr, arith, append_assoc, append-nil}
+use Rattle.std.proofs.Common.{◌≡◌, ℕ, ◌+◌, Bool, List, [], ◌∷◌, ◌++◌, length, map, Option, Some, None, refl, sym, ap, subst, ◌∙◌, inl, inr, arith, append_assoc, append-nil}
 use Rattle.std.specs.Prelude.{slice_index_or, if◌then◌else◌}
 use Rattle.std.proofs.lemmas.Bool.{cases_Bool}
 use Rattle.std.proofs.lemmas.List.{get_or_append_left, get_or_push, length_push}
-use Rattle.vg_base.specs.declared.address.Address.{Address}
 use Rattle.vg_base.specs.declared.width.Width.{Width}
 use Rattle.vg_base.specs.Width.{bits_of}
 use Rattle.vg_terms.specs.Term.{Tree}
 use Rattle.vg_program.specs.declared.line.Line.{Line}
-use Rattle.vg_program.specs.declared.line.Line.TheVariants as line
 use Rattle.vg_program.specs.declared.operand.Operand.{Operand as Number}
 use Rattle.vg_program.specs.declared.operand.Operand.TheVariants.{Register}
 use Rattle.vg_shapes.specs.declared.access.Access.{Access}
@@ -17,7 +15,6 @@ use Rattle.vg_shapes.specs.declared.unit.Operator.{Operator}
 use Rattle.vg_shapes.specs.declared.unit.Operator.TheVariants as operator
 use Rattle.vg_shapes.specs.declared.unit.Unit.{Unit as Work}
 use Rattle.vg_shapes.specs.declared.unit.Unit.TheVariants.{Load, Store, Operation}
-use Rattle.vg_shapes.specs.declared.wanted.Wanted.{Wanted}
 use Rattle.vg_shapes.specs.Order.{numbers_from}
 use Rattle.vg_shapes.specs.Sound.{load_key, result_bits}
 use Rattle.vg_ssa.specs.ValueTerm.{no_term}
@@ -33,20 +30,15 @@ use Rattle.vg_known.specs.Cuts.{computed, gathered, met_with}
 use Rattle.vg_known.specs.FirstLoads.{first_load}
 use Rattle.vg_known.specs.Kernels.{bits_at, pairs_of, Terms, terms_behind, unit_term, with_term}
 use Rattle.vg_known.specs.Known.{Given, know, know_all, Known, operand_term, read_bits, with_puts, with_scalar}
+use Rattle.vg_known.proofs.Same.{terms-front}
 use Rattle.vg_known.proofs.Terms.{terms-grow}
-use Rattle.vg_known.proofs.Walk.{Grows, grows-not, grows-on}
+use Rattle.vg_known.proofs.Walk.{Grows}
 use Rattle.vg_known_scalar.proofs.Cutting.{compare-stays, gathered-leaf, met-itself, met-more, met-stays, resize-stays, select-stays, shift-stays, two-stays}
 use Rattle.vg_known_scalar.proofs.Found.{AllRead, count_in, puts_from}
 use Rattle.vg_known_scalar.proofs.Names.{bit-named, Named, number-named, operand-cut, store-named, stored-term, with-scalar-named, without-scalar-named}
 use Rattle.vg_known_scalar.proofs.Needing.{AllNeed, IsNeeded}
 
 -- ---- the kernel's terms
-
-pub terms-front : (flags : List Bool) (first : ℕ) (done : List Work) (s : Terms) (us : List Work) → Grows s.terms (terms_behind flags first done s us).terms
-terms-front flags first done s [] = grows-not s.terms
-terms-front flags first done s (u ∷ us) =
-    let own = unit_term flags first done s u in
-    grows-on s.terms (s.terms ++ own ∷ []) (terms_behind flags first (done ++ u ∷ []) (with_term s u own) us).terms (own ∷ [], refl) (terms-front flags first (done ++ u ∷ []) (with_term s u own) us)
 
 -- a term that the kernel met is met already
 next-met : (old met all : List Tree) (t : Tree) → met ≡ all → Grows (met_with old t) all → met_with met t ≡ all
@@ -57,7 +49,7 @@ next-met old met all t e grows = ap (λ m. met_with m t) e ∙ met-stays all t (
 abbrev line_of : List Number → Operator → Width → ℕ → Operands → Line
 line_of names op w n xs = operation_line op w n (scalar_operand names xs.first) (scalar_operand names xs.second) (scalar_operand names xs.third)
 
-operation-access : (op : Operator) (w : Width) (n : ℕ) (a b c : Number) → line_access (operation_line op w n a b c) ≡ None
+pub operation-access : (op : Operator) (w : Width) (n : ℕ) (a b c : Number) → line_access (operation_line op w n a b c) ≡ None
 operation-access (operator.Two op) w n a b c = refl
 operation-access (operator.Shift op) w n a b c = refl
 operation-access (operator.Resize op v) w n a b c = refl

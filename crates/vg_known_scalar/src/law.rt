@@ -2,8 +2,9 @@
 
 ghost use Rattle.vg_known_scalar.specs.Laws.{ScalarProgramsAreSame};
 
-/// The scalar program of a sound kernel has no difference to it: the same name and parameters, each event as
-/// often and in order, and at each store the same term, also where large terms are cut.
+/// The scalar program of a sound kernel has no difference to it, whatever instances there are: it has
+/// the name and the parameters of the kernel, each event as often and in order, and at each store the
+/// same term, also where large terms are cut.
 pub fn scalar_programs_are_same()
     ensures { ScalarProgramsAreSame }
 {}

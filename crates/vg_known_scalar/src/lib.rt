@@ -1,5 +1,5 @@
-//! The scalar program of a kernel has no difference to it. A law alone, as a function that costs nothing to
-//! call.
+//! The scalar program of a kernel has no difference to it. A law alone, as a function that costs
+//! nothing to call.
 #![tactic(auto)]
 
 mod law;
