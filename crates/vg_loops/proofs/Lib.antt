@@ -3,4 +3,5 @@ pub mod Steps
 pub mod Both
 pub mod Found
 pub mod Meant
+pub mod Nearness
 pub mod Whole

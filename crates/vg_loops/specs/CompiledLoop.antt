@@ -10,10 +10,11 @@ use Rattle.vg_loop_laws.specs.Loops.{Loop, loop_meaning}
 use Rattle.vg_loop_laws.specs.Unrolled.{unrolled}
 use Rattle.vg_loops.specs.Inputs.{IsLoopInput, looped_meaning}
 
--- A block of as many turns as may be, which is what is compiled of the kernel of so many turns, and a rest,
--- which is what is compiled of the kernel of one. They have a text that keeps the rules. On everything
--- that the loop may be run on they leave the same memory, or trap where a turn of the loop traps.
-pub record IsCompiledLoop (entries : List Entry) (set : ℕ) (l : Loop) (width : ℕ) (looped : Looped) : Type 0 where
+-- A block of as many turns as may be, which is what is compiled of the kernel of so many turns, and
+-- a rest, which is what is compiled of the kernel of one. They have a text that keeps the rules. On
+-- everything that the loop may be run on they leave the same memory, or trap where a turn traps.
+pub record IsCompiledLoop
+    (entries : List Entry) (set : ℕ) (l : Loop) (width : ℕ) (looped : Looped) : Type 0 where
   pub turns : looped.turns ≡ turns_of l
   pub times : looped.times ≡ l.times
   pub steps : looped.steps ≡ l.steps
@@ -22,4 +23,5 @@ pub record IsCompiledLoop (entries : List Entry) (set : ℕ) (l : Loop) (width :
   pub block : IsCompiled entries set (unrolled l (turns_of l)) width looped.block
   pub rest : IsCompiled entries set l.kernel width looped.rest
   pub means : (memory places args : List ℕ) → IsLoopInput l memory places args
-      → looped_meaning (called_by entries) looped memory places args ≡ loop_meaning l memory places args
+      → looped_meaning (called_by entries) looped memory places args
+      ≡ loop_meaning l memory places args

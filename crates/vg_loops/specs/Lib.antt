@@ -4,4 +4,5 @@ pub mod Counts
 pub mod Reader
 pub mod Formed
 pub mod Inputs
+pub mod Near
 pub mod CompiledLoop

@@ -19,11 +19,12 @@ use vg_catalog::{Catalog, Extensions};
 use vg_compile::compile;
 use vg_looped::Looped;
 
-/// The looped text of a loop, whose programs may call the instructions of a catalogue whose extension is in the
-/// set: a block of as many turns as one kernel may have, and a rest of one turn.
+/// The looped text of a loop, whose programs may call the instructions of a catalogue whose
+/// extension is in the set: a block of as many turns as one kernel may have, and a rest of one turn.
 ///
-/// It leaves the memory that the loop leaves and traps where a turn of the loop traps, in each layout in which
-/// the accesses of all turns respect noalias. Each of its programs is what `compile` gives for its kernel.
+/// It leaves the memory that the loop leaves and traps where a turn of the loop traps, in each layout
+/// in which the accesses of all turns respect noalias. Each of its programs is what `compile` gives
+/// for its kernel.
 ///
 /// Fails for want of memory, also at the bounds of `compile`.
 pub fn compile_loop(

@@ -6,7 +6,15 @@ ghost use Rattle.vg_kernel.specs.Cost.{uses_of};
 ghost use Rattle.vg_kernel.specs.Layout.{reads_of, statement_accesses};
 ghost use Rattle.vg_kernel.specs.Tree.{tree_of, expression_of, statement_of};
 ghost use Rattle.vg_kernel.specs.WellFormed.{IsWellFormed};
-ghost use Rattle.vg_loop_laws.specs.Limits.{is_offset, is_near, reads_stay, statement_stays, keeps_limits, turns_of};
+ghost use Rattle.vg_loop_laws.specs.Limits.{
+  KeepsLimits,
+  is_offset,
+  is_near,
+  reads_stay,
+  statement_stays,
+  keeps_limits,
+  turns_of,
+};
 ghost use Rattle.vg_loop_laws.specs.Unrolled.{moved_address};
 ghost use Rattle.vg_loops.specs.Counts.{stores_in};
 ghost use Rattle.vg_loops.specs.View.{loop_of};
@@ -128,11 +136,10 @@ fn keeps_limits(source: &Loop, uses: u32, turns: u32) -> bool
         && all_stay(source.steps.as_slice(), turns - 1, statements)
 }
 
-/// How many turns a block has: the most that keep the limits of 16, 8, 4, 2 and 1. Takes no memory.
 #[tactic(auto, unfolding(vg_loop_laws::specs::Limits::turns_of))]
-pub fn turns_of(source: &Loop) -> u32
+fn turns_that_fit(source: &Loop) -> u32
     requires { IsWellFormed (tree_of source.now.kernel) }
-    ensures turns { result ≡ turns_of (loop_of source.now) }
+    ensures { result ≡ turns_of (loop_of source.now) }
 {
     let uses = uses_of(&source.kernel);
     if keeps_limits(source, uses, 16) {
@@ -146,4 +153,13 @@ pub fn turns_of(source: &Loop) -> u32
     } else {
         1
     }
+}
+
+/// How many turns a block has: the most that keep the limits of 16, 8, 4, 2 and 1. Takes no memory.
+pub fn turns_of(source: &Loop) -> u32
+    requires { IsWellFormed (tree_of source.now.kernel) }
+    ensures turns { result ≡ turns_of (loop_of source.now) }
+    ensures limits { KeepsLimits (loop_of source.now) result }
+{
+    turns_that_fit(source)
 }

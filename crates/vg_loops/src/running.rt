@@ -20,6 +20,7 @@ ghost use Rattle.vg_loops.specs.View.{loop_of};
 ghost use Rattle.vg_memory.specs.Outcome.{Leaves};
 
 use crate::counted::Loop;
+use crate::near::turns_asked;
 use crate::turn::{KernelTurn, Turn};
 use vg_bits::Outcome;
 use vg_keval::KState;
@@ -101,16 +102,6 @@ fn run_both<B: Turn, R: Turn>(
     run_turns(rest, memory, places, steps, 1, args, count % size)
 }
 
-/// How many turns the arguments ask for.
-fn turns_asked(times: u32, args: &[u64]) -> u64
-    ensures { result ≡ turns_asked times args.now }
-{
-    match args.get(times as usize) {
-        Some(count) => *count,
-        None => 0,
-    }
-}
-
 /// Runs a loop on a memory, in the room that was made for its kernel. The places are those of its
 /// pointers at the first turn, in bytes from the start of the memory, and the args the numbers of
 /// its integer parameters, each kind in the order of the parameters. `Trap` exactly where a turn
@@ -149,10 +140,11 @@ pub fn run_loop(
     )
 }
 
-/// Runs a looped text on a memory, by machines that were made for its two programs over the same entries. The
-/// places are those of its pointers at the first turn, in bytes from the start of the memory, and the args the
-/// numbers of its integer parameters, each kind in the order of the first line. `Trap` exactly where a block or a
-/// turn that is left over traps; then the memory may hold any bytes. Takes no memory.
+/// Runs a looped text on a memory, by machines that were made for its two programs over the same
+/// entries. The places are those of its pointers at the first turn, in bytes from the start of the
+/// memory, and the args the numbers of its integer parameters, each kind in the order of the first
+/// line. `Trap` exactly where a block or a turn that is left over traps; then the memory may hold
+/// any bytes. Takes no memory. A text that stores nothing may have 2^64 - 1 turns.
 pub fn run_looped(
     looped: &Looped,
     block: &mut Machine<'_>,

@@ -2,17 +2,10 @@ use Rattle.std.proofs.Common.{refl, sym, ap, subst, ◌∙◌}
 use Rattle.vg_catalog.specs.Catalogs.{entries_in}
 use Rattle.vg_catalog.specs.Extensions.{bits_in}
 use Rattle.vg_compile.specs.Compiled.{IsCompiled}
-use Rattle.vg_loop_laws.specs.Limits.{KeepsLimits}
 use Rattle.vg_loop_laws.specs.Unrolled.{unrolled}
-use Rattle.vg_loop_laws.proofs.Most.{turns-are-most}
 use Rattle.vg_loops.specs.View.{loop_of}
 use Rattle.vg_loops.proofs.Whole.{compiled-loop}
 use Rattle.vg_loops.proofs.compiling.compile_loop.Goals as goal
-
-pub unroll-requires-clause-limits : goal.unroll-requires-clause-limits
-unroll-requires-clause-limits c =
-    let l = loop_of c.args.source.now in
-    subst (KeepsLimits l) (sym c.turns_of-turns.ensures.turns) (turns-are-most l c.requires.source.kernel).keep
 
 pub returns : goal.returns
 returns c =
