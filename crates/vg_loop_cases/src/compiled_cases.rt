@@ -1,0 +1,147 @@
+//! What is compiled of loops, beside the loops.
+
+ghost use Rattle.std.specs.Prelude.{IfOk};
+ghost use Rattle.vg_catalog.specs.Called.{headers_of};
+ghost use Rattle.vg_catalog.specs.Catalogs.{entries_in};
+ghost use Rattle.vg_catalog.specs.Written.{AllWritten};
+ghost use Rattle.vg_looped.specs.Looped.{IsLooped};
+
+use crate::running::{Inputs, left_by_loop, left_by_looped, read};
+use bitflags::Flags;
+use std::alloc::Global;
+use std::process::Abort;
+use std::test::Fail;
+use vg_catalog::{Catalog, Extensions, parse_file};
+use vg_instances::files_are_proper;
+use vg_listing::files_have_lanes;
+use vg_looped::{Looped, parse_looped, print_looped};
+use vg_loops::{Loop, compile_loop};
+
+/// All ten extensions.
+const ALL: u16 = 1023;
+
+/// How many plans of each size the search keeps.
+const WIDTH: u32 = 32;
+
+const ADD: &[u8] = b"INSTRUCTION _mm_add_epi32 PARAM a 128 SI32 PARAM b 128 SI32
+RESULT dst 128 SI32 EXTENSION SSE2 COST 1 OPERATION
+FOR j := 0 to 3
+ i := j*32
+ dst[i+31:i] := a[i+31:i] + b[i+31:i]
+ENDFOR
+dst[MAX:128] := 0
+END
+";
+
+/// A loop, instructions, and the looped text that is made of it with them.
+#[derive(Drop)]
+struct Compiled {
+    catalog: Catalog,
+    source: Loop,
+    looped: Looped,
+}
+
+fn case_of(alloc: Global, instructions: &[u8], text: &str) -> Result<Compiled, Fail>
+    ensures written { IfOk result (λ c. AllWritten (entries_in c.catalog)) }
+    ensures rules { IfOk result (λ c. IsLooped (headers_of (entries_in c.catalog)) c.looped) }
+{
+    files_have_lanes();
+    files_are_proper();
+    let catalog = parse_file(alloc, instructions)?;
+    let source = read(alloc, text)?;
+    let set = Extensions::from_bits_retain(ALL);
+    let looped = compile_loop(alloc, &catalog, set, &source, WIDTH)?;
+    Ok(Compiled {
+        catalog,
+        source,
+        looped,
+    })
+}
+
+/// Asserts that the loop and its looped text leave the same of a memory in so many turns.
+fn expect_same(
+    rt: &impl Abort,
+    alloc: Global,
+    case: &Compiled,
+    inputs: Inputs<'_>,
+    memory: &[u8],
+) -> Result<(), Fail>
+    requires written { AllWritten (entries_in case.now.catalog) }
+    requires rules { IsLooped (headers_of (entries_in case.now.catalog)) case.now.looped }
+{
+    let entries = case.catalog.entries();
+    let by_loop = left_by_loop(alloc, &case.source, inputs, memory)?;
+    let by_looped = left_by_looped(alloc, entries, &case.looped, inputs, memory)?;
+    match (&by_loop, &by_looped) {
+        (Some(one), Some(other)) => assert!(rt; one.as_slice() == other.as_slice()),
+        (None, None) => {}
+        _ => return Err("one of a loop and its looped text traps".into()),
+    }
+    Ok(())
+}
+
+/// A memory of bytes that differ.
+fn bytes(alloc: Global, count: u32) -> Result<Vec<u8>, Fail> {
+    let mut memory = Vec::new(alloc);
+    for index in 0..count {
+        memory.push((index % 251) as u8)?;
+    }
+    Ok(memory)
+}
+
+const SUMS: &str = "loop add(d: noalias ptr, a: ptr, b: ptr, n: i32) times n step d 4, a 4, b 4
+{ store32(d, load32(a) + load32(b)); }";
+
+#[test]
+fn a_block_of_sixteen_sums_calls_instructions(rt: HostRuntime) -> Result<(), Fail> {
+    let alloc = rt.alloc();
+    let case = case_of(alloc, ADD, SUMS)?;
+    assert!(rt; case.looped.turns == 16 && case.looped.times == 0);
+    assert!(rt; case.looped.steps.as_slice() == [4, 4, 4].as_slice());
+    assert!(rt; case.looped.block.scalar == 64 && case.looped.rest.scalar == 4);
+    assert!(rt; case.looped.block.cost < 64 && case.looped.rest.cost <= 4);
+    let memory = bytes(alloc, 480)?;
+    for count in [0, 1, 15, 16, 17, 40, 41] {
+        let inputs = Inputs {
+            places: &[0, 160, 320],
+            args: &[count],
+        };
+        expect_same(&rt, alloc, &case, inputs, memory.as_slice())?;
+    }
+    Ok(())
+}
+
+#[test]
+fn a_looped_text_that_is_compiled_is_printed_and_read_again(rt: HostRuntime) -> Result<(), Fail> {
+    let alloc = rt.alloc();
+    let case = case_of(alloc, ADD, SUMS)?;
+    assert!(rt; case.looped.steps.as_slice().len() <= 16);
+    let text = print_looped(alloc, &case.looped)?;
+    let Ok(again) = parse_looped(alloc, text.as_slice(), case.catalog.headers()) else {
+        return Err("what is printed is refused".into());
+    };
+    assert!(rt; again.steps.as_slice().len() <= 16);
+    assert!(rt; print_looped(alloc, &again)?.as_slice() == text.as_slice());
+    let first = "looped add(d: ptr, a: ptr, b: ptr, n: i32) times n step d 4, a 4, b 4 block 16\n";
+    assert!(rt; text.as_slice().starts_with(first.as_bytes()));
+    Ok(())
+}
+
+#[test]
+fn turns_that_depend_on_each_other_stay_in_order(rt: HostRuntime) -> Result<(), Fail> {
+    let alloc = rt.alloc();
+    let text = "loop sums(p: ptr, q: ptr, n: i8) times n step p 1
+        { store8(p + 1, load8(p) + load8(p + 1)); store8(q, load8(p + 1)); }";
+    let case = case_of(alloc, b"", text)?;
+    let memory = bytes(alloc, 24)?;
+    for count in [0, 3, 16, 19, 23, 24] {
+        for place in [0, 3, 23] {
+            let inputs = Inputs {
+                places: &[0, place],
+                args: &[count],
+            };
+            expect_same(&rt, alloc, &case, inputs, memory.as_slice())?;
+        }
+    }
+    Ok(())
+}
