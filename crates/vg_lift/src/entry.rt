@@ -46,8 +46,8 @@ pub fn has_lanes(header: &Header) -> bool
 /// has no immediate. All its lanes are gathered of what this answers; None where a slice or a shift
 /// of the instance depends on data.
 ///
-/// Fails for want of memory, also past 2^22 expressions judged while the script is written out, 2^24
-/// nodes of the script or of the pool, or 2^21 bits of all registers of a body.
+/// Fails for want of memory, also past 2^24 expressions that are kept while the script is written
+/// out, 2^24 nodes of the script or of the pool, or 2^21 bits of all registers of a body.
 pub fn lift_entry(
     pool: &mut Pool,
     alloc: Global,

@@ -80,7 +80,7 @@ fn list_entry(alloc: Global, entry: &Checked, to: &mut Vec<u8>) -> Result<(), Al
 /// with its canonical term, `lane N too large` or `lane N dynamic`; and `not packable CAUSE` where
 /// packs cannot call it.
 ///
-/// Fails for want of memory, also past 2^22 expressions judged while the script of an instance is
+/// Fails for want of memory, also past 2^24 expressions kept while the script of an instance is
 /// written out, 2^24 nodes of the script of an instance or of the terms of an entry, or 2^21 bits of
 /// all registers of a body.
 pub fn list_entries(alloc: Global, entries: &[Checked]) -> Result<Vec<u8>, AllocError>

@@ -56,7 +56,7 @@ impl<'a> Machine<'a> {
     /// `parse_file` reads it.
     ///
     /// Fails for want of memory, also past 2^24 nodes of all scripts that are called, 2^28 bytes of the
-    /// frames of all instances that are called, or 2^22 expressions judged while a script is written
+    /// frames of all instances that are called, or 2^24 expressions kept while a script is written
     /// out, and where a call passes more than four registers or gives one of more than 512 bits or of
     /// no whole bytes.
     pub fn new(

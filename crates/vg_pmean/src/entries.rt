@@ -115,7 +115,7 @@ impl Prepared {
     /// An accepted entry with all its instances. For each immediate of the entry, and for any number where it has none,
     /// `apply` answers what the entry means.
     ///
-    /// Fails for want of memory, also past 2^22 expressions judged while a script is written out, 2^24 nodes of all
+    /// Fails for want of memory, also past 2^24 expressions kept while a script is written out, 2^24 nodes of all
     /// scripts or 2^28 bytes of frames.
     pub fn new(alloc: Global, checked: &Checked) -> Result<Prepared, AllocError>
         requires written { IsWritten (header_in checked.now) (operation_in checked.now) }
@@ -128,7 +128,7 @@ impl Prepared {
     /// An accepted entry with its instance for one immediate, for which `apply` answers what the entry means; any number
     /// may stand there where the entry has no immediate. None where the immediate is not one of the entry.
     ///
-    /// Fails for want of memory, also past 2^22 expressions judged while the script is written out, 2^24 nodes of it or
+    /// Fails for want of memory, also past 2^24 expressions kept while the script is written out, 2^24 nodes of it or
     /// 2^28 bytes of frames.
     pub fn for_one(
         alloc: Global,

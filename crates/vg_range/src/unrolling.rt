@@ -91,8 +91,8 @@ fn whole_from(alloc: Global, resolved: &Resolved, stand: Box<Stand>) -> Result<W
 
 impl Checked {
     /// The entry written out for an immediate, as a script of straight statements; None where it has no instance for it.
-    /// Since the entry is accepted it fails for want of memory alone, which it answers also where more than 2^22 slices,
-    /// operators, functions and choices are judged for the instance.
+    /// Since the entry is accepted it fails for want of memory alone, which it answers also where more than 2^24 slices,
+    /// operators, functions and choices are written out for the instance; what is judged and not kept counts for none.
     ///
     /// Where a text can say the entry, its words and slices keep their widths, and for all parameters it leaves in dst the
     /// bits that the entry means. So whoever runs or lifts it looks at no text and no interval again.
