@@ -39,7 +39,7 @@ names_earlier ssa deps e = record { units = names_units ssa deps e; earlier = na
 
 pub no_cycle : (ds : List Description) (matches : List Match) (ssa : Ssa) (deps : List (ℕ × ℕ)) (plan : List Packed) (units : List ℕ)
     → deps ≡ dependences ssa → IsPlanFor ds matches ssa deps plan → NamesCycle deps ssa matches plan units → ⊥
-no_cycle ds matches ssa deps plan units e is (cycle, closed, are) =
+no_cycle ds matches ssa deps plan units e is (cycle, closed, are, once) =
     plans-have-no-cycle ds matches ssa deps plan cycle (names_units ssa deps e) (names_lesser ssa deps e) is closed
 
 pub is_order : (matches : List Match) (ssa : Ssa) (deps : List (ℕ × ℕ)) (plan : List Packed) (order : List Node)

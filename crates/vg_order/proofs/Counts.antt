@@ -2,8 +2,9 @@
 use Rattle.std.proofs.Common.{◌≡◌, ◌≢◌, ℕ, zero, suc, ◌+◌, ◌<◌, ◌≤◌, Bool, true, false, List, [], ◌∷◌, ◌++◌, length, drop, map, refl, sym, ap, ◌∙◌, ◌⊎◌, inl, inr, arith, get_or}
 use Rattle.std.specs.Prelude.{slice_index, ◌==◌}
 use Rattle.std.specs.List.{concat}
-use Rattle.std.proofs.lemmas.Bool.{cases_Bool, eq-eqb, eqb-true, ne_eqb}
+use Rattle.std.proofs.lemmas.Bool.{cases_Bool, cases_eq, eq-eqb, eqb-true, ne_eqb}
 use Rattle.vg_shapes.specs.Order.{count_of, one_if, Stands}
+use Rattle.vg_order.specs.ByList.{AreOnce}
 
 pub count_of-append : (x : ℕ) (ys zs : List ℕ) → count_of x (ys ++ zs) ≡ count_of x ys + count_of x zs
 count_of-append x [] zs = omega arith
@@ -11,6 +12,29 @@ count_of-append x (y ∷ ys) zs = omega (arith, count_of-append x ys zs)
 
 pub count_of-push : (x y : ℕ) (ys : List ℕ) → count_of x (ys ++ y ∷ []) ≡ count_of x ys + one_if (x == y)
 count_of-push x y ys = let one : count_of x (y ∷ []) ≡ one_if (x == y) = omega arith in omega (arith, count_of-append x ys (y ∷ []))
+
+pub count_of-drop : (x k : ℕ) (ys : List ℕ) → count_of x (drop k ys) ≤ count_of x ys
+count_of-drop x zero ys = omega arith
+count_of-drop x (suc k) [] = omega arith
+count_of-drop x (suc k) (y ∷ ys) = omega (arith, count_of-drop x k ys)
+
+at_most_one : (b : Bool) → one_if b ≤ 1
+at_most_one true = omega arith
+at_most_one false = omega arith
+
+same-behind : (f : ℕ → ℕ) (x y : ℕ) → one_if (x == y) ≤ one_if (f x == f y)
+same-behind f x y = elim (cases_eq x y) [
+  | inl e ↦ (let one : one_if (f x == f y) ≡ 1 = ap one_if (eq-eqb (f x) (f y) (ap f e)) in let most = at_most_one (x == y) in omega (arith, one, most))
+  | inr e ↦ (let none : one_if (x == y) ≡ 0 = ap one_if (ne_eqb x y e) in omega (arith, none))
+]
+
+fewer-behind : (f : ℕ → ℕ) (x : ℕ) (xs : List ℕ) → count_of x xs ≤ count_of (f x) (map f xs)
+fewer-behind f x [] = omega arith
+fewer-behind f x (y ∷ ys) = omega (arith, fewer-behind f x ys, same-behind f x y)
+
+-- what stands once behind a function stands once
+pub once-from_map : (f : ℕ → ℕ) (xs : List ℕ) → AreOnce (map f xs) → AreOnce xs
+once-from_map f xs h x = omega (arith, fewer-behind f x xs, h (f x))
 
 -- where a number stands
 pub stands_where : (x : ℕ) (xs : List ℕ) → Stands x xs → (k : ℕ) × (k < length xs) × (slice_index xs k ≡ x)

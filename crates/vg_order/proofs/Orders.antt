@@ -18,11 +18,11 @@ use Rattle.vg_shapes.specs.Units.{arguments}
 use Rattle.vg_order.specs.declared.fault.OrderFault.{OrderFault}
 use Rattle.vg_order.specs.declared.fault.OrderFault.TheVariants.{Cycle, Memory}
 use Rattle.vg_order.specs.declared.graph.Graph.{Graph}
-use Rattle.vg_order.specs.ByList.{AreUnitsOf, IsCycleBy, IsOrderBy, LeadsToBy, NamesCycle, NameLesser, NameUnits, node_depends_by}
+use Rattle.vg_order.specs.ByList.{AreOnce, AreUnitsOf, IsCycleBy, IsOrderBy, LeadsToBy, NamesCycle, NameLesser, NameUnits, node_depends_by}
 use Rattle.vg_order.specs.Faults.{Closes, Tells}
 use Rattle.vg_order.specs.Graphs.{IsGraphOf, node_at}
 use Rattle.vg_order.specs.Paths.{ClosesBy, FollowsHomes, home_at, IsInside, IsOrdered, IsRising, LeadsBack, needs_at}
-use Rattle.vg_order.proofs.Counts.{count_of-append}
+use Rattle.vg_order.proofs.Counts.{count_of-append, once-from_map}
 use Rattle.vg_order.proofs.Dependences.{depends-need, is-graph, long-needs, needs-depend, no-needs}
 use Rattle.vg_order.proofs.Graphs.{length-numbers, numbers-at}
 use Rattle.vg_order.proofs.Permutations.{all-members, permutation-counts}
@@ -102,17 +102,18 @@ graph-units ssa matches packs g [] is all = refl
 graph-units ssa matches packs g (u ∷ us) is all = ((is.homes u all.0).1, graph-units ssa matches packs g us is all.1)
 
 graph-cycle : (deps : List (ℕ × ℕ)) (ssa : Ssa) (matches : List Match) (packs : List Packed) (g : Graph) (us : List ℕ) → IsGraphOf ssa matches packs g → NameUnits ssa deps
-    → ClosesBy (needs_at deps g) (home_at g) us → AllByRecursion (IsInside g) us → NamesCycle deps ssa matches packs us
-graph-cycle deps ssa matches packs g [] is names closes all = absurd closes
-graph-cycle deps ssa matches packs g (u ∷ us) is names closes all = (
+    → ClosesBy (needs_at deps g) (home_at g) us → AllByRecursion (IsInside g) us → AreOnce (map (home_at g) us) → NamesCycle deps ssa matches packs us
+graph-cycle deps ssa matches packs g [] is names closes all once = absurd closes
+graph-cycle deps ssa matches packs g (u ∷ us) is names closes all once = (
   map (λ v. node_at g (home_at g v)) (u ∷ us),
   (graph-contains ssa matches packs g (u ∷ us) is all, graph-leads deps ssa matches packs g (home_at g u) u us is names all closes),
   graph-units ssa matches packs g (u ∷ us) is all,
+  once-from_map (home_at g) (u ∷ us) once,
 )
 
 pub graph-tells : (deps : List (ℕ × ℕ)) (ssa : Ssa) (matches : List Match) (packs : List Packed) (g : Graph) (fault : OrderFault) → IsGraphOf ssa matches packs g → NameUnits ssa deps
     → Closes deps g fault → Tells deps ssa matches packs fault
-graph-tells deps ssa matches packs g (Cycle units) is names c = graph-cycle deps ssa matches packs g units.items is names c.0 c.1
+graph-tells deps ssa matches packs g (Cycle units) is names c = graph-cycle deps ssa matches packs g units.items is names c.0 c.1 c.2
 graph-tells deps ssa matches packs g (Memory e) is names c = tt
 
 -- ---- the empty plan

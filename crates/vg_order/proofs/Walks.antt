@@ -3,14 +3,15 @@ use Rattle.std.proofs.Common.{◌≡◌, ◌≢◌, ℕ, zero, suc, ◌+◌, ◌
 use Rattle.std.specs.Prelude.{slice_index, slice_set, ◌==◌}
 use Rattle.std.specs.List.{AllByRecursion}
 use Rattle.std.proofs.lemmas.Bool.{cases_eq, cases_lt, eq-eqb, ne_eqb, true≢false}
-use Rattle.std.proofs.lemmas.List.{drop_more, get_or-map, get_or-set_other, get_or-set_same, get_or_append_left, get_or_past, length-map, length-set, length_push, map-append}
+use Rattle.std.proofs.lemmas.List.{drop-map, drop_more, get_or-map, get_or-set_other, get_or-set_same, get_or_append_left, get_or_past, length-map, length-set, length_push, map-append}
 use Rattle.vg_shapes.specs.Order.{count_of, one_if, Stands}
 use Rattle.vg_order.specs.declared.graph.Graph.{Graph}
 use Rattle.vg_order.specs.declared.paths.Path.{Path}
 use Rattle.vg_order.specs.declared.progress.Progress.{Progress}
 use Rattle.vg_order.specs.Needs.{flag_at}
 use Rattle.vg_order.specs.Paths.{ClosesBy, count_true, GoesBack, home_at, IsAtRest, IsClosing, IsInside, IsOff, LeadsBack, LeadsUp, needs_at, OnPath, StandsOn, Steps}
-use Rattle.vg_order.proofs.Counts.{count_of-push, stands_where}
+use Rattle.vg_order.specs.ByList.{AreOnce}
+use Rattle.vg_order.proofs.Counts.{count_of-drop, count_of-push, stands_where}
 use Rattle.vg_order.proofs.Placing.{counts-more}
 
 -- ---- what leads on
@@ -100,6 +101,17 @@ is-true false h = absurd (omega arith)
 is-false : (b : Bool) → one_if b ≡ 0 → b ≡ false
 is-false true h = absurd (omega arith)
 is-false false h = refl
+
+-- of the units of a cycle no two are of one node
+pub closes-once : (needs : ℕ → List ℕ) (homes : List ℕ) (count : ℕ) (placed : List Bool) (path : List ℕ) (on : List Bool) (top node : ℕ) (units : List ℕ)
+    → OnPath needs homes count placed path on top → IsClosing homes path top node units → AreOnce (map (slice_index homes) units)
+closes-once needs homes count placed path on top node units p c n =
+    let home = slice_index homes in
+    let whole = path ++ top ∷ [] in
+    let e : map home units ≡ drop c.0 (map home whole) = ap (map home) c.1 ∙ sym (drop-map home c.0 whole) in
+    let left = count_of-drop n c.0 (map home whole) in
+    let most = at_most (flag_at on n) in
+    omega (arith, ap (count_of n) e, left, p.counts n, most)
 
 inside_from : (on : List Bool) (k n : ℕ) → length on ≡ n → flag_at on k ≡ true → k < n
 inside_from on k n e t = elim (cases_lt k n) [ inl h ↦ h | inr past ↦ absurd (true≢false (sym t ∙ get_or_past on k false (omega arith))) ]

@@ -1,5 +1,5 @@
 -- The nodes of a list of packs by a list of dependences: which depend on which, cycles and orders.
-use Rattle.std.specs.Prelude.{◌≡◌, ◌<◌, ℕ, ◌&&◌, Bool, true, false, List, [], ◌∷◌, slice_get, Contains}
+use Rattle.std.specs.Prelude.{◌≡◌, ◌<◌, ◌≤◌, ℕ, ◌&&◌, Bool, true, false, List, [], ◌∷◌, slice_get, Contains}
 use Rattle.std.specs.List.{AllByRecursion, list_any}
 use Rattle.std.specs.List.Sorted.{IsPermutation}
 use Rattle.std.specs.Option.{option_map_or}
@@ -11,7 +11,7 @@ use Rattle.vg_shapes.specs.declared.pack.Pack.TheVariants.{Stores, Loads, Call}
 use Rattle.vg_shapes.specs.declared.ssa.Ssa.{Ssa}
 use Rattle.vg_shapes.specs.DepList.{is_listed}
 use Rattle.vg_shapes.specs.Nodes.{nodes, units_at}
-use Rattle.vg_shapes.specs.Order.{Follows, Stands}
+use Rattle.vg_shapes.specs.Order.{count_of, Follows, Stands}
 use Rattle.vg_shapes.specs.Pack.{bounds_from}
 use Rattle.vg_shapes.specs.Units.{is_unit, is_value}
 
@@ -57,16 +57,20 @@ pub record IsOrderBy (deps : List (ℕ × ℕ)) (ssa : Ssa) (matches : List Matc
   pub once : IsPermutation (nodes ssa packs) order
   pub follows : Follows (node_depends_by deps ssa matches packs) (units_at packs) [] order
 
+-- none of these numbers stands twice
+abbrev pub AreOnce : List ℕ → Type 0
+AreOnce us = (u : ℕ) → count_of u us ≤ 1
+
 -- each of these units is one of the node at its place
 abbrev pub AreUnitsOf : List Packed → List ℕ → List Node → Type 0
 AreUnitsOf packs [] ns = ns ≡ []
 AreUnitsOf packs (u ∷ us) [] = ⊥
 AreUnitsOf packs (u ∷ us) (n ∷ ns) = Stands u (units_at packs n) × AreUnitsOf packs us ns
 
--- the nodes of these units are a cycle
+-- the nodes of these units, each of which is named once, are a cycle
 abbrev pub NamesCycle : List (ℕ × ℕ) → Ssa → List Match → List Packed → List ℕ → Type 0
 NamesCycle deps ssa matches packs us =
-    (ns : List Node) × IsCycleBy deps ssa matches packs ns × AreUnitsOf packs us ns
+    (ns : List Node) × IsCycleBy deps ssa matches packs ns × AreUnitsOf packs us ns × AreOnce us
 
 -- a list has lesser units alone for each unit
 abbrev pub NameLesser : List (ℕ × ℕ) → Type 0

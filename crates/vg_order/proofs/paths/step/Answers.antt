@@ -4,7 +4,7 @@ use Rattle.std.specs.List.{AllByRecursion}
 use Rattle.vg_shapes.specs.Order.{Stands}
 use Rattle.vg_order.specs.Needs.{flag_at}
 use Rattle.vg_order.specs.Paths.{home_at, IsClosing, IsInside, needs_at, Visits}
-use Rattle.vg_order.proofs.Walks.{all-drop, closes-path, steps-back, steps-up, top-waits}
+use Rattle.vg_order.proofs.Walks.{all-drop, closes-once, closes-path, steps-back, steps-up, top-waits}
 use Rattle.vg_order.proofs.paths.step.Goals as goal
 
 pub visit-requires-clause-waits : goal.visit-requires-clause-waits
@@ -43,6 +43,8 @@ returns-then-flag_at-clause-cycle c =
           (subst (λ (l : List ℕ). IsClosing l was.units.items c.args.top above c.in_ok-units.units.items) c.as_slice-homes.ensures c.in_ok-units.ensures),
       (let closing = c.in_ok-units.ensures in
           subst (AllByRecursion (IsInside g)) (sym closing.1) (all-drop (IsInside g) closing.0 (was.units.items ++ c.args.top ∷ []) c.requires.on_path.1)),
+      closes-once (needs_at deps g) g.homes (length g.needs) before.placed.items was.units.items was.on.items c.args.top above c.in_ok-units.units.items c.requires.on_path.0
+          (subst (λ (l : List ℕ). IsClosing l was.units.items c.args.top above c.in_ok-units.units.items) c.as_slice-homes.ensures c.in_ok-units.ensures),
     )
 
 pub returns-clause-steps : goal.returns-clause-steps
