@@ -36,76 +36,51 @@ fn spell(to: &mut String, checks: &[Check]) -> Result<(), Fail> {
     Ok(())
 }
 
-/// Asserts that the kernel with these parameters and statements has these checks.
-fn expect(
-    rt: &impl Abort,
-    alloc: Global,
-    params: &str,
-    statements: &str,
-    checks: &str,
-) -> Result<(), Fail> {
-    let mut text = String::new(alloc);
-    for piece in ["kernel t(", params, ") { ", statements, " }"] {
-        text.push_str(piece)?;
+/// Asserts of each row, the checks of a kernel behind its parameters and its statements, a `|` between
+/// them, that the kernel has these checks.
+fn expect_all(rt: &impl Abort, alloc: Global, rows: &str) -> Result<(), Fail> {
+    for row in rows.trim().lines() {
+        let Some((params, behind)) = row.trim_start().split_once('|') else {
+            return Err("statements are missing".into());
+        };
+        let Some((statements, checks)) = behind.split_once('|') else {
+            return Err("checks are missing".into());
+        };
+        let mut text = String::new(alloc);
+        write!(text, "kernel t({params}) {{ {statements} }}")?;
+        let kernel = read(alloc, text.as_str())?;
+        let mut found = String::new(alloc);
+        spell(&mut found, checks_of(alloc, &kernel)?.as_slice())?;
+        assert!(rt; found.as_str() == checks, "{row}");
     }
-    let kernel = read(alloc, text.as_str())?;
-    let mut found = String::new(alloc);
-    spell(&mut found, checks_of(alloc, &kernel)?.as_slice())?;
-    assert!(rt; found.as_str() == checks, "{text}");
     Ok(())
 }
 
 #[test]
 fn checks_are_of_pairs_of_which_one_is_stored_through(rt: HostRuntime) -> Result<(), Fail> {
-    let alloc = rt.alloc();
-    for (params, statements, checks) in [
-        (
-            "p: ptr, q: ptr",
-            "store32(p, load32(q)); store32(p + 4, load32(q + 4));",
-            "0+0:8 1+0:8;",
-        ),
-        ("p: noalias ptr, q: ptr", "store32(p, load32(q));", ""),
-        ("p: ptr, q: noalias ptr", "store32(p, load32(q));", ""),
-        ("p: ptr, q: ptr", "store32(p, 1i32);", ""),
-        ("p: ptr, q: ptr, k: i8", "x = load8(p) + load8(q);", ""),
-        (
-            "p: ptr, k: i8, q: ptr, d: ptr",
-            "store8(d, load8(p) + load8(q));",
-            "0+0:1 2+0:1;1+0:1 2+0:1;",
-        ),
-        (
-            "d: ptr, p: ptr, e: ptr",
-            "store8(d, 1i8); store8(e, load8(p));",
-            "0+0:1 1+0:1;0+0:1 2+0:1;1+0:1 2+0:1;",
-        ),
-        ("p: ptr", "store8(p, load8(p + 1));", ""),
-    ] {
-        expect(&rt, alloc, params, statements, checks)?;
-    }
-    Ok(())
+    expect_all(
+        &rt,
+        rt.alloc(),
+        "p: ptr, q: ptr|store32(p, load32(q)); store32(p + 4, load32(q + 4));|0+0:8 1+0:8;
+        p: noalias ptr, q: ptr|store32(p, load32(q));|
+        p: ptr, q: noalias ptr|store32(p, load32(q));|
+        p: ptr, q: ptr|store32(p, 1i32);|
+        p: ptr, q: ptr, k: i8|x = load8(p) + load8(q);|
+        p: ptr, k: i8, q: ptr, d: ptr|store8(d, load8(p) + load8(q));|0+0:1 2+0:1;1+0:1 2+0:1;
+        d: ptr, p: ptr, e: ptr|store8(d, 1i8); store8(e, load8(p));|0+0:1 1+0:1;0+0:1 2+0:1;1+0:1 2+0:1;
+        p: ptr|store8(p, load8(p + 1));|",
+    )
 }
 
 #[test]
 fn a_check_goes_from_the_least_offset_to_the_farthest_byte(rt: HostRuntime) -> Result<(), Fail> {
-    let alloc = rt.alloc();
-    let params = "a: ptr, b: ptr, k: i8, d: i64";
-    for (statements, checks) in [
-        (
-            "store8(a - 2147483648, k); store64(a + 2147483647, d); x = load8(b);",
-            "0-2147483648:4294967303 1+0:1;",
-        ),
-        (
-            "x = load64(a - 3); store8(a + 1, k); y = load8(b + 7); z = load16(b + 5);",
-            "0-3:8 1+5:3;",
-        ),
-        (
-            "x = select(eq(load8(a), k), load8(a + 9), load8(b)); store8(b - 1, k);",
-            "0+0:10 1-1:2;",
-        ),
-    ] {
-        expect(&rt, alloc, params, statements, checks)?;
-    }
-    Ok(())
+    expect_all(
+        &rt,
+        rt.alloc(),
+        "a: ptr, b: ptr|store8(a - 2147483648, 1i8); store64(a + 2147483647, 1i64); x = load8(b);|0-2147483648:4294967303 1+0:1;
+        a: ptr, b: ptr, k: i8|x = load64(a - 3); store8(a + 1, k); y = load8(b + 7); z = load16(b + 5);|0-3:8 1+5:3;
+        a: ptr, b: ptr, k: i8|x = select(eq(load8(a), k), load8(a + 9), load8(b)); store8(b - 1, k);|0+0:10 1-1:2;",
+    )
 }
 
 #[test]
@@ -142,19 +117,29 @@ fn checks_hold_where_ranges_are_apart_or_touch(rt: HostRuntime) -> Result<(), Fa
     let Ok(guarded) = parse_guarded(rt.alloc(), TWO, &[]) else {
         return Err("a guarded text is refused".into());
     };
-    for (p, q, holds) in [
-        (0, 10, true),
-        (0, 9, false),
-        (0, 2, false),
-        (6, 0, true),
-        (5, 0, false),
-        (100, 0, true),
-        (u64::MAX, u64::MAX - 6, true),
-        (u64::MAX, u64::MAX - 5, false),
-        (u64::MAX - 7, u64::MAX, false),
-        (u64::MAX, 0, true),
-    ] {
-        assert!(rt; checks_hold(&guarded, &[p, q]) == holds, "{p} {q}");
+    for row in "0 10 holds
+        0 9 fails
+        0 2 fails
+        6 0 holds
+        5 0 fails
+        100 0 holds
+        18446744073709551615 18446744073709551609 holds
+        18446744073709551615 18446744073709551610 fails
+        18446744073709551608 18446744073709551615 fails
+        18446744073709551615 0 holds"
+        .lines()
+    {
+        let Some((p, behind)) = row.trim_start().split_once(' ') else {
+            return Err("a place is missing".into());
+        };
+        let Some((q, word)) = behind.split_once(' ') else {
+            return Err("a word is missing".into());
+        };
+        let places = [p.parse::<u64>()?, q.parse::<u64>()?];
+        assert!(rt;
+            checks_hold(&guarded, &places) == (word == "holds"),
+            "{row}"
+        );
     }
     Ok(())
 }

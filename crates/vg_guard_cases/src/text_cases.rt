@@ -1,12 +1,11 @@
-//! Guarded texts: those that are read and printed again, and those that are refused. An `@` marks the
-//! place of a fault, and is no part of the text.
+//! Guarded texts: those that are read and printed again, and those that are refused. In a row an `@`
+//! marks the place of a fault, and a `|` stands for a line feed.
 
 use std::alloc::Global;
 use std::process::Abort;
 use std::test::Fail;
 use vg_guard::{parse_guarded, print_guarded};
-use vg_text::Place;
-use vg_text::place::place_after;
+use vg_marked::{lines_of, unmarked};
 
 const COPY: &str = "guarded two(p: ptr, q: ptr)
 check disjoint p+0 8 q+0 8
@@ -55,35 +54,40 @@ fn what_is_read_is_printed_again(rt: HostRuntime) -> Result<(), Fail> {
     Ok(())
 }
 
-/// Asserts that the text without its mark is refused with this number at the mark.
-fn refuse(rt: &impl Abort, alloc: Global, marked: &str, number: u32) -> Result<(), Fail> {
-    let Some((front, behind)) = marked.split_once('@') else {
-        return Err("a mark is missing".into());
-    };
-    assert!(rt; front.len() <= 1000);
-    let place = place_after(Place { line: 1, column: 1 }, front.as_bytes());
-    let mut text = Vec::from_slice(alloc, front.as_bytes())?;
-    text.extend_from_slice(behind.as_bytes())?;
-    let Err(fault) = parse_guarded(alloc, text.as_slice(), &[]) else {
-        return Err("a text that is none is read".into());
-    };
-    let is_right = fault.number() == Some(number) && fault.place() == Some(place);
-    assert!(rt; is_right, "{marked}");
+/// Asserts of each row, a number and a text, that this text between two others is refused with this
+/// number at its mark.
+fn refuse_all(
+    rt: &impl Abort,
+    alloc: Global,
+    front: &str,
+    rows: &str,
+    end: &str,
+) -> Result<(), Fail> {
+    for row in rows.trim().lines() {
+        let Some((number, text)) = row.trim_start().split_once(' ') else {
+            return Err("a number is missing".into());
+        };
+        let mut whole = String::new(alloc);
+        write!(whole, "{front}{text}{end}")?;
+        let lines = lines_of(alloc, whole.as_bytes())?;
+        let Some(marked) = unmarked(alloc, lines.as_slice())? else {
+            return Err("a mark is missing".into());
+        };
+        let Err(fault) = parse_guarded(alloc, marked.text.as_slice(), &[]) else {
+            return Err("a text that is none is read".into());
+        };
+        let number = number.parse::<u32>()?;
+        let is_right = fault.number() == Some(number) && fault.place() == Some(marked.place);
+        assert!(rt; is_right, "{row}");
+    }
     Ok(())
 }
 
-/// Asserts the same of each text with these lines of checks.
-fn refuse_checks(rt: &impl Abort, alloc: Global, number: u32, rows: &[&str]) -> Result<(), Fail> {
-    for row in rows {
-        let mut text = String::new(alloc);
-        write!(
-            text,
-            "guarded g(p: ptr, q: ptr, r: ptr, k: i8)\n{row}\nthen\nend cost 0 scalar 0\nelse\n"
-        )?;
-        write!(text, "end cost 0 scalar 0\nend checks 1\n")?;
-        refuse(rt, alloc, text.as_str(), number)?;
-    }
-    Ok(())
+/// Asserts the same of rows of checks.
+fn refuse_checks(rt: &impl Abort, alloc: Global, rows: &str) -> Result<(), Fail> {
+    let front = "guarded g(p: ptr, q: ptr, r: ptr, k: i8)|";
+    let end = "|then|end cost 0 scalar 0|else|end cost 0 scalar 0|end checks 1|";
+    refuse_all(rt, alloc, front, rows, end)
 }
 
 #[test]
@@ -91,106 +95,80 @@ fn checks_out_of_order(rt: HostRuntime) -> Result<(), Fail> {
     refuse_checks(
         &rt,
         rt.alloc(),
-        2,
-        &[
-            "check disjoint p+0 1 r+0 1\ncheck disjoint p+0 1 @q+0 1",
-            "check disjoint p+0 1 r+0 1\ncheck disjoint p+0 1 @r+0 1",
-            "check disjoint q+0 1 r+0 1\ncheck disjoint @p+0 1 q+0 1",
-            "check disjoint q+0 1 @p+0 1",
-            "check disjoint p+0 1 @p+0 1",
-            "check disjoint q+0 1 @p+2147483648 0",
-        ],
+        "2 check disjoint p+0 1 r+0 1|check disjoint p+0 1 @q+0 1
+        2 check disjoint p+0 1 r+0 1|check disjoint p+0 1 @r+0 1
+        2 check disjoint q+0 1 r+0 1|check disjoint @p+0 1 q+0 1
+        2 check disjoint q+0 1 @p+0 1
+        2 check disjoint p+0 1 @p+0 1
+        2 check disjoint q+0 1 @p+2147483648 0",
     )
 }
 
 #[test]
 fn checks_of_other_names_and_numbers(rt: HostRuntime) -> Result<(), Fail> {
-    let alloc = rt.alloc();
     refuse_checks(
         &rt,
-        alloc,
-        4,
-        &["check disjoint @z+0 1 q+0 1", "check disjoint p+0 1 @z+0 1"],
-    )?;
-    refuse_checks(
-        &rt,
-        alloc,
-        5,
-        &["check disjoint @k+0 1 q+0 1", "check disjoint p+0 1 @k+0 1"],
-    )?;
-    refuse_checks(
-        &rt,
-        alloc,
-        8,
-        &[
-            "check disjoint p-@0 1 q+0 1",
-            "check disjoint p+@2147483648 1 q+0 1",
-            "check disjoint p-@2147483649 1 q+0 1",
-            "check disjoint p+0 @0 q+0 1",
-            "check disjoint p+0 1 q+0 @4294967304",
-        ],
+        rt.alloc(),
+        "4 check disjoint @z+0 1 q+0 1
+        4 check disjoint p+0 1 @z+0 1
+        5 check disjoint @k+0 1 q+0 1
+        5 check disjoint p+0 1 @k+0 1
+        8 check disjoint p-@0 1 q+0 1
+        8 check disjoint p+@2147483648 1 q+0 1
+        8 check disjoint p-@2147483649 1 q+0 1
+        8 check disjoint p+0 @0 q+0 1
+        8 check disjoint p+0 1 q+0 @4294967304",
     )
 }
 
 #[test]
 fn lines_that_are_no_checks(rt: HostRuntime) -> Result<(), Fail> {
-    let alloc = rt.alloc();
     refuse_checks(
         &rt,
-        alloc,
-        2,
-        &[
-            "@checks disjoint p+0 1 q+0 1",
-            "@",
-            "check @ disjoint p+0 1 q+0 1",
-            "check @apart p+0 1 q+0 1",
-            "check disjoint p@ 1 q+0 1",
-            "check disjoint p+0 @01 q+0 1",
-            "check disjoint p+@00 1 q+0 1",
-            "check disjoint p+0 1 q+0 1@ ",
-            "check disjoint p+0 1@, q+0 1",
-        ],
-    )?;
-    refuse_checks(
-        &rt,
-        alloc,
-        1,
-        &["@\u{9}", "check disjoint p+0 1@\u{7f} q+0 1"],
+        rt.alloc(),
+        "2 @checks disjoint p+0 1 q+0 1
+        2 @
+        2 check @ disjoint p+0 1 q+0 1
+        2 check @apart p+0 1 q+0 1
+        2 check disjoint p@ 1 q+0 1
+        2 check disjoint p+0 @01 q+0 1
+        2 check disjoint p+@00 1 q+0 1
+        2 check disjoint p+0 1 q+0 1@\u{20}
+        2 check disjoint p+0 1@, q+0 1
+        1 @\u{9}
+        1 check disjoint p+0 1@\u{7f} q+0 1",
     )
 }
 
 #[test]
 fn bodies_and_ends_of_guarded_texts(rt: HostRuntime) -> Result<(), Fail> {
-    let alloc = rt.alloc();
-    let whole = "guarded g(p: ptr)\nthen\nend cost 0 scalar 0\nelse\nend cost 0 scalar 0\n";
-    for (row, number) in [
-        ("end checks @1\n", 8),
-        ("end checks @00\n", 2),
-        ("end checks 0@", 2),
-        ("end checks 0\n@x", 2),
-        ("end checks 0\n@\u{1}", 1),
-        ("@else\n", 2),
-        ("end @cost 0 scalar 0\n", 2),
-    ] {
-        let mut text = String::new(alloc);
-        write!(text, "{whole}{row}")?;
-        refuse(&rt, alloc, text.as_str(), number)?;
-    }
-    for (text, number) in [
-        ("@program g()\nend cost 0 scalar 0\n", 2),
-        ("@guardedx g()\n", 2),
-        ("guarded@\n", 2),
-        ("guarded g()\nthen@", 2),
-        ("guarded g()\nthen\n@else\n", 2),
-        ("guarded g(p: ptr)\nthen\nstore @q+0 1i8\n", 4),
-        ("guarded g(p: ptr)\nthen\nend cost @1 scalar 0\n", 6),
-        ("guarded g()\nthen\nend cost 0 scalar 0\n@rest\n", 2),
-        (
-            "guarded g()\nthen\nend cost 0 scalar 0\nelse\n@%s1:i8 = add 1i8 1i8\n",
-            2,
-        ),
-    ] {
-        refuse(&rt, alloc, text, number)?;
-    }
-    Ok(())
+    let front = "guarded g(p: ptr)|then|end cost 0 scalar 0|else|end cost 0 scalar 0|";
+    refuse_all(
+        &rt,
+        rt.alloc(),
+        front,
+        "8 end checks @1|
+        2 end checks @00|
+        2 end checks 0@
+        2 end checks 0|@x
+        1 end checks 0|@\u{1}
+        2 @else|
+        2 end @cost 0 scalar 0|",
+        "",
+    )?;
+    refuse_all(
+        &rt,
+        rt.alloc(),
+        "",
+        "2 @program g()|end cost 0 scalar 0|
+        2 @guardedx g()|
+        2 guarded@|
+        2 guarded g()|then@
+        2 guarded g()|then|@else|
+        4 guarded g(p: ptr)|then|store @q+0 1i8|
+        6 guarded g(p: ptr)|then|end cost @1 scalar 0|
+        2 guarded g()|then|end cost 0 scalar 0|@rest|
+        2 guarded g()|then|end cost 0 scalar 0|else|@%s1:i8 = add 1i8 1i8|",
+        "",
+    )
 }

@@ -1,38 +1,38 @@
-//! Loop kernels that are read, and those that are refused. An `@` marks the place of a fault, and is no
-//! part of the text.
+//! Loop kernels that are read, and those that are refused. In a row an `@` marks the place of a fault, and
+//! is no part of the text.
 
 use std::alloc::Global;
 use std::process::Abort;
 use std::test::Fail;
 use vg_loops::{loop_place, parse_loop};
+use vg_marked::unmarked;
 use vg_text::Place;
-use vg_text::place::place_after;
 
-/// Asserts that the text without its mark is refused with this number at the mark.
-fn refuse(rt: &impl Abort, alloc: Global, marked: &str, number: u32) -> Result<(), Fail> {
-    let Some((front, behind)) = marked.split_once('@') else {
-        return Err("a mark is missing".into());
-    };
-    assert!(rt; front.len() <= 1000);
-    let place = place_after(Place { line: 1, column: 1 }, front.as_bytes());
-    let mut text = Vec::from_slice(alloc, front.as_bytes())?;
-    text.extend_from_slice(behind.as_bytes())?;
-    let Err(fault) = parse_loop(alloc, text.as_slice()) else {
-        return Err("a text that is no loop is read".into());
-    };
-    let is_right = fault.number() == Some(number) && fault.place() == Some(place);
-    assert!(rt; is_right, "{marked}");
+/// Asserts of each row, a number and a text, that this text behind another is refused with this number
+/// at its mark.
+fn refuse_all(rt: &impl Abort, alloc: Global, front: &str, rows: &str) -> Result<(), Fail> {
+    for row in rows.trim().lines() {
+        let Some((number, text)) = row.trim_start().split_once(' ') else {
+            return Err("a number is missing".into());
+        };
+        let mut whole = String::new(alloc);
+        write!(whole, "{front}{text}")?;
+        let Some(marked) = unmarked(alloc, whole.as_bytes())? else {
+            return Err("a mark is missing".into());
+        };
+        let Err(fault) = parse_loop(alloc, marked.text.as_slice()) else {
+            return Err("a text that is no loop is read".into());
+        };
+        let number = number.parse::<u32>()?;
+        let is_right = fault.number() == Some(number) && fault.place() == Some(marked.place);
+        assert!(rt; is_right, "{row}");
+    }
     Ok(())
 }
 
-/// Asserts the same of a loop over two pointers and a byte, with each of these behind its parameters.
-fn refuse_all(rt: &impl Abort, alloc: Global, number: u32, rows: &[&str]) -> Result<(), Fail> {
-    for row in rows {
-        let mut text = String::new(alloc);
-        write!(text, "loop l(p: ptr, q: noalias ptr, n: i8) {row}")?;
-        refuse(rt, alloc, text.as_str(), number)?;
-    }
-    Ok(())
+/// Asserts the same of a loop over two pointers and a byte, the rows behind its parameters.
+fn refuse_loops(rt: &impl Abort, alloc: Global, rows: &str) -> Result<(), Fail> {
+    refuse_all(rt, alloc, "loop l(p: ptr, q: noalias ptr, n: i8) ", rows)
 }
 
 /// Asserts that a text is read as a loop that is counted by this integer and moves its pointers so.
@@ -94,144 +94,92 @@ fn steps_stand_in_any_order_and_words_of_loops_are_free(rt: HostRuntime) -> Resu
 
 #[test]
 fn names_behind_times_and_step(rt: HostRuntime) -> Result<(), Fail> {
-    let alloc = rt.alloc();
-    refuse_all(
+    refuse_loops(
         &rt,
-        alloc,
-        2,
-        &[
-            "times @8 step p 1 { store8(p, n); }",
-            "times @i8 step p 1 { store8(p, n); }",
-            "times n step @1 { store8(p, n); }",
-            "times n step @load8 1 { store8(p, n); }",
-            "times n step @{ store8(p, n); }",
-            "@time n step p 1 { store8(p, n); }",
-            "times n @steps p 1 { store8(p, n); }",
-        ],
-    )?;
-    refuse_all(
-        &rt,
-        alloc,
-        3,
-        &[
-            "times @m step p 1 { store8(p, n); }",
-            "times n step @r 1 { store8(p, n); }",
-            "times n step p 1, @r 1 { store8(p, n); }",
-        ],
-    )?;
-    refuse_all(
-        &rt,
-        alloc,
-        5,
-        &[
-            "times @p step p 1 { store8(p, n); }",
-            "times n step @n 1 { store8(p, n); }",
-            "times n step p 1, @n 1 { store8(p, n); }",
-        ],
-    )?;
-    refuse_all(
-        &rt,
-        alloc,
-        4,
-        &[
-            "times n step p 1, @p 1 { store8(p, n); }",
-            "times n step p 1, q 2, @p 3 { store8(p, n); }",
-        ],
+        rt.alloc(),
+        "2 times @8 step p 1 { store8(p, n); }
+        2 times @i8 step p 1 { store8(p, n); }
+        2 times n step @1 { store8(p, n); }
+        2 times n step @load8 1 { store8(p, n); }
+        2 times n step @{ store8(p, n); }
+        2 @time n step p 1 { store8(p, n); }
+        2 times n @steps p 1 { store8(p, n); }
+        3 times @m step p 1 { store8(p, n); }
+        3 times n step @r 1 { store8(p, n); }
+        3 times n step p 1, @r 1 { store8(p, n); }
+        5 times @p step p 1 { store8(p, n); }
+        5 times n step @n 1 { store8(p, n); }
+        5 times n step p 1, @n 1 { store8(p, n); }
+        4 times n step p 1, @p 1 { store8(p, n); }
+        4 times n step p 1, q 2, @p 3 { store8(p, n); }",
     )
 }
 
 #[test]
 fn numbers_of_steps(rt: HostRuntime) -> Result<(), Fail> {
-    let alloc = rt.alloc();
-    refuse_all(
+    refuse_loops(
         &rt,
-        alloc,
-        2,
-        &[
-            "times n step p @0x4 { store8(p, n); }",
-            "times n step p @-4 { store8(p, n); }",
-            "times n step p @{ store8(p, n); }",
-            "times n step p @q { store8(p, n); }",
-        ],
-    )?;
-    refuse_all(
-        &rt,
-        alloc,
-        6,
-        &[
-            "times n step p @0 { store8(p, n); }",
-            "times n step p 1, q @65537 { store8(p, n); }",
-            "times n step p @170141183460469231731687303715884105727 { store8(p, n); }",
-        ],
-    )?;
-    refuse_all(
-        &rt,
-        alloc,
-        1,
-        &["times n step p @170141183460469231731687303715884105728 { store8(p, n); }"],
+        rt.alloc(),
+        "2 times n step p @0x4 { store8(p, n); }
+        2 times n step p @-4 { store8(p, n); }
+        2 times n step p @{ store8(p, n); }
+        2 times n step p @q { store8(p, n); }
+        6 times n step p @0 { store8(p, n); }
+        6 times n step p 1, q @65537 { store8(p, n); }
+        6 times n step p @170141183460469231731687303715884105727 { store8(p, n); }
+        1 times n step p @170141183460469231731687303715884105728 { store8(p, n); }",
     )
 }
 
 #[test]
 fn the_steps_go_on_where_a_comma_stands(rt: HostRuntime) -> Result<(), Fail> {
-    let alloc = rt.alloc();
-    refuse_all(
+    refuse_loops(
         &rt,
-        alloc,
-        2,
-        &[
-            "times n step p 1 @; { store8(p, n); }",
-            "times n step p 1 @q 1 { store8(p, n); }",
-            "times n step p 1, @{ store8(p, n); }",
-            "times n step p 1 @",
-        ],
-    )?;
-    refuse_all(&rt, alloc, 1, &["times n step p 1 @\u{7f}"])
+        rt.alloc(),
+        "2 times n step p 1 @; { store8(p, n); }
+        2 times n step p 1 @q 1 { store8(p, n); }
+        2 times n step p 1, @{ store8(p, n); }
+        2 times n step p 1 @
+        1 times n step p 1 @\u{7f}",
+    )
 }
 
 #[test]
 fn no_store_that_moves_is_met_at_the_closing_brace(rt: HostRuntime) -> Result<(), Fail> {
-    let alloc = rt.alloc();
-    refuse_all(
+    refuse_loops(
         &rt,
-        alloc,
-        11,
-        &[
-            "times n step p 1 { @} x",
-            "times n step p 1 { @}\u{7f}",
-            "times n step p 1 { store8(q, load8(p)); @}",
-            "times n step q 1 { x = load8(q); store8(p, x); @} }",
-        ],
-    )?;
-    refuse_all(
-        &rt,
-        alloc,
-        2,
-        &[
-            "times n step p 1 { x = @} }",
-            "times n step p 1 { store8(p, n); } @x",
-            "times n step p 1 { store8(p, n); } @}",
-        ],
-    )?;
-    refuse_all(&rt, alloc, 3, &["times n step p 1 { store8(q, @x); }"])
+        rt.alloc(),
+        "11 times n step p 1 { @} x
+        11 times n step p 1 { @}\u{7f}
+        11 times n step p 1 { store8(q, load8(p)); @}
+        11 times n step q 1 { x = load8(q); store8(p, x); @} }
+        2 times n step p 1 { x = @} }
+        2 times n step p 1 { store8(p, n); } @x
+        2 times n step p 1 { store8(p, n); } @}
+        3 times n step p 1 { store8(q, @x); }",
+    )
 }
 
 #[test]
 fn texts_that_are_no_loops(rt: HostRuntime) -> Result<(), Fail> {
-    let alloc = rt.alloc();
-    for (text, number) in [
-        ("@kernel k(p: ptr) { store8(p, 1i8); }", 2),
-        ("@loops l(p: ptr) { }", 2),
-        ("@", 2),
-        ("loop @", 2),
-        ("loop@\u{7f}", 1),
-        ("@\u{7f} loop", 1),
-        ("loop l(p: ptr, @p: i8) times p step p 1 { }", 4),
-    ] {
-        refuse(&rt, alloc, text, number)?;
-    }
-    let long = vec![in alloc; b' '; 262_145]?;
-    let Err(fault) = parse_loop(alloc, long.as_slice()) else {
+    refuse_all(
+        &rt,
+        rt.alloc(),
+        "",
+        "2 @kernel k(p: ptr) { store8(p, 1i8); }
+        2 @loops l(p: ptr) { }
+        2 @
+        2 loop @
+        1 loop@\u{7f}
+        1 @\u{7f} loop
+        4 loop l(p: ptr, @p: i8) times p step p 1 { }",
+    )
+}
+
+#[test]
+fn a_text_of_more_than_256_kib_is_refused(rt: HostRuntime) -> Result<(), Fail> {
+    let long = vec![in rt.alloc(); b' '; 262_145]?;
+    let Err(fault) = parse_loop(rt.alloc(), long.as_slice()) else {
         return Err("a text that is too long is read".into());
     };
     assert!(rt; fault.number() == Some(9));

@@ -2,6 +2,8 @@
 
 ghost use Rattle.std.specs.Prelude.{[], IfOk};
 ghost use Rattle.vg_looped.specs.Looped.{IsLooped};
+ghost use Rattle.vg_loops.specs.Formed.{IsLoop};
+ghost use Rattle.vg_loops.specs.View.{loop_of};
 
 use crate::running::{Inputs, left_by_loop, left_by_looped, read};
 use std::alloc::Global;
@@ -10,7 +12,7 @@ use std::test::Fail;
 use vg_kernel::KStmt;
 use vg_keval::{KState, run_kernel};
 use vg_looped::{Looped, parse_looped};
-use vg_loops::{Outcome, turns_of, unroll};
+use vg_loops::{Loop, Outcome, turns_of, unroll};
 
 /// Asserts what a loop leaves of a memory. None where it traps.
 fn expect(
@@ -34,73 +36,98 @@ fn expect(
 const COPY: &str =
     "loop copy(d: ptr, s: ptr, n: i8) times n step d 1, s 1 { store8(d, load8(s)); }";
 
+/// The bytes of digits.
+fn digits(alloc: Global, text: &str) -> Result<Vec<u8>, Fail> {
+    let mut bytes = Vec::new(alloc);
+    for digit in text.as_bytes() {
+        bytes.push(*digit % 16)?;
+    }
+    Ok(bytes)
+}
+
+/// The numbers of a text.
+fn numbers(alloc: Global, text: &str) -> Result<Vec<u64>, Fail> {
+    let mut read = Vec::new(alloc);
+    for word in text.split(' ') {
+        read.push(word.parse::<u64>()?)?;
+    }
+    Ok(read)
+}
+
+/// Asserts of each row, a count, what is left and the places, what a loop leaves of a memory of these
+/// digits; `trap` where it traps.
+fn expect_all(
+    rt: &impl Abort,
+    alloc: Global,
+    text: &str,
+    memory: &str,
+    rows: &str,
+) -> Result<(), Fail> {
+    let memory = digits(alloc, memory)?;
+    for row in rows.lines() {
+        let Some((count, behind)) = row.trim_start().split_once(' ') else {
+            return Err("a count is missing".into());
+        };
+        let Some((word, places)) = behind.split_once(' ') else {
+            return Err("places are missing".into());
+        };
+        let places = numbers(alloc, places)?;
+        let inputs = Inputs {
+            places: places.as_slice(),
+            args: &[count.parse::<u64>()?],
+        };
+        let left = digits(alloc, word)?;
+        let left = if word == "trap" {
+            None
+        } else {
+            Some(left.as_slice())
+        };
+        expect(rt, alloc, text, inputs, memory.as_slice(), left)?;
+    }
+    Ok(())
+}
+
 #[test]
 fn each_turn_moves_each_pointer_by_its_step(rt: HostRuntime) -> Result<(), Fail> {
-    let alloc = rt.alloc();
-    let memory: &[u8] = &[0, 0, 0, 0, 1, 2, 3, 4];
-    for (count, left) in [
-        (0, [0, 0, 0, 0, 1, 2, 3, 4]),
-        (1, [1, 0, 0, 0, 1, 2, 3, 4]),
-        (3, [1, 2, 3, 0, 1, 2, 3, 4]),
-    ] {
-        let inputs = Inputs {
-            places: &[0, 4],
-            args: &[count],
-        };
-        expect(&rt, alloc, COPY, inputs, memory, Some(&left))?;
-    }
-    let every_second =
-        "loop l(d: ptr, s: ptr, n: i8) times n step s 2, d 1 { store8(d, load8(s)); }";
-    let inputs = Inputs {
-        places: &[0, 2],
-        args: &[3],
-    };
-    let left: &[u8] = &[3, 1, 3, 0, 1, 2, 3, 4];
-    let memory: &[u8] = &[0, 0, 3, 0, 1, 2, 3, 4];
-    expect(&rt, alloc, every_second, inputs, memory, Some(left))
+    expect_all(
+        &rt,
+        rt.alloc(),
+        COPY,
+        "00001234",
+        "0 00001234 0 4
+        1 10001234 0 4
+        3 12301234 0 4",
+    )?;
+    expect_all(
+        &rt,
+        rt.alloc(),
+        "loop l(d: ptr, s: ptr, n: i8) times n step s 2, d 1 { store8(d, load8(s)); }",
+        "00301234",
+        "3 31301234 0 2",
+    )
 }
 
 #[test]
 fn a_turn_reads_what_the_turns_before_it_wrote(rt: HostRuntime) -> Result<(), Fail> {
-    let alloc = rt.alloc();
     let sums =
         "loop sums(p: ptr, n: i8) times n step p 1 { store8(p + 1, load8(p) + load8(p + 1)); }";
-    let inputs = Inputs {
-        places: &[0],
-        args: &[4],
-    };
-    let left: &[u8] = &[1, 2, 3, 4, 5];
-    expect(&rt, alloc, sums, inputs, &[1, 1, 1, 1, 1], Some(left))?;
+    expect_all(&rt, rt.alloc(), sums, "11111", "4 12345 0")?;
     let total = "loop total(t: ptr, s: ptr, n: i8) times n step s 1
         { store8(t, load8(t) + load8(s)); store8(s, 0i8); }";
-    let inputs = Inputs {
-        places: &[0, 1],
-        args: &[3],
-    };
-    let left: &[u8] = &[6, 0, 0, 0];
-    expect(&rt, alloc, total, inputs, &[0, 1, 2, 3], Some(left))
+    expect_all(&rt, rt.alloc(), total, "0123", "3 6000 0 1")
 }
 
 #[test]
 fn a_loop_traps_where_a_turn_does(rt: HostRuntime) -> Result<(), Fail> {
-    let alloc = rt.alloc();
-    let memory: &[u8] = &[1, 2, 3, 4, 5, 6, 7, 8];
-    let inputs = Inputs {
-        places: &[5, 0],
-        args: &[3],
-    };
-    let left: &[u8] = &[1, 2, 3, 4, 5, 1, 2, 3];
-    expect(&rt, alloc, COPY, inputs, memory, Some(left))?;
-    let inputs = Inputs {
-        places: &[5, 0],
-        args: &[4],
-    };
-    expect(&rt, alloc, COPY, inputs, memory, None)?;
-    let inputs = Inputs {
-        places: &[18_446_744_073_709_551_615, 0],
-        args: &[0],
-    };
-    expect(&rt, alloc, COPY, inputs, memory, Some(memory))
+    expect_all(
+        &rt,
+        rt.alloc(),
+        COPY,
+        "12345678",
+        "3 12345123 5 0
+        4 trap 5 0
+        0 12345678 18446744073709551615 0",
+    )
 }
 
 #[test]
@@ -124,15 +151,29 @@ fn a_count_has_no_sign(rt: HostRuntime) -> Result<(), Fail> {
     )
 }
 
-/// Asserts how many turns a block of the loop with these statements has.
-fn expect_turns(
-    rt: &impl Abort,
-    alloc: Global,
-    steps: &str,
-    statement: &str,
-    count: u32,
-    turns: u32,
-) -> Result<(), Fail> {
+/// Asserts of each row how many turns a block has: the turns, the steps, the number of times that a
+/// statement stands in the body, and the statement, a `|` between them.
+fn expect_turns(rt: &impl Abort, alloc: Global, rows: &str) -> Result<(), Fail> {
+    for row in rows.lines() {
+        let Some((turns, behind)) = row.trim_start().split_once('|') else {
+            return Err("steps are missing".into());
+        };
+        let Some((steps, behind)) = behind.split_once('|') else {
+            return Err("a count is missing".into());
+        };
+        let Some((count, statement)) = behind.split_once('|') else {
+            return Err("a statement is missing".into());
+        };
+        let source = repeated(alloc, steps, count.parse::<u32>()?, statement)?;
+        assert!(rt; turns_of(&source) == turns.parse::<u32>()?, "{row}");
+    }
+    Ok(())
+}
+
+/// A loop whose body has a statement so many times.
+fn repeated(alloc: Global, steps: &str, count: u32, statement: &str) -> Result<Loop, Fail>
+    ensures { IfOk result (λ l. IsLoop (loop_of l)) }
+{
     let mut text = String::new(alloc);
     write!(
         text,
@@ -142,35 +183,31 @@ fn expect_turns(
         text.push_str(statement)?;
     }
     text.push_str(" }")?;
-    let source = read(alloc, text.as_str())?;
-    assert!(rt; turns_of(&source) == turns, "{steps} {statement} {count}");
-    Ok(())
+    read(alloc, text.as_str())
 }
 
 #[test]
 fn a_block_has_as_many_turns_as_keep_the_limits(rt: HostRuntime) -> Result<(), Fail> {
-    let three = "store8(p, load8(p) + load8(q));";
-    for (steps, statement, count, turns) in [
-        ("p 1", "store8(p, n);", 1, 16),
-        ("p 1", "store8(p, n);", 256, 16),
-        ("p 1", "store8(p, n);", 257, 8),
-        ("p 1", "store8(p, n);", 513, 4),
-        ("p 1", "store8(p, n);", 2048, 2),
-        ("p 1", "store8(p, n);", 2049, 1),
-        ("p 1", three, 170, 16),
-        ("p 1", three, 171, 8),
-        ("p 1", "store8(p + 2147483632, n);", 1, 16),
-        ("p 1", "store8(p + 2147483633, n);", 1, 8),
-        ("p 1", "store8(p + 2147483640, n);", 1, 8),
-        ("p 1", "store8(p + 2147483641, n);", 1, 4),
-        ("p 65535", "store8(p + 2147418112, n);", 1, 2),
-        ("p 65536", "store8(p + 2147418112, n);", 1, 1),
-        ("p 1", "store8(p, load8(q + 2147483647));", 1, 16),
-        ("p 65536", "store8(p - 2147483648, n);", 1, 16),
-    ] {
-        expect_turns(&rt, rt.alloc(), steps, statement, count, turns)?;
-    }
-    Ok(())
+    expect_turns(
+        &rt,
+        rt.alloc(),
+        "16|p 1|1|store8(p, n);
+        16|p 1|256|store8(p, n);
+        8|p 1|257|store8(p, n);
+        4|p 1|513|store8(p, n);
+        2|p 1|2048|store8(p, n);
+        1|p 1|2049|store8(p, n);
+        16|p 1|170|store8(p, load8(p) + load8(q));
+        8|p 1|171|store8(p, load8(p) + load8(q));
+        16|p 1|1|store8(p + 2147483632, n);
+        8|p 1|1|store8(p + 2147483633, n);
+        8|p 1|1|store8(p + 2147483640, n);
+        4|p 1|1|store8(p + 2147483641, n);
+        2|p 65535|1|store8(p + 2147418112, n);
+        1|p 65536|1|store8(p + 2147418112, n);
+        16|p 1|1|store8(p, load8(q + 2147483647));
+        16|p 65536|1|store8(p - 2147483648, n);",
+    )
 }
 
 #[test]
@@ -226,27 +263,28 @@ fn marks(alloc: Global) -> Result<Looped, Fail>
 fn blocks_run_first_and_then_the_turns_that_are_left(rt: HostRuntime) -> Result<(), Fail> {
     let alloc = rt.alloc();
     let looped = marks(alloc)?;
-    for (count, left) in [
-        (0, [0, 0, 0, 0, 0, 0, 0, 0, 0]),
-        (2, [2, 2, 0, 0, 0, 0, 0, 0, 0]),
-        (3, [1, 0, 0, 0, 0, 0, 0, 0, 0]),
-        (8, [1, 0, 0, 1, 0, 0, 2, 2, 0]),
-        (9, [1, 0, 0, 1, 0, 0, 1, 0, 0]),
-    ] {
+    for row in "0 000000000
+        2 220000000
+        3 100000000
+        8 100100220
+        9 100100100
+        11 trap"
+        .lines()
+    {
+        let Some((count, left)) = row.trim_start().split_once(' ') else {
+            return Err("a count is missing".into());
+        };
         let inputs = Inputs {
             places: &[0],
-            args: &[count],
+            args: &[count.parse::<u64>()?],
         };
-        let found = left_by_looped(alloc, &[], &looped, inputs, &[0; 9])?;
-        let Some(found) = found else {
-            return Err("a looped text traps".into());
-        };
-        assert!(rt; found.as_slice() == left.as_slice(), "{count}");
+        match left_by_looped(alloc, &[], &looped, inputs, &[0; 9])? {
+            Some(found) => assert!(rt;
+                found.as_slice() == digits(alloc, left)?.as_slice(),
+                "{row}"
+            ),
+            None => assert!(rt; left == "trap", "{row}"),
+        }
     }
-    let inputs = Inputs {
-        places: &[0],
-        args: &[11],
-    };
-    assert!(rt; left_by_looped(alloc, &[], &looped, inputs, &[0; 9])?.is_none());
     Ok(())
 }

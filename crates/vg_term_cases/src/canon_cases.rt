@@ -44,6 +44,6 @@ fn rules_go_on_at_the_root(rt: HostRuntime) -> Result<(), Fail> {
     let t = make_two(alloc, TwoOp::Add, 8, sum, one)?;
     assert!(rt; t.is_well_formed());
     let form = canon_root(alloc, t)?;
-    assert_eq!(rt; spell(alloc, &form)?.as_slice(), "a.0:8".as_bytes());
+    assert!(rt; spell(alloc, &form)?.as_slice() == "a.0:8".as_bytes());
     Ok(())
 }

@@ -68,7 +68,7 @@ fn equal_forms_have_one_node(rt: HostRuntime) -> Result<(), Fail> {
         let t = read(alloc, text)?;
         assert!(rt; t.is_well_formed(), "{text}");
         let node = pool.intern(&t)?;
-        assert_eq!(rt; canon_node(&mut pool, alloc, node)?, wanted, "{text}");
+        assert!(rt; canon_node(&mut pool, alloc, node)? == wanted, "{text}");
     }
     Ok(())
 }
@@ -87,7 +87,7 @@ fn rules_go_on_at_the_root_of_a_node(rt: HostRuntime) -> Result<(), Fail> {
     let node = pool.intern(&t)?;
     let form = canon_root_node(&mut pool, alloc, node)?;
     let wanted = pool.intern(&make_leaf(8, key(0)))?;
-    assert_eq!(rt; form, wanted);
+    assert!(rt; form == wanted);
     Ok(())
 }
 
@@ -121,9 +121,9 @@ fn a_term_of_many_levels_is_refused(rt: HostRuntime) -> Result<(), Fail> {
     let mut pool = Pool::new(alloc);
     let leaf = pool.intern(&make_leaf(8, key(0)))?;
     let top = raised(&mut pool, leaf, 50_000)?;
-    assert_eq!(rt; pool.size(top), 1025);
+    assert!(rt; pool.size(top) == 1025);
     assert!(rt; pool.tree_of(alloc, top).is_err());
     assert!(rt; canon_node(&mut pool, alloc, top).is_err());
-    assert_eq!(rt; pool.size(top), 1025);
+    assert!(rt; pool.size(top) == 1025);
     Ok(())
 }
