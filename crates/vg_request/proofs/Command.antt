@@ -1,8 +1,8 @@
 -- The command as `clap` builds it.
-use Rattle.std.proofs.Common.{◌≡◌, refl, true, codes, Some, List}
+use Rattle.std.proofs.Common.{◌≡◌, refl, true, codes, Some, List, [], ◌∷◌, ℕ}
 use Rattle.clap.specs.Words.{App, Rule, Shape, new_app, new_rule, with_rule, is_simple, built}
 use Rattle.clap.specs.Simple.{on_top, filled, with_index}
-use Rattle.clap.specs.declared.builder.action.ArgAction.TheVariants.{Append, Set}
+use Rattle.clap.specs.declared.builder.action.ArgAction.TheVariants.{Append, Set, SetTrue}
 use Rattle.clap.proofs.OnLiterals.{clap_on_literals}
 
 abbrev pub width_rule : Rule
@@ -10,6 +10,9 @@ width_rule = record (new_rule (codes "width")) { long = Some (codes "width"); ac
 
 abbrev pub with_option : Rule
 with_option = record (new_rule (codes "with")) { long = Some (codes "with"); action = Some Append }
+
+abbrev pub guard_rule : Rule
+guard_rule = record (new_rule (codes "guard")) { long = Some (codes "guard"); action = Some SetTrue }
 
 abbrev pub files_rule : Rule
 files_rule = record (new_rule (codes "files")) { action = Some Append }
@@ -19,7 +22,7 @@ bare = on_top (λ s. record s { disable_help_flag = true })
     (on_top (λ s. record s { no_binary_name = true }) (new_app (codes "vegen")))
 
 abbrev pub app : App
-app = with_rule (with_rule (with_rule bare width_rule) with_option) files_rule
+app = with_rule (with_rule (with_rule (with_rule bare width_rule) with_option) guard_rule) files_rule
 
 pub is_simple_app : is_simple app ≡ true
 unfolding clap_on_literals
@@ -37,6 +40,9 @@ width_built = with_index 1 (filled width_rule)
 
 abbrev pub with_built : Rule
 with_built = with_index 1 (filled with_option)
+
+abbrev pub guard_built : Rule
+guard_built = with_index 1 (filled guard_rule)
 
 abbrev pub files_built : Rule
 files_built = with_index 1 (filled files_rule)

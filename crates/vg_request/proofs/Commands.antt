@@ -18,10 +18,13 @@ pub record IsBehindEval (w : List ℕ) : Type 0 where
 pub lift_at : (ws : List (List ℕ)) (w : List ℕ) → slice_get ws 0 ≡ Some w → IsBehindEval w → bytes_eq w (codes "lift") ≡ true → request_of ws ≡ lift_words (drop 1 ws)
 lift_at ws w e h is = ap request_of (begun ws w e) ∙ rw (h.compile, h.run, h.eval, is) refl
 
+pub lift_read : (ws : List (List ℕ)) (w : List ℕ) → slice_get ws 0 ≡ Some w → IsBehindEval w → bytes_eq w (codes "lift") ≡ true → are_plain (drop 1 ws) ≡ are_read ws
+lift_read ws w e h is = sym (ap are_read (begun ws w e) ∙ rw (h.compile, h.run, h.eval, is) refl)
+
 pub explain_at : (ws : List (List ℕ)) (w : List ℕ) → slice_get ws 0 ≡ Some w → IsBehindEval w → bytes_eq w (codes "lift") ≡ false → bytes_eq w (codes "explain") ≡ true → request_of ws ≡ explain_words (drop 1 ws)
 explain_at ws w e h lift is = ap request_of (begun ws w e) ∙ rw (h.compile, h.run, h.eval, lift, is) refl
 
-pub explain_read : (ws : List (List ℕ)) (w : List ℕ) → slice_get ws 0 ≡ Some w → IsBehindEval w → bytes_eq w (codes "lift") ≡ false → bytes_eq w (codes "explain") ≡ true → are_options (drop 1 ws) ≡ are_read ws
+pub explain_read : (ws : List (List ℕ)) (w : List ℕ) → slice_get ws 0 ≡ Some w → IsBehindEval w → bytes_eq w (codes "lift") ≡ false → bytes_eq w (codes "explain") ≡ true → are_options false (drop 1 ws) ≡ are_read ws
 explain_read ws w e h lift is = sym (ap are_read (begun ws w e) ∙ rw (h.compile, h.run, h.eval, lift, is) refl)
 
 pub trial_at : (ws : List (List ℕ)) (w : List ℕ) → slice_get ws 0 ≡ Some w → IsBehindEval w → bytes_eq w (codes "lift") ≡ false → bytes_eq w (codes "explain") ≡ false → bytes_eq w (codes "trial") ≡ true → request_of ws ≡ trial_words (drop 1 ws)

@@ -1,39 +1,50 @@
 -- Parts that are cut off in front.
-use Rattle.std.proofs.Common.{◌≡◌, ◌<◌, Bool, true, false, ℕ, List, [], ◌∷◌, Some, None, Option, refl, length, arith, ◌||◌}
-use Rattle.vg_request.specs.Parts.{Part, width, extension, word, parts_of, before}
-use Rattle.vg_request.specs.Readable.{at_most_one, may_be_read, may_follow, is_second, is_width}
+use Rattle.std.proofs.Common.{◌≡◌, ◌∙◌, ◌<◌, ap, ap₂, Bool, true, false, not, ◌&&◌, ℕ, List, [], ◌∷◌, Some, None, Option, refl, length, arith}
+use Rattle.vg_request.specs.Parts.{Part, width, extension, guard, word, parts_of, before, widths_in, guards_in}
+use Rattle.vg_request.specs.Readable.{at_most_one, are_few, may_follow, is_one_more, is_width, is_guard}
 
-pub no_parts_left : (ws left : List (List ℕ)) (seen : Bool) → length left ≡ 0 → may_follow seen (parts_of left) ≡ may_be_read (parts_of ws) → true ≡ may_be_read (parts_of ws)
+pub no_parts_left : (ws left : List (List ℕ)) (w g all : Bool) → length left ≡ 0 → may_follow w g (parts_of left) ≡ all → true ≡ all
 unfolding parts_of
-no_parts_left ws [] true none same = same
-no_parts_left ws [] false none same = same
-no_parts_left ws (w ∷ left) seen none same = absurd (omega arith)
+no_parts_left ws [] true true all none same = same
+no_parts_left ws [] true false all none same = same
+no_parts_left ws [] false true all none same = same
+no_parts_left ws [] false false all none same = same
+no_parts_left ws (v ∷ left) w g all none same = absurd (omega arith)
 
 -- one part more
-pub once_more : (p : Part) (o : Option (List Part)) (seen now : Bool) → is_second seen p ≡ false → now ≡ (seen || is_width p) → may_follow now o ≡ may_follow seen (before (Some p) o)
-once_more (width v) None true now e n = refl
-once_more (width v) (Some ps) true now e n = cc
-once_more (width v) None false now e n = refl
-once_more (width v) (Some ps) false now e n = rw n refl
-once_more (extension v) None true now e n = refl
-once_more (extension v) (Some ps) true now e n = rw n refl
-once_more (extension v) None false now e n = refl
-once_more (extension v) (Some ps) false now e n = rw n refl
-once_more (word v) None true now e n = refl
-once_more (word v) (Some ps) true now e n = rw n refl
-once_more (word v) None false now e n = refl
-once_more (word v) (Some ps) false now e n = rw n refl
+pub once_more : (p : Part) (o : Option (List Part)) (w g w2 g2 : Bool) → is_one_more w g p ≡ false → w2 ≡ (w && not (is_width p)) → g2 ≡ (g && not (is_guard p)) → may_follow w2 g2 o ≡ may_follow w g (before (Some p) o)
+once_more p None w g w2 g2 e a b = refl
+once_more (width v) (Some ps) true true w2 g2 e a b = rw (a, b) refl
+once_more (width v) (Some ps) true false w2 g2 e a b = rw (a, b) refl
+once_more (width v) (Some ps) false g w2 g2 e a b = cc
+once_more (extension v) (Some ps) true true w2 g2 e a b = rw (a, b) refl
+once_more (extension v) (Some ps) true false w2 g2 e a b = rw (a, b) refl
+once_more (extension v) (Some ps) false true w2 g2 e a b = rw (a, b) refl
+once_more (extension v) (Some ps) false false w2 g2 e a b = rw (a, b) refl
+once_more guard (Some ps) true true w2 g2 e a b = rw (a, b) refl
+once_more guard (Some ps) false true w2 g2 e a b = rw (a, b) refl
+once_more guard (Some ps) w false w2 g2 e a b = cc
+once_more (word v) (Some ps) true true w2 g2 e a b = rw (a, b) refl
+once_more (word v) (Some ps) true false w2 g2 e a b = rw (a, b) refl
+once_more (word v) (Some ps) false true w2 g2 e a b = rw (a, b) refl
+once_more (word v) (Some ps) false false w2 g2 e a b = rw (a, b) refl
 
--- a second width
-pub second_stops : (p : Part) (o : Option (List Part)) (seen : Bool) → is_second seen p ≡ true → may_follow seen (before (Some p) o) ≡ false
-second_stops (width v) None true e = refl
-second_stops (width v) (Some ps) true e = refl
-second_stops (width v) o false e = cc
-second_stops (extension v) o seen e = cc
-second_stops (word v) o seen e = cc
+and_false : (a : Bool) → (a && false) ≡ false
+and_false true = refl
+and_false false = refl
 
-pub none_stops : (o : Option (List Part)) (seen : Bool) → o ≡ None → may_follow seen o ≡ false
-none_stops o seen e = rw e refl
+-- a width or `--guard` that may not stand there
+pub second_stops : (p : Part) (o : Option (List Part)) (w g : Bool) → is_one_more w g p ≡ true → may_follow w g (before (Some p) o) ≡ false
+second_stops p None w g e = refl
+second_stops (width v) (Some ps) false g e = refl
+second_stops (width v) (Some ps) true g e = cc
+second_stops guard (Some ps) w false e = and_false (are_few w (widths_in (guard ∷ ps)))
+second_stops guard (Some ps) w true e = cc
+second_stops (extension v) (Some ps) w g e = cc
+second_stops (word v) (Some ps) w g e = cc
+
+pub none_stops : (o : Option (List Part)) (w g : Bool) → o ≡ None → may_follow w g o ≡ false
+none_stops o w g e = rw e refl
 
 pub few : (xs : List (List ℕ)) → at_most_one xs ≡ true → length xs < 2
 few [] e = omega arith

@@ -1,33 +1,54 @@
 -- What `clap` reads of words that are parts.
-use Rattle.std.proofs.Common.{◌≡◌, ◌∙◌, ap, ap₂, Bool, true, false, List, [], ◌∷◌, ◌++◌, Some, None, Option, refl, sym, subst, codes, map, fold, ◌==◌, ◌&&◌, ◌<◌, arith, option_map, drop, is_some, length}
+use Rattle.std.proofs.Common.{◌≡◌, ◌∙◌, ap, ap₂, Bool, true, false, ℕ, List, [], ◌∷◌, ◌++◌, Some, None, Option, refl, sym, subst, codes, map, fold, ◌==◌, ◌&&◌, ◌<◌, arith, nat_lt, option_map, take, drop, is_some, length, cond}
 use Rattle.std.specs.Prelude.{slice_index, unwrap_or}
 use Rattle.std.specs.List.{list_all}
 use Rattle.std.specs.Str.{bytes_eq, is_utf8}
+use Rattle.std.proofs.lemmas.Bool.{and_parts}
 use Rattle.std.proofs.lemmas.List.{append-nil, append_assoc, take-append-drop}
 use Rattle.std.proofs.lemmas.Slice.Eq.{bytes_eq-Decides}
-use Rattle.clap.specs.Words.{built, found_of, matches_of, rows_of, takes}
+use Rattle.clap.specs.Words.{app_of, built, found_of, matches_of, is_simple, rows_of, takes}
 use Rattle.clap.specs.Simple.{entered}
 use Rattle.clap.specs.Takes.{default_passes, entered_passes, is_valid, settle_passes, turn_passes, walk_passes}
-use Rattle.clap.specs.Walk.{Row, Text, Walk, finished, has_row, reading_by, used, walked, with_values}
-use Rattle.clap.specs.declared.parser.matches.ValueSource.TheVariants.{CommandLine}
+use Rattle.clap.specs.Walk.{Row, Rule, Text, Walk, finished, has_row, nothing_held, one_of, reading_by, used, walked, walk, with_default, with_values}
+use Rattle.clap.specs.declared.parser.matches.ValueSource.TheVariants.{CommandLine, DefaultValue}
 use Rattle.clap.specs.declared.parser.matches.ArgMatches.{ArgMatches}
-use Rattle.clap.proofs.WalkLemmas.{raw_values-rows}
+use Rattle.clap.proofs.WalkLemmas.{raw_values-rows, one_text-rows}
 use Rattle.vg_request.specs.Word.{plain_word}
 use Rattle.vg_outside.specs.Text.{text_or_empty}
-use Rattle.vg_request.specs.Parts.{Part, width, extension, word, parts_of, part_of, before, begins, widths_in, extensions_in, words_in}
-use Rattle.vg_request.specs.Found.{HasParts, values_of}
-use Rattle.vg_request.specs.Readable.{at_most_one, may_be_read}
+use Rattle.vg_request.specs.Parts.{Part, width, extension, guard, word, parts_of, part_of, before, begins, widths_in, extensions_in, guards_in, words_in}
+use Rattle.vg_request.specs.Found.{HasParts, flag_text, values_of}
+use Rattle.vg_request.specs.Readable.{at_most_one, may_follow, are_options}
 use Rattle.vg_request.proofs.Cuts.{few}
-use Rattle.vg_request.proofs.Command.{app, is_simple_app, shape, rules, width_built, with_built, files_built}
-use Rattle.vg_request.proofs.Rows.{vals, same_id, other_id, no_default, none_without, other_row}
-use Rattle.vg_request.proofs.Texts.{shown, width_word, with_word, width_and, with_and}
-use Rattle.vg_request.proofs.Walks.{Calm, IsPlain, Rest, none, of_file, of_width, of_with, between, use_of, after_option, at_width, at_with, at_value, at_name, at_width_is, at_with_is, at_file}
+use Rattle.vg_request.proofs.Command.{app, is_simple_app, shape, rules, width_built, with_built, guard_built, files_built}
+use Rattle.vg_request.proofs.Rows.{vals, same_id, other_id, no_default, none_without, other_row, other_one, first_row}
+use Rattle.vg_request.proofs.Texts.{shown, width_word, with_word, guard_word, width_and, with_and}
+use Rattle.vg_request.proofs.Walks.{Calm, IsFresh, IsPlain, Rest, none, of_file, of_width, of_with, between, use_of, after_option, at_width, at_with, at_value, at_name, at_width_is, at_with_is, at_file, at_guard}
+
+-- what the words `--guard` leave of the rows: the flag as it was, or set
+abbrev Flag : List Text → List Row → List Row → Type 0
+Flag [] old new = (has_row (codes "guard") new ≡ has_row (codes "guard") old) × (one_of (codes "guard") new ≡ one_of (codes "guard") old)
+Flag (g ∷ gs) old new = (has_row (codes "guard") new ≡ true) × (one_of (codes "guard") new ≡ Some (codes "true"))
+
+kept_then : (l : List Text) (old mid new : List Row) → Flag [] old mid → Flag l mid new → Flag l old new
+kept_then [] old mid new a b = (b.0 ∙ a.0, b.1 ∙ a.1)
+kept_then (g ∷ l) old mid new a b = b
+
+set_then : (g : Text) (l : List Text) (old mid new : List Row) → Flag (g ∷ []) old mid → Flag l mid new → Flag (g ∷ l) old new
+set_then g [] old mid new a b = (b.0 ∙ a.0, b.1 ∙ a.1)
+set_then g (h ∷ l) old mid new a b = b
+
+flag_then : (p : Part) (ps : List Part) (old mid new : List Row) → Flag (guards_in (p ∷ [])) old mid → Flag (guards_in ps) mid new → Flag (guards_in (p ∷ ps)) old new
+flag_then (width v) ps old mid new a b = kept_then (guards_in ps) old mid new a b
+flag_then (extension v) ps old mid new a b = kept_then (guards_in ps) old mid new a b
+flag_then guard ps old mid new a b = set_then (codes "--guard") (guards_in ps) old mid new a b
+flag_then (word v) ps old mid new a b = kept_then (guards_in ps) old mid new a b
 
 -- the values of one part more
 record Adds (p : Part) (old new : List Row) : Type 0 where
   pub widths : vals (codes "width") new ≡ vals (codes "width") old ++ widths_in (p ∷ [])
   pub names : vals (codes "with") new ≡ vals (codes "with") old ++ extensions_in (p ∷ [])
   pub files : vals (codes "files") new ≡ vals (codes "files") old ++ words_in (p ∷ [])
+  pub flag : Flag (guards_in (p ∷ [])) old new
 
 -- no row of the width
 abbrev Clear : List Row → Type 0
@@ -38,6 +59,7 @@ first_width v rows = record {
   widths = same_id (codes "width") _ _ (v ∷ []) rows refl;
   names = other_id (codes "with") (codes "width") _ _ (v ∷ []) rows refl ∙ sym (append-nil _);
   files = other_id (codes "files") (codes "width") _ _ (v ∷ []) rows refl ∙ sym (append-nil _);
+  flag = (other_row (codes "guard") (codes "width") _ _ (v ∷ []) rows refl, other_one (codes "guard") (codes "width") _ _ (v ∷ []) rows refl);
 }
 
 adds_width : (v : Text) (rows : List Row) → Clear rows → Adds (width v) rows (used width_built (v ∷ []) rows)
@@ -50,6 +72,7 @@ adds_name v rows = record {
   widths = other_id (codes "width") (codes "with") _ _ (v ∷ []) rows refl ∙ sym (append-nil _);
   names = same_id (codes "with") _ _ (v ∷ []) rows refl;
   files = other_id (codes "files") (codes "with") _ _ (v ∷ []) rows refl ∙ sym (append-nil _);
+  flag = (other_row (codes "guard") (codes "with") _ _ (v ∷ []) rows refl, other_one (codes "guard") (codes "with") _ _ (v ∷ []) rows refl);
 }
 
 adds_file : (v : Text) (rows : List Row) → Adds (word v) rows (used files_built (v ∷ []) rows)
@@ -57,11 +80,40 @@ adds_file v rows = record {
   widths = other_id (codes "width") (codes "files") _ _ (v ∷ []) rows refl ∙ sym (append-nil _);
   names = other_id (codes "with") (codes "files") _ _ (v ∷ []) rows refl ∙ sym (append-nil _);
   files = same_id (codes "files") _ _ (v ∷ []) rows refl;
+  flag = (other_row (codes "guard") (codes "files") _ _ (v ∷ []) rows refl, other_one (codes "guard") (codes "files") _ _ (v ∷ []) rows refl);
 }
+
+-- no row of the flag
+abbrev Unset : List Row → Type 0
+Unset rows = has_row (codes "guard") rows ≡ false
+
+set_flag : List Row → List Row
+set_flag rows = with_values (codes "guard") (reading_by guard_built) CommandLine (codes "true" ∷ []) rows
+
+first_guard : (rows : List Row) → Unset rows → Adds guard rows (set_flag rows)
+unfolding set_flag
+first_guard rows unset = record {
+  widths = other_id (codes "width") (codes "guard") _ _ (codes "true" ∷ []) rows refl ∙ sym (append-nil _);
+  names = other_id (codes "with") (codes "guard") _ _ (codes "true" ∷ []) rows refl ∙ sym (append-nil _);
+  files = other_id (codes "files") (codes "guard") _ _ (codes "true" ∷ []) rows refl ∙ sym (append-nil _);
+  flag = first_row (codes "guard") (reading_by guard_built) CommandLine (codes "true") rows refl unset;
+}
+
+guard_used : (rows : List Row) → Unset rows → used guard_built [] rows ≡ set_flag rows
+unfolding set_flag
+guard_used rows unset = ap set_flag (none_without (codes "guard") rows unset)
+
+adds_guard : (rows : List Row) → Unset rows → Adds guard rows (used guard_built [] rows)
+adds_guard rows unset = subst (Adds guard rows) (sym (guard_used rows unset)) (first_guard rows unset)
+
+guard_stays : (rows : List Row) → Unset rows → has_row (codes "width") (used guard_built [] rows) ≡ has_row (codes "width") rows
+unfolding set_flag
+guard_stays rows unset = ap (has_row (codes "width")) (guard_used rows unset) ∙ other_row (codes "width") (codes "guard") _ _ (codes "true" ∷ []) rows refl
 
 -- what a part asks of what stands before it, and what it keeps
 abbrev Asks : Part → List Row → Type 0
 Asks (width v) rows = Clear rows
+Asks guard rows = Unset rows
 Asks _ rows = Unit {0}
 
 abbrev Stays : Part → List Row → List Row → Type 0
@@ -73,18 +125,24 @@ record May (ps : List Part) (rows : List Row) (r : Rest) : Type 0 where
   pub calm : Calm rows r
   pub once : length (widths_in ps) < 2
   pub clear : 0 < length (widths_in ps) → Clear (use_of r rows)
+  pub once_guard : length (guards_in ps) < 2
+  pub unset : 0 < length (guards_in ps) → Unset (use_of r rows)
 
 asks : (p : Part) (ps : List Part) (rows : List Row) (r : Rest) → May (p ∷ ps) rows r → Asks p (use_of r rows)
 asks (width v) ps rows r m = m.clear (omega arith)
 asks (extension v) ps rows r m = tt
+asks guard ps rows r m = m.unset (omega arith)
 asks (word v) ps rows r m = tt
 
-may_behind : (p : Part) (ps : List Part) (rows behind : List Row) (r rest : Rest) → May (p ∷ ps) rows r → Calm behind rest → Stays p (use_of r rows) (use_of rest behind) → May ps behind rest
-may_behind (width v) ps rows behind r rest m calm stays =
+may_behind : (p : Part) (ps : List Part) (rows behind : List Row) (r rest : Rest) → May (p ∷ ps) rows r → Calm behind rest → Stays p (use_of r rows) (use_of rest behind) → Flag (guards_in (p ∷ [])) (use_of r rows) (use_of rest behind) → May ps behind rest
+may_behind (width v) ps rows behind r rest m calm stays flag =
     let few = m.once in
-    record { calm = calm; once = omega (arith, few); clear = λ some. absurd (omega (arith, few, some)) }
-may_behind (extension v) ps rows behind r rest m calm stays = record { calm = calm; once = m.once; clear = λ some. stays ∙ m.clear some }
-may_behind (word v) ps rows behind r rest m calm stays = record { calm = calm; once = m.once; clear = λ some. stays ∙ m.clear some }
+    record { calm = calm; once = omega (arith, few); clear = λ some. absurd (omega (arith, few, some)); once_guard = m.once_guard; unset = λ some. flag.0 ∙ m.unset some }
+may_behind (extension v) ps rows behind r rest m calm stays flag = record { calm = calm; once = m.once; clear = λ some. stays ∙ m.clear some; once_guard = m.once_guard; unset = λ some. flag.0 ∙ m.unset some }
+may_behind guard ps rows behind r rest m calm stays flag =
+    let few = m.once_guard in
+    record { calm = calm; once = m.once; clear = λ some. stays ∙ m.clear some; once_guard = omega (arith, few); unset = λ some. absurd (omega (arith, few, some)) }
+may_behind (word v) ps rows behind r rest m calm stays flag = record { calm = calm; once = m.once; clear = λ some. stays ∙ m.clear some; once_guard = m.once_guard; unset = λ some. flag.0 ∙ m.unset some }
 
 -- the walk over the words of parts, from between two parts
 record Walked (words : List Text) (ps : List Part) (rows : List Row) (r : Rest) : Type 0 where
@@ -96,6 +154,7 @@ record Walked (words : List Text) (ps : List Part) (rows : List Row) (r : Rest) 
   pub widths : vals (codes "width") (use_of rest behind) ≡ vals (codes "width") (use_of r rows) ++ widths_in ps
   pub names : vals (codes "with") (use_of rest behind) ≡ vals (codes "with") (use_of r rows) ++ extensions_in ps
   pub files : vals (codes "files") (use_of rest behind) ≡ vals (codes "files") (use_of r rows) ++ words_in ps
+  pub flag : Flag (guards_in ps) (use_of r rows) (use_of rest behind)
 
 reads_none : (rows : List Row) (r : Rest) → Calm rows r → Walked [] [] rows r
 unfolding walk_passes
@@ -108,6 +167,7 @@ reads_none rows r calm = record {
   widths = sym (append-nil _);
   names = sym (append-nil _);
   files = sym (append-nil _);
+  flag = (refl, refl);
 }
 
 -- one part, of one word
@@ -123,16 +183,19 @@ record Step (w : Text) (p : Part) (rows : List Row) (r : Rest) : Type 0 where
 split_widths : (p : Part) (ps : List Part) → widths_in (p ∷ []) ++ widths_in ps ≡ widths_in (p ∷ ps)
 split_widths (width v) ps = refl
 split_widths (extension v) ps = refl
+split_widths guard ps = refl
 split_widths (word v) ps = refl
 
 split_names : (p : Part) (ps : List Part) → extensions_in (p ∷ []) ++ extensions_in ps ≡ extensions_in (p ∷ ps)
 split_names (width v) ps = refl
 split_names (extension v) ps = refl
+split_names guard ps = refl
 split_names (word v) ps = refl
 
 split_words : (p : Part) (ps : List Part) → words_in (p ∷ []) ++ words_in ps ≡ words_in (p ∷ ps)
 split_words (width v) ps = refl
 split_words (extension v) ps = refl
+split_words guard ps = refl
 split_words (word v) ps = refl
 
 chain : (new mid old one more all : List Text) → new ≡ mid ++ more → mid ≡ old ++ one → one ++ more ≡ all → new ≡ old ++ all
@@ -142,7 +205,7 @@ one_more : (w : Text) (p : Part) (words : List Text) (ps : List Part) (rows : Li
     → Walked (w ∷ words) (p ∷ ps) rows r
 unfolding walk_passes
 one_more w p words ps rows r step may others =
-    let more = others step.behind step.rest (may_behind p ps rows step.behind r step.rest may step.calm step.stays) in
+    let more = others step.behind step.rest (may_behind p ps rows step.behind r step.rest may step.calm step.stays step.adds.flag) in
     record {
       behind = more.behind;
       rest = more.rest;
@@ -152,6 +215,7 @@ one_more w p words ps rows r step may others =
       widths = chain _ _ _ _ _ _ more.widths step.adds.widths (split_widths p ps);
       names = chain _ _ _ _ _ _ more.names step.adds.names (split_names p ps);
       files = chain _ _ _ _ _ _ more.files step.adds.files (split_words p ps);
+      flag = flag_then p ps _ _ _ step.adds.flag more.flag;
     }
 
 -- one part, of two words
@@ -171,7 +235,7 @@ two_more : (w v : Text) (p : Part) (words : List Text) (ps : List Part) (rows : 
     → Walked (w ∷ v ∷ words) (p ∷ ps) rows r
 unfolding walk_passes
 two_more w v p words ps rows r step may others =
-    let more = others step.behind step.rest (may_behind p ps rows step.behind r step.rest may step.calm step.stays) in
+    let more = others step.behind step.rest (may_behind p ps rows step.behind r step.rest may step.calm step.stays step.adds.flag) in
     record {
       behind = more.behind;
       rest = more.rest;
@@ -182,6 +246,7 @@ two_more w v p words ps rows r step may others =
       widths = chain _ _ _ _ _ _ more.widths step.adds.widths (split_widths p ps);
       names = chain _ _ _ _ _ _ more.names step.adds.names (split_names p ps);
       files = chain _ _ _ _ _ _ more.files step.adds.files (split_words p ps);
+      flag = flag_then p ps _ _ _ step.adds.flag more.flag;
     }
 
 -- what a word that is no option is
@@ -259,20 +324,37 @@ single_word w u e rows r calm clear =
       stays = other_row (codes "width") (codes "files") _ _ (w ∷ []) (use_of r rows) refl;
     }))
 
+single_guard : (w : Text) → w ≡ codes "--guard" → Single w guard
+single_guard w option rows r calm unset =
+    let is_w : text_or_empty w ≡ codes "--guard" = ap text_or_empty option ∙ shown _ guard_word in
+    let at = at_guard rows r calm unset in
+    subst (λ t. Step t guard rows r) (sym is_w) (record {
+      behind = used guard_built [] (use_of r rows);
+      rest = none;
+      is = at.0;
+      passes = at.1;
+      adds = adds_guard (use_of r rows) unset;
+      calm = tt;
+      stays = guard_stays (use_of r rows) unset;
+    })
+
 single : (w : Text) (p : Part) → part_of w ≡ Some p → Single w p
-single w p e = by (begins (codes "--width=") w) refl (begins (codes "--with=") w) refl
+single w p e = by (begins (codes "--width=") w) refl (begins (codes "--with=") w) refl (bytes_eq w (codes "--guard")) refl
   where
-    by : (a : Bool) → begins (codes "--width=") w ≡ a → (b : Bool) → begins (codes "--with=") w ≡ b → Single w p
-    by true x b y =
+    by : (a : Bool) → begins (codes "--width=") w ≡ a → (b : Bool) → begins (codes "--with=") w ≡ b → (c : Bool) → bytes_eq w (codes "--guard") ≡ c → Single w p
+    by true x b y c z =
         let is : option_map (λ v. width v) (plain_word (drop 8 w)) ≡ Some p = rw x at e in
         let m = mapped (λ v. width v) _ p is in
         subst (Single w) m.2 (single_width w m.0 (drop 8 w) (begun (codes "--width=") w x) m.1)
-    by false x true y =
+    by false x true y c z =
         let is : option_map (λ v. extension v) (plain_word (drop 7 w)) ≡ Some p = rw (x, y) at e in
         let m = mapped (λ v. extension v) _ p is in
         subst (Single w) m.2 (single_with w m.0 (drop 7 w) (begun (codes "--with=") w y) m.1)
-    by false x false y =
-        let is : option_map (λ v. word v) (plain_word w) ≡ Some p = rw (x, y) at e in
+    by false x false y true z =
+        let is : Some guard ≡ Some p = rw (x, y, z) at e in
+        subst (Single w) (ap (λ o. unwrap_or o p) is) (single_guard w ((bytes_eq-Decides w (codes "--guard")).0 z))
+    by false x false y false z =
+        let is : option_map (λ v. word v) (plain_word w) ≡ Some p = rw (x, y, z) at e in
         let m = mapped (λ v. word v) _ p is in
         subst (Single w) m.2 (single_word w m.0 m.1)
 
@@ -373,21 +455,40 @@ all_ends rows (of_file v) h = refl
 all_ends rows (of_width v) h = rw h refl
 all_ends rows (of_with v) h = refl
 
-at_end : (rows : List Row) (r : Rest) → finished rules (between rows r).held ≡ use_of r rows
-at_end rows none = no_default _ files_built refl ∙ no_default _ with_built refl ∙ no_default _ width_built refl
-at_end rows (of_file v) = no_default _ files_built refl ∙ no_default _ with_built refl ∙ no_default _ width_built refl
-at_end rows (of_width v) = no_default _ files_built refl ∙ no_default _ with_built refl ∙ no_default _ width_built refl
-at_end rows (of_with v) = no_default _ files_built refl ∙ no_default _ with_built refl ∙ no_default _ width_built refl
+only_guard : (rows : List Row) → fold with_default rows rules ≡ with_default rows guard_built
+only_guard rows =
+    let unchanged : with_default (with_default rows width_built) with_built ≡ rows = no_default _ with_built refl ∙ no_default _ width_built refl in
+    no_default _ files_built refl ∙ ap (λ l. with_default l guard_built) unchanged
 
-from_nothing : (ps : List Part) → at_most_one (widths_in ps) ≡ true → May ps [] none
-from_nothing ps once = record { calm = tt; once = few (widths_in ps) once; clear = λ some. refl }
+at_end : (rows : List Row) (r : Rest) → finished rules (between rows r).held ≡ with_default (use_of r rows) guard_built
+at_end rows none = only_guard (use_of none rows)
+at_end rows (of_file v) = only_guard (use_of (of_file v) rows)
+at_end rows (of_width v) = only_guard (use_of (of_width v) rows)
+at_end rows (of_with v) = only_guard (use_of (of_with v) rows)
 
-taken_with : (ws : List Text) (ps : List Part) → parts_of ws ≡ Some ps → at_most_one (widths_in ps) ≡ true → takes app (texts_of ws) ≡ true
+-- behind the default of the flag
+vals_default : (id : Text) (rows : List Row) → bytes_eq (codes "guard") id ≡ false → vals id (with_default rows guard_built) ≡ vals id rows
+vals_default id rows e = by (has_row (codes "guard") rows) refl
+  where
+    by : (b : Bool) → has_row (codes "guard") rows ≡ b → vals id (with_default rows guard_built) ≡ vals id rows
+    by true is = rw is refl
+    by false is = rw is (other_id id (codes "guard") (reading_by guard_built) DefaultValue (codes "false" ∷ []) rows e)
+
+flag_default : (gs : List Text) (rows : List Row) → Flag gs [] rows → one_of (codes "guard") (with_default rows guard_built) ≡ Some (flag_text gs)
+flag_default [] rows f = rw f.0 (first_row (codes "guard") (reading_by guard_built) DefaultValue (codes "false") rows refl f.0).1
+flag_default (g ∷ gs) rows f = rw f.0 f.1
+
+from_nothing : (ps : List Part) → may_follow true true (Some ps) ≡ true → May ps [] none
+from_nothing ps once =
+    let all = and_parts (at_most_one (widths_in ps)) (at_most_one (guards_in ps)) once in
+    record { calm = tt; once = few (widths_in ps) all.0; clear = λ some. refl; once_guard = few (guards_in ps) all.1; unset = λ some. refl }
+
+taken_with : (ws : List Text) (ps : List Part) → parts_of ws ≡ Some ps → may_follow true true (Some ps) ≡ true → takes app (texts_of ws) ≡ true
 taken_with ws ps e once =
     let walked_over = read ws ps e [] none (from_nothing ps once) in
     ap₂ (λ a b. a && b) is_simple_app (ap₂ ends_well walked_over.is walked_over.passes ∙ all_ends walked_over.behind walked_over.rest walked_over.calm)
 
-pub is_taken : (ws : List Text) → may_be_read (parts_of ws) ≡ true → takes app (texts_of ws) ≡ true
+pub is_taken : (ws : List Text) → are_options true ws ≡ true → takes app (texts_of ws) ≡ true
 is_taken ws some = by (parts_of ws) refl
   where
     by : (o : Option (List Part)) → parts_of ws ≡ o → takes app (texts_of ws) ≡ true
@@ -396,14 +497,19 @@ is_taken ws some = by (parts_of ws) refl
         cc
     by (Some ps) e = taken_with ws ps e (rw e at some)
 
-found_with : (ws : List Text) (ps : List Part) → parts_of ws ≡ Some ps → at_most_one (widths_in ps) ≡ true → (m : ArgMatches) → rows_of (found_of m) ≡ matches_of app (texts_of ws) → HasParts (Some ps) m
+found_with : (ws : List Text) (ps : List Part) → parts_of ws ≡ Some ps → may_follow true true (Some ps) ≡ true → (m : ArgMatches) → rows_of (found_of m) ≡ matches_of app (texts_of ws) → HasParts (Some ps) m
 found_with ws ps e once m rows =
     let walked_over = read ws ps e [] none (from_nothing ps once) in
-    let all : rows_of (found_of m) ≡ use_of walked_over.rest walked_over.behind = rows ∙ ap (λ (w : Walk). finished rules w.held) walked_over.is ∙ at_end walked_over.behind walked_over.rest in
-    let seen : (id : Text) → values_of id m ≡ vals id (use_of walked_over.rest walked_over.behind) = λ id. ap (λ o. unwrap_or o []) (raw_values-rows (found_of m) id) ∙ ap (vals id) all in
-    (seen (codes "width") ∙ walked_over.widths, seen (codes "with") ∙ walked_over.names, seen (codes "files") ∙ walked_over.files)
+    let left = use_of walked_over.rest walked_over.behind in
+    let all : rows_of (found_of m) ≡ with_default left guard_built = rows ∙ ap (λ (w : Walk). finished rules w.held) walked_over.is ∙ at_end walked_over.behind walked_over.rest in
+    let seen : (id : Text) → bytes_eq (codes "guard") id ≡ false → values_of id m ≡ vals id left = λ id other. ap (λ o. unwrap_or o []) (raw_values-rows (found_of m) id) ∙ ap (vals id) all ∙ vals_default id left other in (
+      seen (codes "width") refl ∙ walked_over.widths,
+      seen (codes "with") refl ∙ walked_over.names,
+      seen (codes "files") refl ∙ walked_over.files,
+      one_text-rows (found_of m) (codes "guard") ∙ ap (one_of (codes "guard")) all ∙ flag_default (guards_in ps) left walked_over.flag,
+    )
 
-pub is_found : (ws : List Text) → may_be_read (parts_of ws) ≡ true → (m : ArgMatches) → rows_of (found_of m) ≡ matches_of app (texts_of ws) → HasParts (parts_of ws) m
+pub is_found : (ws : List Text) → are_options true ws ≡ true → (m : ArgMatches) → rows_of (found_of m) ≡ matches_of app (texts_of ws) → HasParts (parts_of ws) m
 is_found ws some m rows = by (parts_of ws) refl
   where
     by : (o : Option (List Part)) → parts_of ws ≡ o → HasParts (parts_of ws) m

@@ -1,15 +1,16 @@
 -- Words none of which is an option: their parts, and what they ask for.
-use Rattle.std.proofs.Common.{◌≡◌, ◌∙◌, ℕ, suc, ◌≤◌, Bool, true, false, List, [], ◌∷◌, length, take, drop, map, codes, Option, Some, None, refl, ap, subst}
-use Rattle.std.specs.Prelude.{◌==◌, slice_index}
+use Rattle.std.proofs.Common.{◌≡◌, ◌∙◌, ℕ, suc, ◌≤◌, Bool, true, false, List, [], ◌∷◌, length, take, drop, map, codes, Option, Some, None, refl, sym, ap, subst, arith}
+use Rattle.std.specs.Prelude.{◌==◌, ◌&&◌, slice_index}
 use Rattle.std.specs.List.{list_all}
+use Rattle.std.specs.Option.{option_map, option_and_then}
 use Rattle.std.specs.Str.{bytes_eq, is_utf8}
 use Rattle.std.proofs.lemmas.Bool.{and_parts}
 use Rattle.clap.specs.declared.parser.matches.ArgMatches.{ArgMatches}
-use Rattle.vg_request.specs.Binding.{is_binding}
+use Rattle.vg_request.specs.Binding.{is_binding, bindings_in}
 use Rattle.vg_request.specs.Found.{HasParts, values_of, run_found, eval_found, lift_found, trial_found}
-use Rattle.vg_request.specs.Parts.{word, parts_of, part_of, begins, widths_in, words_in}
+use Rattle.vg_request.specs.Parts.{Part, word, parts_of, part_of, begins, widths_in, guards_in, words_in}
 use Rattle.vg_request.specs.Readable.{are_options, are_plain}
-use Rattle.vg_request.specs.Request.{run_words, eval_words, lift_words, trial_words, trial_number}
+use Rattle.vg_request.specs.Request.{Asked, run_words, eval_words, lift_words, trial_words, trial_number}
 use Rattle.vg_request.specs.Word.{plain_word, is_plain}
 use Rattle.vg_request.proofs.Spelled.{bindings_plain, trial_plain}
 
@@ -42,7 +43,8 @@ part_is w e =
     let p = plain_is w e in
     let a : begins (codes "--width=") w ≡ false = no_option (take 8 w) (codes "-width=") (taken 7 w p.0) in
     let b : begins (codes "--with=") w ≡ false = no_option (take 7 w) (codes "-with=") (taken 6 w p.0) in
-    rw (a, b, p.1) refl
+    let c : bytes_eq w (codes "--guard") ≡ false = no_option w (codes "-guard") p.0 in
+    rw (a, b, c, p.1) refl
 
 plain_parts : (ws : List (List ℕ)) → are_plain ws ≡ true → parts_of ws ≡ Some (map (λ w. word w) ws)
 unfolding parts_of
@@ -59,12 +61,16 @@ no_widths : (ws : List (List ℕ)) → widths_in (map (λ w. word w) ws) ≡ []
 no_widths [] = refl
 no_widths (w ∷ ws) = no_widths ws
 
+no_guards : (ws : List (List ℕ)) → guards_in (map (λ w. word w) ws) ≡ []
+no_guards [] = refl
+no_guards (w ∷ ws) = no_guards ws
+
 all_words : (ws : List (List ℕ)) → words_in (map (λ w. word w) ws) ≡ ws
 all_words [] = refl
 all_words (w ∷ ws) = ap (λ l. w ∷ l) (all_words ws)
 
-pub plain_are_options : (ws : List (List ℕ)) → are_plain ws ≡ true → are_options ws ≡ true
-plain_are_options ws e = rw (plain_parts ws e, no_widths ws) refl
+pub plain_are_options : (ws : List (List ℕ)) → are_plain ws ≡ true → are_options true ws ≡ true
+plain_are_options ws e = rw (plain_parts ws e, no_widths ws, no_guards ws) refl
 
 pub files_are : (ws : List (List ℕ)) (m : ArgMatches) → are_plain ws ≡ true → HasParts (parts_of ws) m → values_of (codes "files") m ≡ ws
 files_are ws m e h = (subst (λ o. HasParts o m) (plain_parts ws e) h).2 ∙ all_words ws

@@ -1,10 +1,11 @@
 -- What a use adds to the values of an id.
-use Rattle.std.proofs.Common.{◌≡◌, ap, Bool, true, false, List, [], ◌∷◌, ◌++◌, refl, sym, subst, ◌||◌}
-use Rattle.std.specs.Prelude.{unwrap_or}
+use Rattle.std.proofs.Common.{◌≡◌, ◌∙◌, ap, Bool, true, false, ℕ, List, [], ◌∷◌, ◌++◌, Some, None, refl, sym, subst, option_map, cond, ◌||◌}
+use Rattle.std.specs.Prelude.{unwrap_or, find}
 use Rattle.std.specs.Str.{bytes_eq}
 use Rattle.std.proofs.lemmas.Slice.Eq.{bytes_eq-Decides}
-use Rattle.clap.specs.Walk.{Row, Rule, Text, all_of, with_values, with_default, without, has_row}
+use Rattle.clap.specs.Walk.{Row, Rule, Text, all_of, one_of, at_row, more_values, with_values, with_default, without, has_row, is_empty}
 use Rattle.clap.specs.declared.parser.matches.ValueSource.{ValueSource}
+use Rattle.clap.specs.Values.{read_as}
 use Rattle.clap.specs.declared.builder.value_parser.Reading.{Reading}
 
 abbrev pub vals : Text → List Row → List Text
@@ -56,3 +57,31 @@ other_row id own how s vs (r ∷ rs) e = by (other_row id own how s vs rs e) (by
     by : has_row id (with_values own how s vs rs) ≡ has_row id rs → (b : Bool) → bytes_eq r.id own ≡ b → has_row id (with_values own how s vs (r ∷ rs)) ≡ has_row id (r ∷ rs)
     by rest true is = rw is refl
     by rest false is = rw is (ap (λ b. bytes_eq r.id id || b) rest)
+
+-- the text of a flag
+pub other_one : (id own : Text) (how : Reading) (s : ValueSource) (vs : List Text) (rows : List Row) → bytes_eq own id ≡ false → one_of id (with_values own how s vs rows) ≡ one_of id rows
+other_one id own how s vs [] e = rw e refl
+other_one id own how s vs (r ∷ rs) e = by (other_one id own how s vs rs e) (bytes_eq r.id own) refl (bytes_eq r.id id) refl
+  where
+    by : one_of id (with_values own how s vs rs) ≡ one_of id rs → (b : Bool) → bytes_eq r.id own ≡ b → (c : Bool) → bytes_eq r.id id ≡ c → one_of id (with_values own how s vs (r ∷ rs)) ≡ one_of id (r ∷ rs)
+    by rest true is c at =
+        let not_id : bytes_eq r.id id ≡ false = subst (λ t. bytes_eq t id ≡ false) (sym ((bytes_eq-Decides r.id own).0 is)) e in
+        rw (is, not_id) refl
+    by rest false is true at = rw (is, at) refl
+    by rest false is false at = rw (is, at) rest
+
+pub first_row : (id : Text) (how : Reading) (s : ValueSource) (v : Text) (rows : List Row) → bytes_eq id id ≡ true → has_row id rows ≡ false
+    → (has_row id (with_values id how s (v ∷ []) rows) ≡ true) × (one_of id (with_values id how s (v ∷ []) rows) ≡ Some (read_as how v))
+first_row id how s v [] same none = (rw same refl, rw same refl)
+first_row id how s v (r ∷ rs) same none = by (first_row id how s v rs same) (bytes_eq r.id id) refl
+  where
+    by : (has_row id rs ≡ false → (has_row id (with_values id how s (v ∷ []) rs) ≡ true) × (one_of id (with_values id how s (v ∷ []) rs) ≡ Some (read_as how v)))
+        → (b : Bool) → bytes_eq r.id id ≡ b → (has_row id (with_values id how s (v ∷ []) (r ∷ rs)) ≡ true) × (one_of id (with_values id how s (v ∷ []) (r ∷ rs)) ≡ Some (read_as how v))
+    by others true is =
+        let bad : true ≡ false = rw is at none in
+        absurd (cc)
+    by others false is =
+        let behind : has_row id rs ≡ false = rw is at none in
+        let rest = others behind in
+        let step : with_values id how s (v ∷ []) (r ∷ rs) ≡ r ∷ with_values id how s (v ∷ []) rs = rw is refl in
+        (rw (step, is) rest.0, rw (step, is) rest.1)

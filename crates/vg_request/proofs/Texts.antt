@@ -29,3 +29,7 @@ width_and v e = is_utf8-from_IsUtf8 _ (IsUtf8-append (codes "--width=") v (IsUtf
 
 pub with_and : (v : List ℕ) → is_utf8 v ≡ true → is_utf8 (codes "--with=" ++ v) ≡ true
 with_and v e = is_utf8-from_IsUtf8 _ (IsUtf8-append (codes "--with=") v (IsUtf8-from_is_utf8 _ with_text) (IsUtf8-from_is_utf8 v e))
+
+pub guard_word : is_utf8 (codes "--guard") ≡ true
+unfolding is_utf8 chars encode_utf8
+guard_word = refl

@@ -1,9 +1,9 @@
 -- The walk of `clap` over words that are parts.
-use Rattle.std.proofs.Common.{◌≡◌, true, false, List, [], ◌∷◌, ◌++◌, Some, None, Option, refl, codes, ◌==◌}
+use Rattle.std.proofs.Common.{◌≡◌, ◌∙◌, ap, Bool, true, false, ℕ, List, [], ◌∷◌, ◌++◌, Some, None, Option, refl, sym, subst, codes, map, ◌==◌, ◌&&◌}
 use Rattle.std.specs.Prelude.{slice_index}
-use Rattle.clap.specs.Walk.{Row, Text, Waiting, Walk, has_row, idle, option, positional, used, walked}
+use Rattle.clap.specs.Walk.{Held, Row, Rule, Text, Waiting, Walk, has_row, idle, option, positional, used, walked}
 use Rattle.clap.specs.Takes.{turn_passes}
-use Rattle.vg_request.proofs.Command.{shape, rules, width_built, with_built, files_built}
+use Rattle.vg_request.proofs.Command.{shape, rules, width_built, with_built, guard_built, files_built}
 
 -- what waits for its use between two parts
 pub data Rest : Type 0 where
@@ -108,3 +108,11 @@ at_file rows none (x ∷ xs) p h = (rw (p, p) refl, rw (p, p) refl)
 at_file rows (of_file u) (x ∷ xs) p h = (rw (p, p) refl, rw (p, p) refl)
 at_file rows (of_width u) (x ∷ xs) p h = (rw (p, p) refl, rw (p, p, h) refl)
 at_file rows (of_with u) (x ∷ xs) p h = (rw (p, p) refl, rw (p, p) refl)
+
+-- `--guard` where there is none before
+pub at_guard : (rows : List Row) (r : Rest) → Calm rows r → has_row (codes "guard") (use_of r rows) ≡ false → (walked rules [] (between rows r) (codes "--guard") ≡ between (used (guard_built) [] (use_of r rows)) none) × (turn_passes shape [] (between rows r) (codes "--guard") ≡ true)
+unfolding walked
+at_guard rows none h f = (refl, rw f refl)
+at_guard rows (of_file u) h f = (refl, rw f refl)
+at_guard rows (of_width u) h f = (refl, rw (h, f) refl)
+at_guard rows (of_with u) h f = (refl, rw f refl)

@@ -1,17 +1,22 @@
 -- What `clap` finds in the words behind a command, and what is asked for by it.
-use Rattle.std.specs.Prelude.{◌≡◌, ℕ, List, [], ◌∷◌, Option, Some, None, codes, unwrap_or, if◌then◌else◌}
+use Rattle.std.specs.Prelude.{◌≡◌, ℕ, Bool, List, [], ◌∷◌, Option, Some, None, codes, unwrap_or, if◌then◌else◌}
 use Rattle.std.specs.List.{list_all}
 use Rattle.std.specs.Option.{option_and_then, option_map}
-use Rattle.clap.specs.Words.{found_of, matched_of, raw_values}
+use Rattle.clap.specs.Words.{found_of, matched_of, one_text, raw_values}
 use Rattle.clap.specs.declared.parser.matches.ArgMatches.{ArgMatches}
 use Rattle.vg_request.specs.Binding.{is_binding, bindings_in}
 use Rattle.vg_request.specs.Options.{KernelAsked, width_of, allowed_of, two_files}
-use Rattle.vg_request.specs.Parts.{Part, widths_in, extensions_in, words_in}
+use Rattle.vg_request.specs.Parts.{Part, widths_in, extensions_in, guards_in, words_in}
 use Rattle.vg_request.specs.Request.{Asked, run, eval, lift, trial, trial_number}
 
 -- all values of an argument, in their order
 abbrev pub values_of : List ℕ → ArgMatches → List (List ℕ)
 values_of id m = unwrap_or (option_map raw_values (matched_of (found_of m) id)) []
+
+-- the text of a flag that is given or not
+abbrev pub flag_text : List (List ℕ) → List ℕ
+flag_text [] = codes "false"
+flag_text (g ∷ gs) = codes "true"
 
 -- the values are those of these parts
 abbrev pub HasParts : Option (List Part) → ArgMatches → Type 0
@@ -19,17 +24,19 @@ HasParts None m = ⊥
 HasParts (Some parts) m = (values_of (codes "width") m ≡ widths_in parts)
     × (values_of (codes "with") m ≡ extensions_in parts)
     × (values_of (codes "files") m ≡ words_in parts)
+    × (one_text (found_of m) (codes "guard") ≡ Some (flag_text (guards_in parts)))
 
 -- what these values of options and files ask for
-abbrev pub kernel_by : List (List ℕ) → List (List ℕ) → List (List ℕ) → Option KernelAsked
-kernel_by widths names files =
+abbrev pub kernel_by : Bool → List (List ℕ) → List (List ℕ) → List (List ℕ) → Option KernelAsked
+kernel_by guard widths names files =
     option_and_then (λ width.
-    option_and_then (λ allowed. two_files (record { width = width; allowed = allowed }) files)
+    option_and_then (λ allowed.
+    two_files guard (record { width = width; allowed = allowed }) files)
     (allowed_of names)) (width_of widths)
 
-abbrev pub kernel_found : ArgMatches → Option KernelAsked
-kernel_found m =
-    kernel_by (values_of (codes "width") m) (values_of (codes "with") m) (values_of (codes "files") m)
+abbrev pub kernel_found : Bool → ArgMatches → Option KernelAsked
+kernel_found guard m = kernel_by guard (values_of (codes "width") m)
+    (values_of (codes "with") m) (values_of (codes "files") m)
 
 -- what the values ask for behind each other command, and the words behind its files
 abbrev pub run_found : List (List ℕ) → List (List ℕ) → Option Asked

@@ -1,11 +1,11 @@
 -- What the options of a command say, and the two files beside them.
-use Rattle.std.specs.Prelude.{ℕ, ◌&&◌, List, [], ◌∷◌, Option, Some, None, ◌^◌, nat_le, bit_or, if◌then◌else◌}
+use Rattle.std.specs.Prelude.{ℕ, Bool, true, false, ◌&&◌, List, [], ◌∷◌, Option, Some, None, ◌^◌, nat_le, bit_or, if◌then◌else◌}
 use Rattle.std.specs.Option.{option_and_then, option_map}
 use Rattle.vg_text.specs.Number.{decimal_value}
 use Rattle.vg_catalog.specs.Extensions.{all_extensions, extension_place, bits_in}
 use Rattle.vg_request.specs.declared.options.Options.{Options}
 use Rattle.vg_request.specs.declared.reading.OnKernel.{OnKernel}
-use Rattle.vg_request.specs.Parts.{Part, parts_of, widths_in, extensions_in, words_in}
+use Rattle.vg_request.specs.Parts.{Part, parts_of, widths_in, extensions_in, guards_in, words_in}
 
 -- the width of the search, and the extensions whose entries may be called: bit i stands for the
 -- extension at place i of their list
@@ -50,24 +50,36 @@ choices_of parts =
     option_map (λ allowed. record { width = width; allowed = allowed })
     (allowed_of (extensions_in parts))) (width_of (widths_in parts))
 
--- an instruction file, a kernel, and what the options say
+-- whether `--guard` stands there: once, and only where it may
+abbrev pub guard_of : Bool → List (List ℕ) → Option Bool
+guard_of free [] = Some false
+guard_of free (g ∷ []) = if free then Some true else None
+guard_of free _ = None
+
+-- an instruction file, a kernel, what the options say, and whether guards are asked for
 pub record KernelAsked : Type 0 where
   pub instructions : List ℕ
   pub kernel : List ℕ
   pub choices : Choices
+  pub guard : Bool
 
 -- the words that are left are two files
-abbrev pub two_files : Choices → List (List ℕ) → Option KernelAsked
-two_files choices (instructions ∷ kernel ∷ []) =
-    Some (record { instructions = instructions; kernel = kernel; choices = choices })
-two_files choices _ = None
+abbrev pub two_files : Bool → Choices → List (List ℕ) → Option KernelAsked
+two_files guard choices (instructions ∷ kernel ∷ []) = Some (record {
+  instructions = instructions;
+  kernel = kernel;
+  choices = choices;
+  guard = guard;
+})
+two_files guard choices _ = None
 
--- `INSTRUCTIONS KERNEL`, with options anywhere among them
-abbrev pub kernel_asked : List (List ℕ) → Option KernelAsked
-kernel_asked words =
+-- `INSTRUCTIONS KERNEL`, with options anywhere among them, `--guard` where it may stand
+abbrev pub kernel_asked : Bool → List (List ℕ) → Option KernelAsked
+kernel_asked free words =
     option_and_then (λ parts.
-    option_and_then (λ choices. two_files choices (words_in parts))
-    (choices_of parts)) (parts_of words)
+    option_and_then (λ guard.
+    option_and_then (λ choices. two_files guard choices (words_in parts))
+    (choices_of parts)) (guard_of free (guards_in parts))) (parts_of words)
 
 -- what the code's values stand for
 abbrev pub choices_seen : Options → Choices
@@ -78,4 +90,5 @@ kernel_seen k = record {
   instructions = k.instructions.now;
   kernel = k.kernel.now;
   choices = choices_seen k.options;
+  guard = k.guard;
 }

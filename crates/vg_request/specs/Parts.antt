@@ -8,21 +8,23 @@ use Rattle.vg_request.specs.declared.part.Part.TheVariants as seen
 use Rattle.vg_request.specs.declared.part.Cut.{Cut}
 use Rattle.vg_request.specs.Word.{plain_word}
 
--- `--width` with its value, `--with` with its value, or a word that is left
+-- `--width` with its value, `--with` with its value, `--guard`, or a word that is left
 pub data Part : Type 0 where
   width : List ℕ → Part
   extension : List ℕ → Part
+  guard : Part
   word : List ℕ → Part
 
 -- the word begins with these bytes
 abbrev pub begins : List ℕ → List ℕ → Bool
 begins bytes w = bytes_eq (take (length bytes) w) bytes
 
--- a word by itself: `--width=N`, `--with=EXTENSION`, or a word that is left
+-- a word by itself: `--width=N`, `--with=EXTENSION`, `--guard`, or a word that is left
 abbrev pub part_of : List ℕ → Option Part
 part_of w =
     if begins (codes "--width=") w then option_map (λ v. width v) (plain_word (drop 8 w))
     else if begins (codes "--with=") w then option_map (λ v. extension v) (plain_word (drop 7 w))
+    else if bytes_eq w (codes "--guard") then Some guard
     else option_map (λ v. word v) (plain_word w)
 
 -- a part in front of those of other words
@@ -48,6 +50,10 @@ abbrev extension_at : Part → Option (List ℕ)
 extension_at (extension name) = Some name
 extension_at _ = None
 
+abbrev guard_at : Part → Option (List ℕ)
+guard_at guard = Some (codes "--guard")
+guard_at _ = None
+
 abbrev word_at : Part → Option (List ℕ)
 word_at (word w) = Some w
 word_at _ = None
@@ -60,6 +66,10 @@ widths_in parts = filter_map width_at parts
 abbrev pub extensions_in : List Part → List (List ℕ)
 extensions_in parts = filter_map extension_at parts
 
+-- each `--guard`
+abbrev pub guards_in : List Part → List (List ℕ)
+guards_in parts = filter_map guard_at parts
+
 -- the words that are left
 abbrev pub words_in : List Part → List (List ℕ)
 words_in parts = filter_map word_at parts
@@ -68,6 +78,7 @@ words_in parts = filter_map word_at parts
 abbrev pub part_seen : code.Part → Part
 part_seen (seen.Width n) = width n.now
 part_seen (seen.Extension name) = extension name.now
+part_seen seen.Guard = guard
 part_seen (seen.Word w) = word w.now
 
 -- the words have this part in front of those of what is behind it, or they have no parts

@@ -1,5 +1,5 @@
 -- The requests: what the words of a command line ask for.
-use Rattle.std.specs.Prelude.{ℕ, ◌-◌, ◌^◌, List, [], ◌∷◌, Option, Some, None, codes, nat_lt, slice_get, unwrap_or, if◌then◌else◌}
+use Rattle.std.specs.Prelude.{ℕ, Bool, true, false, ◌-◌, ◌^◌, List, [], ◌∷◌, Option, Some, None, codes, nat_lt, slice_get, unwrap_or, if◌then◌else◌}
 use Rattle.std.specs.Str.{bytes_eq}
 use Rattle.std.specs.List.{list_all}
 use Rattle.std.specs.Option.{option_and_then, option_map}
@@ -10,9 +10,9 @@ use Rattle.vg_request.specs.Binding.{Binding, is_binding, bindings_in}
 use Rattle.vg_request.specs.Options.{Choices, kernel_asked, choices_seen}
 use Rattle.vg_request.specs.Word.{plain_word}
 
--- what is asked for, each file by its name
+-- what is asked for, each file by its name; `compile` with guards or without
 pub data Asked : Type 0 where
-  compile : List ℕ → List ℕ → Choices → Asked
+  compile : List ℕ → List ℕ → Choices → Bool → Asked
   run : List ℕ → List ℕ → List ℕ → List Binding → Asked
   eval : List ℕ → List ℕ → List Binding → Asked
   lift : List ℕ → Asked
@@ -21,7 +21,7 @@ pub data Asked : Type 0 where
 
 -- the names of its files, in the order in which they are read
 abbrev pub files_of : Asked → List (List ℕ)
-files_of (compile instructions kernel choices) = instructions ∷ kernel ∷ []
+files_of (compile instructions kernel choices guard) = instructions ∷ kernel ∷ []
 files_of (run instructions program memory bindings) = instructions ∷ program ∷ memory ∷ []
 files_of (eval kernel memory bindings) = kernel ∷ memory ∷ []
 files_of (lift instructions) = instructions ∷ []
@@ -56,10 +56,10 @@ eval_of a b words =
     (plain_word b)) (plain_word a)
     else None
 
--- the words behind `compile INSTRUCTIONS KERNEL`, with options anywhere among them
+-- the words behind `compile INSTRUCTIONS KERNEL`, with options anywhere among them, also `--guard`
 abbrev pub compile_words : List (List ℕ) → Option Asked
 compile_words words =
-    option_map (λ k. compile k.instructions k.kernel k.choices) (kernel_asked words)
+    option_map (λ k. compile k.instructions k.kernel k.choices k.guard) (kernel_asked true words)
 
 -- the words behind `run INSTRUCTIONS PROGRAM MEMORY name=number ..`
 abbrev pub run_words : List (List ℕ) → Option Asked
@@ -79,7 +79,7 @@ lift_words _ = None
 -- the words behind `explain INSTRUCTIONS KERNEL`, with options anywhere among them
 abbrev pub explain_words : List (List ℕ) → Option Asked
 explain_words words =
-    option_map (λ k. explain k.instructions k.kernel k.choices) (kernel_asked words)
+    option_map (λ k. explain k.instructions k.kernel k.choices) (kernel_asked false words)
 
 -- the number of a trial: decimal digits of a value below 2 ^ 32, leading zeros among them
 abbrev pub trial_number : List ℕ → Option ℕ
@@ -107,7 +107,7 @@ request_of (command ∷ words) =
 
 -- what a request of the code asks for
 abbrev pub asked_of : Request → Asked
-asked_of (Compile a b options) = compile a.now b.now (choices_seen options)
+asked_of (Compile a b options guard) = compile a.now b.now (choices_seen options) guard
 asked_of (Run a b c words) = run a.now b.now c.now (bindings_in words.now)
 asked_of (Eval a b words) = eval a.now b.now (bindings_in words.now)
 asked_of (Lift a) = lift a.now

@@ -8,13 +8,15 @@ ghost use Rattle.vg_request.specs.Parts.{part_of, part_seen, IsFirst, width, ext
 use crate::word::plain_word;
 use vg_outside::Bytes;
 
-/// An option with its value, or a word that is no option.
+/// An option, with its value where it has one, or a word that is no option.
 #[derive(Clone, Copy)]
 pub(crate) enum Part<'a> {
     /// The value of `--width`.
     Width(&'a str),
     /// The value of `--with`.
     Extension(&'a str),
+    /// `--guard`.
+    Guard,
     /// A word that is no option.
     Word(&'a str),
 }
@@ -44,6 +46,13 @@ fn word_part(bytes: &[u8]) -> Option<Part<'_>>
     Some(Part::Word(plain_word(bytes)?))
 }
 
+/// Whether two texts are the same bytes.
+fn is_text(bytes: &[u8], text: &[u8]) -> bool
+    ensures { result ≡ bytes_eq bytes.now text.now }
+{
+    bytes == text
+}
+
 /// The part that a word is by itself.
 fn part_of(bytes: &[u8]) -> Option<Part<'_>>
     ensures { option_map part_seen result ≡ part_of bytes.now }
@@ -54,14 +63,10 @@ fn part_of(bytes: &[u8]) -> Option<Part<'_>>
     if let Some(value) = bytes.strip_prefix(b"--with=".as_slice()) {
         return extension_part(value);
     }
+    if is_text(bytes, b"--guard") {
+        return Some(Part::Guard);
+    }
     word_part(bytes)
-}
-
-/// Whether two texts are the same bytes.
-fn is_text(bytes: &[u8], text: &[u8]) -> bool
-    ensures { result ≡ bytes_eq bytes.now text.now }
-{
-    bytes == text
 }
 
 /// The first part of the words. None where there is no word or no part begins them.

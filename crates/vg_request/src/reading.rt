@@ -4,7 +4,7 @@ ghost use Rattle.std.specs.Prelude.{◌≡◌, [], true, false, codes, Ok, None,
 ghost use Rattle.clap.specs.Words.{kind_of};
 ghost use Rattle.vg_request.specs.Parts.{parts_of, part_seen};
 ghost use Rattle.vg_request.specs.Options.{kernel_asked, kernel_seen, two_files, choices_seen};
-ghost use Rattle.vg_request.specs.Readable.{is_width, is_second, are_options, are_plain};
+ghost use Rattle.vg_request.specs.Readable.{is_width, is_guard, is_one_more, are_options, are_plain};
 ghost use Rattle.vg_request.specs.Found.{HasParts, values_of, kernel_found};
 ghost use Rattle.vg_request.specs.Texts.{texts_of};
 
@@ -25,31 +25,43 @@ fn is_width(part: Part<'_>) -> bool
     }
 }
 
-/// Whether a part is a width behind another one.
-fn is_second(seen: bool, part: Part<'_>) -> bool
-    ensures { result ≡ is_second seen (part_seen part.entry) }
+fn is_guard(part: Part<'_>) -> bool
+    ensures { result ≡ is_guard (part_seen part.entry) }
 {
     match part {
-        Part::Width(_) => seen,
+        Part::Guard => true,
         _ => false,
     }
 }
 
-/// Whether the words are options with their values, one width at most, and texts that do not begin
-/// with `-`. Takes no memory.
-fn are_options(words: &[Bytes]) -> bool
-    ensures { result ≡ are_options words.now }
+/// Whether a part is a width or `--guard` where it is not free to stand.
+fn is_one_more(width_free: bool, guard_free: bool, part: Part<'_>) -> bool
+    ensures { result ≡ is_one_more width_free guard_free (part_seen part.entry) }
+{
+    match part {
+        Part::Width(_) => !width_free,
+        Part::Guard => !guard_free,
+        _ => false,
+    }
+}
+
+/// Whether the words are options with their values, one width at most, `--guard` at most once and
+/// only where it is free to stand, and texts that do not begin with `-`. Takes no memory.
+fn are_options(words: &[Bytes], guard_free: bool) -> bool
+    ensures { result ≡ are_options guard_free words.now }
 {
     let mut left = words;
-    let mut seen = false;
+    let mut no_width = true;
+    let mut no_guard = guard_free;
     'parts: while !left.is_empty() {
         let Some(cut) = first_part(left) else {
             return false;
         };
-        if is_second(seen, cut.part) {
+        if is_one_more(no_width, no_guard, cut.part) {
             return false;
         }
-        seen = seen || is_width(cut.part);
+        no_width = no_width && !is_width(cut.part);
+        no_guard = no_guard && !is_guard(cut.part);
         left = cut.behind;
     }
     true
@@ -64,7 +76,7 @@ pub(crate) fn are_plain(words: &[Bytes]) -> bool
 
 /// What `clap` reads of words that are options and files.
 fn read<'a>(alloc: Global, words: &'a [Bytes]) -> Result<ArgMatches<'a>, Error>
-    requires { are_options words.now ≡ true }
+    requires { are_options true words.now ≡ true }
     ensures ok { IfOk result (HasParts (parts_of words.now)) }
     ensures err { IfErr result (λ e. kind_of e ≡ ErrorKind.OutOfMemory) }
 {
@@ -74,19 +86,23 @@ fn read<'a>(alloc: Global, words: &'a [Bytes]) -> Result<ArgMatches<'a>, Error>
     let with = Arg::new(alloc, "with")
         .long("with")
         .action(ArgAction::Append);
+    let guard = Arg::new(alloc, "guard")
+        .long("guard")
+        .action(ArgAction::SetTrue);
     let files = Arg::new(alloc, "files").action(ArgAction::Append);
     let command = Command::new(alloc, "vegen")
         .no_binary_name(true)
         .disable_help_flag(true)
         .arg(width)?
         .arg(with)?
+        .arg(guard)?
         .arg(files)?;
     command.try_get_matches_from(words)
 }
 
 /// The same, where want of memory is the one fault.
 fn matched<'a>(alloc: Global, words: &'a [Bytes]) -> Result<ArgMatches<'a>, AllocError>
-    requires { are_options words.now ≡ true }
+    requires { are_options true words.now ≡ true }
     ensures { IfOk result (HasParts (parts_of words.now)) }
 {
     match read(alloc, words) {
@@ -124,48 +140,53 @@ pub(crate) fn values_of<'m, 'a>(matches: &'m ArgMatches<'a>, id: &str) -> &'m [&
     some_or_none(matches.get_strs(id))
 }
 
-/// An instruction file, a kernel, and what the options say.
+/// An instruction file, a kernel, what the options say, and whether guards are asked for.
 #[derive(Clone, Copy)]
 pub(crate) struct OnKernel<'a> {
     pub(crate) instructions: &'a str,
     pub(crate) kernel: &'a str,
     pub(crate) options: Options,
+    pub(crate) guard: bool,
 }
 
-fn two_files<'a>(options: Options, files: &[&'a str]) -> Option<OnKernel<'a>>
-    ensures { option_map kernel_seen result ≡ two_files (choices_seen options) (texts_of files.now) }
+fn two_files<'a>(guard: bool, options: Options, files: &[&'a str]) -> Option<OnKernel<'a>>
+    ensures { option_map kernel_seen result
+        ≡ two_files guard (choices_seen options) (texts_of files.now) }
 {
     match files {
         [instructions, kernel] => Some(OnKernel {
             instructions: *instructions,
             kernel: *kernel,
             options,
+            guard,
         }),
         _ => None,
     }
 }
 
-fn kernel_found<'a>(matches: &ArgMatches<'a>) -> Option<OnKernel<'a>>
-    ensures { option_map kernel_seen result ≡ kernel_found matches.now }
+fn kernel_found<'a>(guard: bool, matches: &ArgMatches<'a>) -> Option<OnKernel<'a>>
+    ensures { option_map kernel_seen result ≡ kernel_found guard matches.now }
 {
     let width = width_of(values_of(matches, "width"))?;
     let allowed = allowed_of(values_of(matches, "with"))?;
-    two_files(Options { width, allowed }, values_of(matches, "files"))
+    two_files(guard, Options { width, allowed }, values_of(matches, "files"))
 }
 
-/// `INSTRUCTIONS KERNEL`, with options anywhere among them. Fails for want of memory alone, and
-/// takes none for words that are no options and files.
-#[tactic(auto, using(crate::proofs::Asked::found_is_asked, crate::proofs::Asked::no_options))]
+/// `INSTRUCTIONS KERNEL`, with options anywhere among them, `--guard` where it is free to stand.
+/// Fails for want of memory alone, and takes none for words that are no options and files.
+#[tactic(auto, using(crate::proofs::Asked::found_is_asked, crate::proofs::Asked::no_options, crate::proofs::Asked::are_free))]
 pub(crate) fn on_kernel<'a>(
     alloc: Global,
     words: &'a [Bytes],
+    guard_free: bool,
 ) -> Result<Option<OnKernel<'a>>, AllocError>
-    ensures asked { IfOk result (λ r. option_map kernel_seen r ≡ kernel_asked words.now) }
-    ensures refused { are_options words.now ≡ false → result ≡ Ok None }
+    ensures asked { IfOk result (λ r. option_map kernel_seen r ≡ kernel_asked guard_free words.now) }
+    ensures refused { are_options guard_free words.now ≡ false → result ≡ Ok None }
 {
-    if !are_options(words) {
+    if !are_options(words, guard_free) {
         return Ok(None);
     }
     let matches = matched(alloc, words)?;
-    Ok(kernel_found(&matches))
+    let guard = matches.get_flag("guard");
+    Ok(kernel_found(guard, &matches))
 }

@@ -1,6 +1,6 @@
 //! What the words of a command line ask for.
 
-ghost use Rattle.std.specs.Prelude.{◌≡◌, false, Ok, None, option_map, IfOk, drop, length, ◌≤◌};
+ghost use Rattle.std.specs.Prelude.{◌≡◌, true, false, Ok, None, option_map, IfOk, drop, length, ◌≤◌};
 ghost use Rattle.vg_request.specs.Found.{run_found, eval_found, lift_found, trial_found};
 ghost use Rattle.vg_request.specs.Readable.{are_options, are_plain, are_read};
 ghost use Rattle.vg_request.specs.Request.{run_words, eval_words, lift_words, compile_words, explain_words, trial_number, trial_words, request_of, files_of, file_name, asked_of};
@@ -16,11 +16,12 @@ use vg_text::decimal;
 /// A request, with the names of its files in the order in which they are read.
 #[derive(Clone, Copy)]
 pub enum Request<'a> {
-    /// The program text of a kernel.
+    /// The program text of a kernel, or with `guard` its guarded text.
     Compile {
         instructions: &'a str,
         kernel: &'a str,
         options: Options,
+        guard: bool,
     },
     /// The memory that a program leaves, its parameters bound by words.
     Run {
@@ -111,24 +112,25 @@ pub fn request_of(alloc: Global, words: &Words) -> Result<Option<Request<'_>>, A
 fn compile_words(alloc: Global, words: &Words) -> Result<Option<Request<'_>>, AllocError>
     requires { 1 ≤ length words.now }
     ensures asked { IfOk result (λ r. option_map asked_of r ≡ compile_words (drop 1 words.now)) }
-    ensures refused { are_options (drop 1 words.now) ≡ false → result ≡ Ok None }
+    ensures refused { are_options true (drop 1 words.now) ≡ false → result ≡ Ok None }
 {
-    let Some(asked) = on_kernel(alloc, words.behind(1))? else {
+    let Some(asked) = on_kernel(alloc, words.behind(1), true)? else {
         return Ok(None);
     };
     Ok(Some(Request::Compile {
         instructions: asked.instructions,
         kernel: asked.kernel,
         options: asked.options,
+        guard: asked.guard,
     }))
 }
 
 fn explain_words(alloc: Global, words: &Words) -> Result<Option<Request<'_>>, AllocError>
     requires { 1 ≤ length words.now }
     ensures asked { IfOk result (λ r. option_map asked_of r ≡ explain_words (drop 1 words.now)) }
-    ensures refused { are_options (drop 1 words.now) ≡ false → result ≡ Ok None }
+    ensures refused { are_options false (drop 1 words.now) ≡ false → result ≡ Ok None }
 {
-    let Some(asked) = on_kernel(alloc, words.behind(1))? else {
+    let Some(asked) = on_kernel(alloc, words.behind(1), false)? else {
         return Ok(None);
     };
     Ok(Some(Request::Explain {

@@ -2,7 +2,7 @@ use Rattle.std.proofs.Common.{rules, ◌≡◌, ◌∙◌, true, false, codes, O
 use Rattle.std.specs.Prelude.{slice_get}
 use Rattle.std.specs.Str.{bytes_eq}
 use Rattle.vg_request.specs.Request.{Asked, asked_of}
-use Rattle.vg_request.proofs.Commands.{IsBehindEval, lift_at, explain_at, explain_read, trial_at, trial_read}
+use Rattle.vg_request.proofs.Commands.{IsBehindEval, lift_at, lift_read, explain_at, explain_read, trial_at, trial_read}
 use Rattle.vg_request.proofs.request.request_of.Goals as goal
 
 pub returns-then-eq-4-clause-asked : goal.returns-then-eq-4-clause-asked
@@ -12,6 +12,14 @@ returns-then-eq-4-clause-asked c =
     let before : IsBehindEval w = record { compile = search rules; run = search rules; eval = search rules } in
     let lift : bytes_eq w (codes "lift") ≡ true = search rules in
     subst (λ (a : Option Asked). IfOk c.lift_words.result (λ r. option_map asked_of r ≡ a)) (sym (lift_at c.args.words.now w first before lift)) c.lift_words.ensures.asked
+
+pub returns-then-eq-4-clause-refused : goal.returns-then-eq-4-clause-refused
+returns-then-eq-4-clause-refused c = λ unread.
+    let w = c.get-command.result.now in
+    let first : slice_get c.args.words.now 0 ≡ Some w = search rules in
+    let before : IsBehindEval w = record { compile = search rules; run = search rules; eval = search rules } in
+    let lift : bytes_eq w (codes "lift") ≡ true = search rules in
+    c.lift_words.ensures.refused (lift_read c.args.words.now w first before lift ∙ unread)
 
 pub returns-then-eq-5-clause-asked : goal.returns-then-eq-5-clause-asked
 returns-then-eq-5-clause-asked c =

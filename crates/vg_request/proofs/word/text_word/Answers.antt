@@ -1,4 +1,4 @@
-use Rattle.std.proofs.Common.{refl}
+use Rattle.std.proofs.Common.{◌≡◌, refl}
 use Rattle.std.proofs.lemmas.Str.{is_utf8-from_IsUtf8}
 use Rattle.vg_outside.proofs.Texts.{no_text}
 use Rattle.vg_request.proofs.word.text_word.Goals as goal
