@@ -8,9 +8,13 @@ mod desk;
 #[cfg(test)]
 mod eval_cases;
 #[cfg(test)]
+mod guard_cases;
+#[cfg(test)]
 mod hostile_cases;
 #[cfg(test)]
 mod instruction_files;
+#[cfg(test)]
+mod loop_cases;
 #[cfg(test)]
 mod memories;
 #[cfg(test)]

@@ -1,39 +1,40 @@
--- The text of a compiled program answers its kernel.
+-- What is written of a text answers what is told of it.
 use Rattle.std.proofs.Common.{◌≡◌, ℕ, List, Result, Ok, Err, true, length, refl, subst}
 use Rattle.std.specs.Prelude.{Vec}
 use Rattle.std.specs.declared.alloc.Global.{Global}
-use Rattle.vg_kernel.specs.declared.kernel.Kernel.{Kernel}
-use Rattle.vg_kernel.specs.Tree.{Tree, tree_of}
+use Rattle.vg_base.specs.Bind.{◌>>=◌}
 use Rattle.vg_catalog.specs.Entries.{Entry}
 use Rattle.vg_request.specs.Options.{Choices}
 use Rattle.vg_request.specs.Request.{files_of}
 use Rattle.vg_top.specs.declared.ending.Ending.{Ending}
 use Rattle.vg_top.specs.declared.on_kernel.Task.{Task}
-use Rattle.vg_top.specs.declared.on_kernel.Task.TheVariants.{Program, Plan}
-use Rattle.vg_top.specs.Answer.{source}
+use Rattle.vg_top.specs.declared.on_kernel.Task.TheVariants.{Program, Guarded, Plan}
 use Rattle.vg_top.specs.Causes.{reads_instructions, reads_kernel}
-use Rattle.vg_top.specs.OnKernel.{Answers, IsTextFor, asked_for, source_of}
 use Rattle.vg_top.specs.Files.{Tells}
-use Rattle.vg_top.specs.KernelFile.{IsTree}
+use Rattle.vg_top.specs.OnKernel.{asked_for}
+use Rattle.vg_top.specs.Outcome.{Outcome, IsAnswer, VecAnswers}
 
--- an answer to the kernel that was read is one to the kernel that is told
-pub answered : (task : Task) (read entries : List Entry) (choices : Choices) (told : Result Tree Ending) (kernel : Kernel) (bytes : Vec ℕ Global) → read ≡ entries
-    → Tells IsTree (Ok kernel) told → IsTextFor task (source read (tree_of kernel) choices) bytes.items
-    → Tells (Answers task) (Ok bytes) (source_of entries choices told)
-answered task read entries choices (Ok k) kernel bytes same is answer =
-    subst (λ es. IsTextFor task (source es k choices) bytes.items) same
-    (subst (λ (t : Tree). IsTextFor task (source read t choices) bytes.items) is answer)
-answered task read entries choices (Err e) kernel bytes same none answer = none
+-- what is made of what was read answers what is told, seen by a view
+pub answered : {F G : Type 0} (view : F → G) (made : List Entry → G → Outcome) (read entries : List Entry) (told : Result G Ending) (file : F) (bytes : Vec ℕ Global) → read ≡ entries
+    → Tells (λ f g. view f ≡ g) (Ok file) told → IsAnswer (made read (view file)) bytes.items
+    → Tells VecAnswers (Ok bytes) (told >>= λ g. Ok (made entries g))
+answered view made read entries (Ok g) file bytes same is answer =
+    subst (λ es. IsAnswer (made es g) bytes.items) same
+    (subst (λ h. IsAnswer (made read h) bytes.items) is answer)
+answered view made read entries (Err e) file bytes same none answer = none
 
--- both commands read two files, of instructions and of a kernel
+-- all these commands read two files, of instructions and of a kernel
 pub two-files : (task : Task) (a b : List ℕ) (choices : Choices) → length (files_of (asked_for task a b choices)) ≡ 2
 two-files Program a b choices = refl
+two-files Guarded a b choices = refl
 two-files Plan a b choices = refl
 
 pub instructions-read : (task : Task) (a b : List ℕ) (choices : Choices) → reads_instructions (asked_for task a b choices) ≡ true
 instructions-read Program a b choices = refl
+instructions-read Guarded a b choices = refl
 instructions-read Plan a b choices = refl
 
 pub kernel-read : (task : Task) (a b : List ℕ) (choices : Choices) → reads_kernel (asked_for task a b choices) ≡ true
 kernel-read Program a b choices = refl
+kernel-read Guarded a b choices = refl
 kernel-read Plan a b choices = refl

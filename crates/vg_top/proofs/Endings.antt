@@ -8,7 +8,8 @@ use Rattle.vg_top.specs.declared.status.Status.TheVariants as status
 use Rattle.vg_top.specs.Causes.{MayEnd, MayStop}
 use Rattle.vg_top.specs.Ending.{status_of}
 use Rattle.vg_request.specs.Request.{Asked}
-use Rattle.vg_top.specs.Verdict.{Outcome, EndedBy, status_told}
+use Rattle.vg_top.specs.Outcome.{Outcome}
+use Rattle.vg_top.specs.Verdict.{EndedBy, status_told}
 use Rattle.vg_top.specs.Works.{CountsFault}
 
 -- no request has the status of words that are none

@@ -1,6 +1,7 @@
 pub mod Answers
 pub mod BoundInputs
 pub mod Endings
+pub mod Few
 pub mod Fronts
 pub mod Ready
 pub mod Works

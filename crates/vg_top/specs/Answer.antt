@@ -6,6 +6,13 @@ use Rattle.vg_program.specs.declared.program.Program.{Program}
 use Rattle.vg_program.specs.Text.{text_of}
 use Rattle.vg_compile.specs.Compiled.{IsCompiled}
 use Rattle.vg_compile.specs.Planned.{IsExplained}
+use Rattle.vg_guard.specs.declared.guarded.Guarded.{Guarded}
+use Rattle.vg_guard.specs.Guarded.{guarded_text}
+use Rattle.vg_guard.specs.Compiled.{IsCompiledGuarded}
+use Rattle.vg_looped.specs.declared.looped.Looped.{Looped}
+use Rattle.vg_looped.specs.Looped.{looped_text}
+use Rattle.vg_loop_laws.specs.Loops.{Loop}
+use Rattle.vg_loops.specs.CompiledLoop.{IsCompiledLoop}
 use Rattle.vg_request.specs.Options.{Choices}
 
 -- a kernel, the entries that there are, and what the options say: how many plans the search keeps of
@@ -18,6 +25,15 @@ pub record Source : Type 0 where
 abbrev pub source : List Entry → Tree → Choices → Source
 source entries kernel choices = record { entries = entries; kernel = kernel; choices = choices }
 
+-- a loop in the place of a kernel
+pub record LoopSource : Type 0 where
+  pub entries : List Entry
+  pub loop : Loop
+  pub choices : Choices
+
+abbrev pub loop_source : List Entry → Loop → Choices → LoopSource
+loop_source entries l choices = record { entries = entries; loop = l; choices = choices }
+
 -- The text of a program that is valid where it may call the entries, calls the allowed ones alone,
 -- means the kernel, states its scalar cost, and costs at most that and what the chosen plan costs, which
 -- is at most what the plain plan does.
@@ -25,6 +41,22 @@ pub record Answer (s : Source) (bytes : List ℕ) : Type 0 where
   pub program : Program
   pub text : bytes ≡ text_of program
   pub compiled : IsCompiled s.entries s.choices.allowed s.kernel s.choices.width program
+
+-- The text of a guarded program whose checks are the kernel's, which means the kernel in each layout that
+-- keeps what the kernel itself says of `noalias`. Each side is what is compiled of the kernel, the fast
+-- one as if every pointer were `noalias`.
+pub record GuardedAnswer (s : Source) (bytes : List ℕ) : Type 0 where
+  pub guarded : Guarded
+  pub text : bytes ≡ guarded_text guarded
+  pub compiled : IsCompiledGuarded s.entries s.choices.allowed s.kernel s.choices.width guarded
+
+-- The text of a block of as many turns as one kernel may have and of a rest of one turn, which leaves
+-- what the loop leaves in each layout in which the accesses of all turns keep what it says of
+-- `noalias`, and traps where a turn traps. Each of its programs is what is compiled of its kernel.
+pub record LoopedAnswer (s : LoopSource) (bytes : List ℕ) : Type 0 where
+  pub looped : Looped
+  pub text : bytes ≡ looped_text looped
+  pub compiled : IsCompiledLoop s.entries s.choices.allowed s.loop s.choices.width looped
 
 -- the lines on the chosen plan of the kernel, which the code emits for it: `Answer` tells that a
 -- program costs what this plan does, not that it has these packs

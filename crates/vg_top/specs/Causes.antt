@@ -9,7 +9,7 @@ use Rattle.vg_request.specs.Request.{Asked, compile, run, eval, lift, explain, t
 
 -- the commands that read a file of instructions
 abbrev pub reads_instructions : Asked → Bool
-reads_instructions (compile instructions kernel choices) = true
+reads_instructions (compile instructions kernel choices guard) = true
 reads_instructions (run instructions program memory bindings) = true
 reads_instructions (eval kernel memory bindings) = false
 reads_instructions (explain instructions kernel choices) = true
@@ -18,7 +18,7 @@ reads_instructions (trial instructions number) = true
 
 -- the commands that read a kernel
 abbrev pub reads_kernel : Asked → Bool
-reads_kernel (compile instructions kernel choices) = true
+reads_kernel (compile instructions kernel choices guard) = true
 reads_kernel (run instructions program memory bindings) = false
 reads_kernel (eval kernel memory bindings) = true
 reads_kernel (explain instructions kernel choices) = true
@@ -27,7 +27,7 @@ reads_kernel (trial instructions number) = false
 
 -- the commands that read a program
 abbrev pub reads_program : Asked → Bool
-reads_program (compile instructions kernel choices) = false
+reads_program (compile instructions kernel choices guard) = false
 reads_program (run instructions program memory bindings) = true
 reads_program (eval kernel memory bindings) = false
 reads_program (explain instructions kernel choices) = false
@@ -36,7 +36,7 @@ reads_program (trial instructions number) = false
 
 -- the commands that bind parameters and run something on a memory
 abbrev pub runs : Asked → Bool
-runs (compile instructions kernel choices) = false
+runs (compile instructions kernel choices guard) = false
 runs (run instructions program memory bindings) = true
 runs (eval kernel memory bindings) = true
 runs (explain instructions kernel choices) = false

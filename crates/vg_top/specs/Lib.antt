@@ -6,9 +6,12 @@ pub mod Files
 pub mod Inputs
 pub mod InstructionFile
 pub mod KernelFile
+pub mod Left
 pub mod Lift
 pub mod Line
 pub mod OnKernel
+pub mod Outcome
+pub mod ProgramFile
 pub mod Run
 pub mod Status
 pub mod Trial

@@ -1,6 +1,5 @@
 -- What a run has to answer, where it is known what the shelf holds.
-use Rattle.std.specs.Prelude.{◌≡◌, ℕ, List, [], Option, Some, None, Result, Ok, Err, Vec, IsOk}
-use Rattle.std.specs.declared.alloc.Global.{Global}
+use Rattle.std.specs.Prelude.{◌≡◌, ℕ, List, [], if◌then◌else◌, Option, Some, None, Result, Ok, Err, IsOk}
 use Rattle.vg_base.specs.Bind.{◌>>=◌}
 use Rattle.vg_outside.specs.Shelf.{Held}
 use Rattle.vg_top.specs.declared.ending.Ending.{Ending}
@@ -9,38 +8,21 @@ use Rattle.vg_top.specs.declared.status.Status.{Status}
 use Rattle.vg_top.specs.declared.status.Status.TheVariants as status
 use Rattle.vg_top.specs.Ending.{status_of}
 use Rattle.vg_request.specs.Request.{Asked, compile, run, eval, lift, explain, trial, request_of}
-use Rattle.vg_top.specs.OnKernel.{source_told}
+use Rattle.vg_top.specs.declared.on_kernel.Task.TheVariants.{Program, Guarded, Plan}
+use Rattle.vg_top.specs.OnKernel.{written_for}
+use Rattle.vg_top.specs.Outcome.{Outcome, memory_left, listing, line_on, IsAnswer, VecAnswers}
 use Rattle.vg_top.specs.Eval.{evaluated}
 use Rattle.vg_top.specs.Lift.{listed}
 use Rattle.vg_top.specs.Run.{ran}
-use Rattle.vg_top.specs.Trial.{Trial, trial_told}
-use Rattle.vg_trial_line.specs.TrialLine.{IsTrialLine}
-use Rattle.vg_top.specs.Answer.{Source, Answer, Explanation}
+use Rattle.vg_top.specs.Trial.{trial_told}
 use Rattle.vg_top.specs.Files.{Tells}
 use Rattle.vg_top.specs.Line.{line_of}
 
--- what is to be written
-pub data Outcome : Type 0 where
-  program_for : Source → Outcome
-  plan_for : Source → Outcome
-  memory_left : List ℕ → Outcome
-  listing : List ℕ → Outcome
-  line_on : Trial → Outcome
-
--- the text of a program that means the kernel, the lines on its plan, the memory, the lines on
--- instances, or the line on the trial
-abbrev pub IsAnswer : Outcome → List ℕ → Type 0
-IsAnswer (program_for s) bytes = Answer s bytes
-IsAnswer (plan_for s) bytes = Explanation s bytes
-IsAnswer (memory_left memory) bytes = bytes ≡ memory
-IsAnswer (listing lines) bytes = bytes ≡ lines
-IsAnswer (line_on t) bytes = IsTrialLine t.entries t.number bytes
-
 abbrev pub outcome_of : Held → Asked → Result Outcome Ending
-outcome_of held (compile instructions kernel choices) =
-    source_told held instructions kernel choices >>= λ s. Ok (program_for s)
+outcome_of held (compile instructions kernel choices guard) =
+    written_for held (if guard then Guarded else Program) instructions kernel choices
 outcome_of held (explain instructions kernel choices) =
-    source_told held instructions kernel choices >>= λ s. Ok (plan_for s)
+    written_for held Plan instructions kernel choices
 outcome_of held (run instructions program memory bindings) =
     ran held instructions program memory bindings >>= λ left. Ok (memory_left left)
 outcome_of held (eval kernel memory bindings) =
@@ -56,9 +38,6 @@ asked_outcome held (Some asked) = outcome_of held asked
 
 abbrev pub verdict : Held → List (List ℕ) → Result Outcome Ending
 verdict held words = asked_outcome held (request_of words)
-
-abbrev pub VecAnswers : Vec ℕ Global → Outcome → Type 0
-VecAnswers bytes outcome = IsAnswer outcome bytes.items
 
 -- these bytes are what was to be written
 abbrev pub IsAnswered : Result Outcome Ending → List ℕ → Type 0

@@ -1,48 +1,53 @@
 //! The command `eval`.
 
-ghost use Rattle.std.specs.Prelude.{Some, IfSome, IfErr};
+ghost use Rattle.std.specs.Prelude.{◌≡◌, Some, IfSome, IfErr};
+ghost use Rattle.vg_kernel.specs.Meaning.{meaning};
 ghost use Rattle.vg_kernel.specs.Tree.{tree_of};
-ghost use Rattle.vg_top.specs.Files.{Tells};
-ghost use Rattle.vg_request.specs.Request.{eval as eval_asked};
-ghost use Rattle.vg_top.specs.Works.{Works, IsOfRun, ending_of};
+ghost use Rattle.vg_loop_laws.specs.Loops.{loop_meaning};
+ghost use Rattle.vg_loops.specs.Formed.{IsLoop};
+ghost use Rattle.vg_loops.specs.View.{loop_of};
 ghost use Rattle.vg_request.specs.Binding.{bindings_in};
-ghost use Rattle.vg_top.specs.Eval.{evaluated, evaluated_on};
-ghost use Rattle.vg_top.specs.Run.{AreLeft};
+ghost use Rattle.vg_request.specs.Request.{eval as eval_asked};
+ghost use Rattle.vg_top.specs.Eval.{evaluated, evaluated_on, params_in};
+ghost use Rattle.vg_top.specs.Files.{Tells};
+ghost use Rattle.vg_top.specs.Inputs.{inputs_seen};
+ghost use Rattle.vg_top.specs.KernelFile.{file_seen, IsFormed};
+ghost use Rattle.vg_top.specs.Left.{left_by, memory_or_trap, near_inputs, AreLeft};
+ghost use Rattle.vg_top.specs.Works.{Works, IsOfRun, ending_of};
 
 use crate::ending::{Ending, FileNumber};
 use crate::files::{KERNEL_LIMIT, MEMORY_LIMIT, fetch};
-use crate::inputs::bind;
-use crate::kernel_file::kernel_of_text;
+use crate::inputs::{Inputs, bind};
+use crate::kernel_file::{KernelFile, kernel_file_of_text};
 use std::alloc::Global;
 use vg_compile::params_of;
-use vg_kernel::Kernel;
+use vg_kernel::{KParam, Kernel};
 use vg_keval::{KState, Outcome, run_kernel};
+use vg_loops::{Loop, run_loop, stay_near, turns_asked};
 use vg_outside::{Bytes, Shelf};
 use vg_request::binding::bindings_of;
 
-/// What a kernel leaves of a memory, its parameters bound by the words.
-fn evaluate_on(
+/// The parameters of a kernel or a loop.
+fn params_in(file: &KernelFile) -> &[KParam]
+    ensures { result.now ≡ params_in (file_seen file.now) }
+{
+    match file {
+        KernelFile::Plain(kernel) => kernel.params.as_slice(),
+        KernelFile::Counted(source) => source.kernel.params.as_slice(),
+    }
+}
+
+/// What a kernel leaves of a memory.
+fn evaluate_kernel(
     alloc: Global,
     kernel: &Kernel,
+    inputs: &Inputs,
     memory: Vec<u8>,
-    words: &[Bytes],
 ) -> Result<Vec<u8>, Ending>
-    ensures told { Tells AreLeft result
-        (evaluated_on (bindings_in words.now) (tree_of kernel.now) memory.items) }
+    ensures told { Tells AreLeft result (memory_or_trap (meaning (tree_of kernel.now)
+        memory.items inputs.now.places.items inputs.now.args.items)) }
     ensures refusal { IfErr result IsOfRun }
 {
-    let Ok(bindings) = bindings_of(alloc, words) else {
-        return Err(Ending::Memory);
-    };
-    let Ok(params) = params_of(alloc, kernel.params.as_slice()) else {
-        return Err(Ending::Memory);
-    };
-    let Ok(bound) = bind(alloc, bindings.as_slice(), params.as_slice()) else {
-        return Err(Ending::Memory);
-    };
-    let Some(inputs) = bound else {
-        return Err(Ending::Bindings);
-    };
     let Ok(state) = KState::new(alloc, kernel) else {
         return Err(Ending::Memory);
     };
@@ -60,8 +65,67 @@ fn evaluate_on(
     }
 }
 
-/// The memory that the kernel in a file leaves of the memory in another, its parameters bound by
-/// the words.
+/// What a loop leaves of a memory. `Bindings` where its turns move a pointer past 2^64 - 1.
+fn evaluate_loop(
+    alloc: Global,
+    source: &Loop,
+    inputs: &Inputs,
+    memory: Vec<u8>,
+) -> Result<Vec<u8>, Ending>
+    requires { IsLoop (loop_of source.now) }
+    ensures told { Tells AreLeft result (left_by (loop_meaning (loop_of source.now)) memory.items
+        (near_inputs source.now.times source.now.steps (inputs_seen inputs.now))) }
+    ensures refusal { IfErr result IsOfRun }
+{
+    let places = inputs.places.as_slice();
+    let args = inputs.args.as_slice();
+    let turns = turns_asked(source.times, args);
+    if !stay_near(source.steps.as_slice(), turns, places) {
+        return Err(Ending::Bindings);
+    }
+    let Ok(state) = KState::new(alloc, &source.kernel) else {
+        return Err(Ending::Memory);
+    };
+    let mut state = state;
+    let mut memory = memory;
+    match run_loop(source, &mut state, memory.as_mut_slice(), places, args) {
+        Outcome::Done => Ok(memory),
+        Outcome::Trap => Err(Ending::Trap),
+    }
+}
+
+/// What a kernel or a loop leaves of a memory, its parameters bound by the words.
+fn evaluate_on(
+    alloc: Global,
+    file: &KernelFile,
+    memory: Vec<u8>,
+    words: &[Bytes],
+) -> Result<Vec<u8>, Ending>
+    requires { IsFormed (file_seen file.now) }
+    ensures told { Tells AreLeft result
+        (evaluated_on (bindings_in words.now) (file_seen file.now) memory.items) }
+    ensures refusal { IfErr result IsOfRun }
+{
+    let Ok(bindings) = bindings_of(alloc, words) else {
+        return Err(Ending::Memory);
+    };
+    let Ok(params) = params_of(alloc, params_in(file)) else {
+        return Err(Ending::Memory);
+    };
+    let Ok(bound) = bind(alloc, bindings.as_slice(), params.as_slice()) else {
+        return Err(Ending::Memory);
+    };
+    let Some(inputs) = bound else {
+        return Err(Ending::Bindings);
+    };
+    match file {
+        KernelFile::Plain(kernel) => evaluate_kernel(alloc, kernel, &inputs, memory),
+        KernelFile::Counted(source) => evaluate_loop(alloc, source, &inputs, memory),
+    }
+}
+
+/// The memory that the kernel or the loop in a file leaves of the memory in another, its parameters
+/// bound by the words.
 ///
 /// The files are read and judged one after the other. The first that is refused gives the ending of
 /// `fetch` or `Kernel` (status 4); then come `Bindings` (9) and `Trap` (10). `Memory` (12) comes for
@@ -80,7 +144,7 @@ pub fn eval<S: Shelf>(
 {
     let number = FileNumber(1);
     let text = fetch(alloc, shelf, number, kernel, KERNEL_LIMIT)?;
-    let kernel = kernel_of_text(alloc, number, text.as_slice())?;
+    let kernel = kernel_file_of_text(alloc, number, text.as_slice())?;
     let memory = fetch(alloc, shelf, FileNumber(2), memory, MEMORY_LIMIT)?;
     evaluate_on(alloc, &kernel, memory, words)
 }

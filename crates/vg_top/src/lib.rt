@@ -11,6 +11,7 @@ mod kernel_file;
 mod lift;
 mod message;
 mod on_kernel;
+mod program_file;
 mod run;
 mod status;
 mod top;

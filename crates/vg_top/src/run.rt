@@ -1,72 +1,53 @@
 //! The command `run`.
 
-ghost use Rattle.std.specs.Prelude.{Some, IfSome, IfOk, IfErr, map};
+ghost use Rattle.std.specs.Prelude.{Some, IfSome, IfErr, map};
+ghost use Rattle.vg_catalog.specs.Called.{called_by, headers_of};
 ghost use Rattle.vg_catalog.specs.Entries.{entry_of};
 ghost use Rattle.vg_catalog.specs.Written.{AllWritten};
-ghost use Rattle.vg_catalog.specs.Called.{headers_of};
-ghost use Rattle.vg_program.specs.Faults.{read};
+ghost use Rattle.vg_guard.specs.Guarded.{guarded_meaning, IsGuarded};
+ghost use Rattle.vg_looped.specs.Looped.{IsLooped};
+ghost use Rattle.vg_loops.specs.Inputs.{looped_meaning};
+ghost use Rattle.vg_program.specs.Meaning.{meaning};
 ghost use Rattle.vg_program.specs.Valid.{KeepsRules};
-ghost use Rattle.vg_top.specs.Files.{Tells};
-ghost use Rattle.vg_request.specs.Request.{run as run_asked};
-ghost use Rattle.vg_top.specs.Works.{Works, IsOfProgram, IsOfRun, ending_of};
 ghost use Rattle.vg_request.specs.Binding.{bindings_in};
-ghost use Rattle.vg_top.specs.Run.{ran, ran_on, program_or_refusal, AreLeft, IsProgram};
+ghost use Rattle.vg_request.specs.Request.{run as run_asked};
+ghost use Rattle.vg_top.specs.Files.{Tells};
+ghost use Rattle.vg_top.specs.Inputs.{inputs_seen};
+ghost use Rattle.vg_top.specs.Left.{left_by, memory_or_trap, near_inputs, AreLeft};
+ghost use Rattle.vg_top.specs.ProgramFile.{program_seen, KeepsAll};
+ghost use Rattle.vg_top.specs.Run.{ran, ran_on};
+ghost use Rattle.vg_top.specs.Works.{Works, IsOfRun, ending_of};
 
 use crate::ending::{Ending, FileNumber};
 use crate::files::{INSTRUCTIONS_LIMIT, MEMORY_LIMIT, PROGRAM_LIMIT, fetch};
-use crate::inputs::bind;
+use crate::inputs::{Inputs, bind};
 use crate::instruction_file::catalog_of_text;
+use crate::program_file::{ProgramFile, program_of_text};
 use std::alloc::Global;
+use vg_guard::{Guarded, checks_hold};
+use vg_looped::Looped;
+use vg_loops::{run_looped, stay_near, turns_asked};
 use vg_machine::{Machine, Outcome};
 use vg_outside::{Bytes, Shelf};
-use vg_program::{Program, ProgramFault, parse_program};
-use vg_pseudo::Header;
+use vg_program::Program;
 use vg_range::Checked;
 use vg_request::binding::bindings_of;
 
-/// The program of the text of the request's file of this number, which may call instructions of
-/// these headers.
-fn program_of_text(
-    alloc: Global,
-    number: FileNumber,
-    text: &[u8],
-    headers: &[Header],
-) -> Result<Program, Ending>
-    ensures told { Tells IsProgram result (program_or_refusal number (read headers.now text.now)) }
-    ensures refusal { IfErr result (IsOfProgram number) }
-    ensures rules { IfOk result (λ p. KeepsRules headers.now p) }
-{
-    match parse_program(alloc, text, headers) {
-        Ok(program) => Ok(program),
-        Err(ProgramFault::Memory(_)) => Err(Ending::Memory),
-        Err(fault) => Err(Ending::Program(number, fault)),
-    }
-}
-
-/// What a program leaves of a memory, its parameters bound by the words, where it may call these
-/// entries.
-fn run_on(
+/// What a program leaves of a memory, where it may call these entries.
+fn run_program(
     alloc: Global,
     entries: &[Checked],
     program: &Program,
+    inputs: &Inputs,
     memory: Vec<u8>,
-    words: &[Bytes],
 ) -> Result<Vec<u8>, Ending>
     requires rules { KeepsRules (headers_of (map entry_of entries.now)) program.now }
     requires written { AllWritten (map entry_of entries.now) }
-    ensures told { Tells AreLeft result
-        (ran_on (map entry_of entries.now) (bindings_in words.now) program.now memory.items) }
+    ensures told { Tells AreLeft result (memory_or_trap (meaning
+        (called_by (map entry_of entries.now)) program.now memory.items
+        inputs.now.places.items inputs.now.args.items)) }
     ensures refusal { IfErr result IsOfRun }
 {
-    let Ok(bindings) = bindings_of(alloc, words) else {
-        return Err(Ending::Memory);
-    };
-    let Ok(bound) = bind(alloc, bindings.as_slice(), program.params.as_slice()) else {
-        return Err(Ending::Memory);
-    };
-    let Some(inputs) = bound else {
-        return Err(Ending::Bindings);
-    };
     let Ok(machine) = Machine::new(alloc, entries, program) else {
         return Err(Ending::Memory);
     };
@@ -82,12 +63,111 @@ fn run_on(
     }
 }
 
+/// What a guarded program leaves of a memory: what the side leaves that its checks name.
+fn run_guarded(
+    alloc: Global,
+    entries: &[Checked],
+    guarded: &Guarded,
+    inputs: &Inputs,
+    memory: Vec<u8>,
+) -> Result<Vec<u8>, Ending>
+    requires rules { IsGuarded (headers_of (map entry_of entries.now)) guarded.now }
+    requires written { AllWritten (map entry_of entries.now) }
+    ensures told { Tells AreLeft result (memory_or_trap (guarded_meaning
+        (called_by (map entry_of entries.now)) guarded.now memory.items
+        inputs.now.places.items inputs.now.args.items)) }
+    ensures refusal { IfErr result IsOfRun }
+{
+    if checks_hold(guarded, inputs.places.as_slice()) {
+        run_program(alloc, entries, &guarded.fast, inputs, memory)
+    } else {
+        run_program(alloc, entries, &guarded.slow, inputs, memory)
+    }
+}
+
+/// What a looped text leaves of a memory. `Bindings` where its turns move a pointer past 2^64 - 1.
+#[tactic(auto, using(crate::proofs::Few::looped_few))]
+fn run_turns(
+    alloc: Global,
+    entries: &[Checked],
+    looped: &Looped,
+    inputs: &Inputs,
+    memory: Vec<u8>,
+) -> Result<Vec<u8>, Ending>
+    requires rules { IsLooped (headers_of (map entry_of entries.now)) looped.now }
+    requires written { AllWritten (map entry_of entries.now) }
+    ensures told { Tells AreLeft result (left_by
+        (looped_meaning (called_by (map entry_of entries.now)) looped.now) memory.items
+        (near_inputs looped.now.times looped.now.steps (inputs_seen inputs.now))) }
+    ensures refusal { IfErr result IsOfRun }
+{
+    let places = inputs.places.as_slice();
+    let args = inputs.args.as_slice();
+    let turns = turns_asked(looped.times, args);
+    if !stay_near(looped.steps.as_slice(), turns, places) {
+        return Err(Ending::Bindings);
+    }
+    let Ok(block) = Machine::new(alloc, entries, &looped.block) else {
+        return Err(Ending::Memory);
+    };
+    let Ok(rest) = Machine::new(alloc, entries, &looped.rest) else {
+        return Err(Ending::Memory);
+    };
+    let mut block = block;
+    let mut rest = rest;
+    let mut memory = memory;
+    match run_looped(
+        looped,
+        &mut block,
+        &mut rest,
+        memory.as_mut_slice(),
+        places,
+        args,
+    ) {
+        Outcome::Done => Ok(memory),
+        Outcome::Trap => Err(Ending::Trap),
+    }
+}
+
+/// What a program leaves of a memory, its parameters bound by the words, where it may call these
+/// entries.
+#[tactic(auto, unfolding(crate::specs::Run::ran_on))]
+fn run_on(
+    alloc: Global,
+    entries: &[Checked],
+    program: &ProgramFile,
+    memory: Vec<u8>,
+    words: &[Bytes],
+) -> Result<Vec<u8>, Ending>
+    requires rules { KeepsAll (headers_of (map entry_of entries.now)) (program_seen program.now) }
+    requires written { AllWritten (map entry_of entries.now) }
+    ensures told { Tells AreLeft result (ran_on (map entry_of entries.now)
+        (bindings_in words.now) (program_seen program.now) memory.items) }
+    ensures refusal { IfErr result IsOfRun }
+{
+    let Ok(bindings) = bindings_of(alloc, words) else {
+        return Err(Ending::Memory);
+    };
+    let Ok(bound) = bind(alloc, bindings.as_slice(), program.params()) else {
+        return Err(Ending::Memory);
+    };
+    let Some(inputs) = bound else {
+        return Err(Ending::Bindings);
+    };
+    match program {
+        ProgramFile::Plain(program) => run_program(alloc, entries, program, &inputs, memory),
+        ProgramFile::Guarded(guarded) => run_guarded(alloc, entries, guarded, &inputs, memory),
+        ProgramFile::Looped(looped) => run_turns(alloc, entries, looped, &inputs, memory),
+    }
+}
+
 /// The memory that the program in a file leaves of the memory in another, its parameters bound by
-/// the words.
+/// the words. The program may be a guarded or a looped one.
 ///
 /// The files are read and judged one after the other. The first that is refused gives the ending of
 /// `fetch`, `Instructions` (status 3) or `Program` (5); then come `Bindings` (9) and `Trap` (10).
-/// `Memory` (12) comes for want of memory, also at the bounds of `Machine::new`.
+/// `Memory` (12) comes for want of memory, also at the bounds of `Machine::new`. A looped text that
+/// stores nothing may have 2^64 - 1 turns.
 pub fn run<S: Shelf>(
     alloc: Global,
     shelf: &mut S,

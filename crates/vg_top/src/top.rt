@@ -8,7 +8,8 @@ ghost use Rattle.vg_request.specs.Readable.{are_read};
 ghost use Rattle.vg_request.specs.Request.{request_of, files_in, asked_of};
 ghost use Rattle.vg_top.specs.Causes.{MayEnd};
 ghost use Rattle.vg_top.specs.Files.{Tells};
-ghost use Rattle.vg_top.specs.Verdict.{asked_outcome, verdict, VecAnswers, IsAnswered, status_told, status_from, line_from, EndedBy};
+ghost use Rattle.vg_top.specs.Outcome.{VecAnswers};
+ghost use Rattle.vg_top.specs.Verdict.{asked_outcome, verdict, IsAnswered, status_told, status_from, line_from, EndedBy};
 ghost use Rattle.vg_top.specs.Line.{Says};
 ghost use Rattle.vg_top.specs.Works.{Works, Reads, ending_of};
 
@@ -42,8 +43,15 @@ fn answer<S: Shelf>(
                 instructions,
                 kernel,
                 options,
+                guard,
             },
-        ) => on_kernel(alloc, shelf, Task::Program, instructions, kernel, options),
+        ) => {
+            if guard {
+                on_kernel(alloc, shelf, Task::Guarded, instructions, kernel, options)
+            } else {
+                on_kernel(alloc, shelf, Task::Program, instructions, kernel, options)
+            }
+        }
         Some(
             Request::Explain {
                 instructions,
@@ -81,13 +89,18 @@ fn answer<S: Shelf>(
 ///
 /// `compile INSTRUCTIONS KERNEL` reads the two files from `shelf` and writes the text of a program
 /// to `out`: a program that means the kernel and costs no more than it. With `--with EXTENSION`,
-/// once or more, it calls entries of those extensions alone; `--width N` is the width of the search.
+/// once or more, it calls entries of those extensions alone; `--width N` is the width of the search;
+/// with `--guard` the program has two sides and checks that choose between them, so that pointers
+/// need not be declared noalias.
+/// The kernel may be a counted loop, whose text is that of a program for a block of turns and of one for
+/// the turns left over; guards are for kernels alone.
 /// `explain INSTRUCTIONS KERNEL`, with the same options, writes the lines on the packs of the chosen plan
 /// and on what it, the plain plan and the kernel cost.
 /// `run INSTRUCTIONS PROGRAM MEMORY name=number ..` writes the memory that the program leaves of the
 /// one in the file, with its parameters bound by the words, and `eval KERNEL MEMORY name=number ..`
-/// the memory that the kernel leaves. `lift INSTRUCTIONS` writes lines on each instance of the
-/// entries in the file: the canonical term of each lane, and why packs cannot call it.
+/// the memory that the kernel leaves; programs may be guarded or looped ones, kernels may be loops.
+/// `lift INSTRUCTIONS` writes lines on each instance of the entries in the file: the canonical term of
+/// each lane, and why packs cannot call it.
 /// `trial INSTRUCTIONS N` writes a line on the trial of N, a number below 2^32: how many statements
 /// its kernel has, what the kernel costs and what the program costs that is compiled for it with all
 /// entries in the file, and the sum of the bytes that both leave of its memory.

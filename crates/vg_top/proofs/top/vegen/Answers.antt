@@ -13,7 +13,8 @@ use Rattle.vg_top.specs.Ending.{status_of}
 use Rattle.vg_top.specs.Line.{Says, line_of}
 use Rattle.vg_request.specs.Request.{Asked, asked_of, files_in, request_of}
 use Rattle.vg_top.specs.Works.{Reads}
-use Rattle.vg_top.specs.Verdict.{asked_outcome, status_told, EndedBy, IsAnswered, Outcome, VecAnswers}
+use Rattle.vg_top.specs.Outcome.{Outcome, VecAnswers}
+use Rattle.vg_top.specs.Verdict.{asked_outcome, status_told, EndedBy, IsAnswered}
 use Rattle.vg_top.specs.Files.{Tells}
 use Rattle.std.proofs.lemmas.List.{append-nil}
 use Rattle.vg_top.proofs.Works.{begins}

@@ -1,0 +1,131 @@
+//! The program in a file of a request.
+
+ghost use Rattle.std.specs.Prelude.{◌≡◌, length, take, IfOk, IfErr};
+ghost use Rattle.std.specs.Str.{bytes_eq};
+ghost use Rattle.vg_top.specs.Files.{Tells};
+ghost use Rattle.vg_top.specs.ProgramFile.{plain_file, guarded_file, looped_file, program_file, program_or_refusal, program_seen, params_of, KeepsAll, IsProgram};
+ghost use Rattle.vg_top.specs.Works.{IsOfProgram};
+
+use crate::ending::{Ending, FileNumber};
+use std::alloc::Global;
+use vg_guard::{Guarded, parse_guarded};
+use vg_looped::{Looped, parse_looped};
+use vg_program::param::Param;
+use vg_program::{Program, ProgramFault, parse_program};
+use vg_pseudo::Header;
+
+/// What a program file holds.
+#[derive(Drop)]
+pub enum ProgramFile {
+    /// A program.
+    Plain(Program),
+    /// Two sides, and the checks that choose between them.
+    Guarded(Guarded),
+    /// The program of a block of turns, and that of one.
+    Looped(Looped),
+}
+
+impl ProgramFile {
+    /// The parameters, which are those of both programs where there are two.
+    pub fn params(&self) -> &[Param]
+        ensures { result.now ≡ params_of (program_seen self.now) }
+    {
+        match self {
+            ProgramFile::Plain(program) => program.params.as_slice(),
+            ProgramFile::Guarded(guarded) => guarded.fast.params.as_slice(),
+            ProgramFile::Looped(looped) => looped.block.params.as_slice(),
+        }
+    }
+}
+
+/// Whether a text begins with these bytes.
+fn begins(text: &[u8], bytes: &[u8]) -> bool
+    ensures { result ≡ bytes_eq (take (length bytes.now) text.now) bytes.now }
+{
+    match text.get(..bytes.len()) {
+        Some(front) => front == bytes,
+        None => false,
+    }
+}
+
+/// The program of a text.
+fn plain_of_text(
+    alloc: Global,
+    number: FileNumber,
+    text: &[u8],
+    headers: &[Header],
+) -> Result<ProgramFile, Ending>
+    ensures told { Tells IsProgram result
+        (program_or_refusal number (plain_file headers.now text.now)) }
+    ensures refusal { IfErr result (IsOfProgram number) }
+    ensures rules { IfOk result (λ p. KeepsAll headers.now (program_seen p)) }
+{
+    match parse_program(alloc, text, headers) {
+        Ok(program) => Ok(ProgramFile::Plain(program)),
+        Err(ProgramFault::Memory(_)) => Err(Ending::Memory),
+        Err(fault) => Err(Ending::Program(number, fault)),
+    }
+}
+
+/// The guarded program of a text.
+fn guarded_of_text(
+    alloc: Global,
+    number: FileNumber,
+    text: &[u8],
+    headers: &[Header],
+) -> Result<ProgramFile, Ending>
+    ensures told { Tells IsProgram result
+        (program_or_refusal number (guarded_file headers.now text.now)) }
+    ensures refusal { IfErr result (IsOfProgram number) }
+    ensures rules { IfOk result (λ p. KeepsAll headers.now (program_seen p)) }
+{
+    match parse_guarded(alloc, text, headers) {
+        Ok(program) => Ok(ProgramFile::Guarded(program)),
+        Err(ProgramFault::Memory(_)) => Err(Ending::Memory),
+        Err(fault) => Err(Ending::Program(number, fault)),
+    }
+}
+
+/// The looped text of a text.
+fn looped_of_text(
+    alloc: Global,
+    number: FileNumber,
+    text: &[u8],
+    headers: &[Header],
+) -> Result<ProgramFile, Ending>
+    ensures told { Tells IsProgram result
+        (program_or_refusal number (looped_file headers.now text.now)) }
+    ensures refusal { IfErr result (IsOfProgram number) }
+    ensures rules { IfOk result (λ p. KeepsAll headers.now (program_seen p)) }
+{
+    match parse_looped(alloc, text, headers) {
+        Ok(program) => Ok(ProgramFile::Looped(program)),
+        Err(ProgramFault::Memory(_)) => Err(Ending::Memory),
+        Err(fault) => Err(Ending::Program(number, fault)),
+    }
+}
+
+/// What the text of the request's file of this number holds, which may call instructions of these
+/// headers: a guarded program where it begins with `guarded `, a looped one where it begins with
+/// `looped `, else a program. `Program` (status 5) with the first fault of the text, or `Memory` (12)
+/// for want of memory alone.
+#[tactic(auto, unfolding(crate::specs::ProgramFile::program_file))]
+pub fn program_of_text(
+    alloc: Global,
+    number: FileNumber,
+    text: &[u8],
+    headers: &[Header],
+) -> Result<ProgramFile, Ending>
+    ensures told { Tells IsProgram result
+        (program_or_refusal number (program_file headers.now text.now)) }
+    ensures refusal { IfErr result (IsOfProgram number) }
+    ensures rules { IfOk result (λ p. KeepsAll headers.now (program_seen p)) }
+{
+    if begins(text, b"guarded ") {
+        return guarded_of_text(alloc, number, text, headers);
+    }
+    if begins(text, b"looped ") {
+        return looped_of_text(alloc, number, text, headers);
+    }
+    plain_of_text(alloc, number, text, headers)
+}
