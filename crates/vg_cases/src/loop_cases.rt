@@ -18,12 +18,7 @@ const SIDES: &str =
     "looped sides(p: ptr, n: i8) times n step p 1 block 3|store p+0 1i8|end cost 1 scalar 1|rest|store p+0 2i8|end cost 1 scalar 1|end looped|";
 
 /// A desk with this loop, its looped text and this memory.
-fn desk_with(
-    alloc: Global,
-    source: &[u8],
-    looped: &[u8],
-    memory: &[u8],
-) -> Result<Desk, Fail> {
+fn desk_with(alloc: Global, source: &[u8], looped: &[u8], memory: &[u8]) -> Result<Desk, Fail> {
     let mut desk = Desk::new(alloc, 1000)?;
     desk.shelf.put("i", b"")?;
     desk.shelf.put("k", source)?;
@@ -42,13 +37,7 @@ fn expect_ending(rt: &impl Abort, alloc: Global, memory: &[u8], row: &str) -> Re
     };
     let err = format!(in alloc; "vegen: {line}\n")?;
     let mut desk = desk_with(alloc, COPY, LOOPED, memory)?;
-    desk.expect(
-        rt,
-        words,
-        status_of(status),
-        b"",
-        err.as_str().as_bytes(),
-    )
+    desk.expect(rt, words, status_of(status), b"", err.as_str().as_bytes())
 }
 
 /// A row is a kernel file, an arrow, and the refusal of `compile`.

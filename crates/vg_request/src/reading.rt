@@ -169,7 +169,11 @@ fn kernel_found<'a>(guard: bool, matches: &ArgMatches<'a>) -> Option<OnKernel<'a
 {
     let width = width_of(values_of(matches, "width"))?;
     let allowed = allowed_of(values_of(matches, "with"))?;
-    two_files(guard, Options { width, allowed }, values_of(matches, "files"))
+    two_files(
+        guard,
+        Options { width, allowed },
+        values_of(matches, "files"),
+    )
 }
 
 /// `INSTRUCTIONS KERNEL`, with options anywhere among them, `--guard` where it is free to stand.

@@ -1,5 +1,4 @@
 use Rattle.vg_catalog.specs.Catalogs.{entries_in}
-
 use Rattle.vg_request.specs.Options.{choices_seen}
 use Rattle.vg_top.specs.Files.{second_file}
 use Rattle.vg_top.specs.KernelFile.{file_seen, kernel_file, kernel_or_refusal}
