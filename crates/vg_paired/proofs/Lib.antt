@@ -1,0 +1,9 @@
+pub mod Alike
+pub mod Noting
+pub mod Befores
+pub mod Counts
+pub mod Leasts
+pub mod Balancing
+pub mod Holding
+pub mod Unevens
+pub mod Heads

@@ -1,0 +1,7 @@
+-- What is found, as a difference.
+use Rattle.vg_known.specs.Difference.{Difference, access}
+use Rattle.vg_paired.specs.declared.uneven.Uneven.{Uneven}
+use Rattle.vg_paired.specs.ByteLabels.{label_of}
+
+abbrev pub access_of : Uneven → Difference
+access_of u = access (label_of u.label) u.in_kernel u.in_program
