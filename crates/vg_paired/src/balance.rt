@@ -40,7 +40,9 @@ fn number_of(numbers: &LabelNumbers, label: ByteLabel) -> usize
 
 /// The lesser of two labels where some are left of the second, else the first.
 fn with_left(least: Option<ByteLabel>, left: usize, label: ByteLabel) -> Option<ByteLabel>
-    ensures { option_map label_of result ≡ (if nat_lt 0 left then Some (lesser (label_of label) (option_map label_of least)) else option_map label_of least) }
+    ensures { option_map label_of result
+        ≡ (if nat_lt 0 left then Some (lesser (label_of label) (option_map label_of least))
+        else option_map label_of least) }
 {
     if left > 0 {
         Some(lesser(least, label))
@@ -115,7 +117,8 @@ impl Balance {
 
     /// The least label of which there are more on one side, where these are the labels of the kernel.
     pub(crate) fn least(&self, labels: &[ByteLabel]) -> Option<ByteLabel>
-        ensures { WithLeft self.now.left (map label_of labels.now) (option_map label_of self.now.least) (option_map label_of result) }
+        ensures { WithLeft self.now.left (map label_of labels.now) (option_map label_of self.now.least)
+            (option_map label_of result) }
     {
         let mut least = self.least;
         'labels: for label in labels {

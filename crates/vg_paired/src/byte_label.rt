@@ -20,7 +20,11 @@ pub struct ByteLabel {
 impl ByteLabel {
     /// Of a byte of what is accessed: that of this number, from 0.
     pub(crate) fn of(access: Access, byte: u32) -> ByteLabel
-        ensures { result ≡ record { writes = access.writes; pointer = access.address.pointer; offset = access.address.offset +ℤ pos byte } }
+        ensures { result ≡ record {
+          writes = access.writes;
+          pointer = access.address.pointer;
+          offset = access.address.offset +ℤ pos byte;
+        } }
     {
         ByteLabel {
             writes: access.writes,

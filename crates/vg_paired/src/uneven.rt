@@ -33,7 +33,8 @@ pub fn uneven_label(
     program: &Program,
 ) -> Result<Option<Uneven>, AllocError>
     ensures { IfOk result
-        (λ found. option_map access_of found ≡ uneven_label (kernel_labels ssa.now) (line_labels program.now.lines)) }
+        (λ found. option_map access_of found
+        ≡ uneven_label (kernel_labels ssa.now) (line_labels program.now.lines)) }
 {
     let kernel = unit_accesses(alloc, ssa.units.as_slice())?;
     let lines = line_accesses(alloc, program.lines.as_slice())?;
@@ -63,7 +64,10 @@ fn counted(
     lines: &[Option<Access>],
     found: Option<ByteLabel>,
 ) -> Option<Uneven>
-    ensures { option_map access_of result ≡ option_map (λ l. access l (count_label l (labels kernel.now)) (count_label l (labels lines.now))) (option_map label_of found) }
+    ensures { option_map access_of result
+        ≡ option_map
+        (λ l. access l (count_label l (labels kernel.now)) (count_label l (labels lines.now)))
+        (option_map label_of found) }
 {
     let label = found?;
     let in_kernel = count_label(kernel, label);
