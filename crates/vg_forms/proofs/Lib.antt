@@ -1,0 +1,4 @@
+pub mod Ranges
+pub mod Gathering
+pub mod Cutting
+pub mod LeafReads
