@@ -1,0 +1,4 @@
+pub mod Beginning
+pub mod Loads
+pub mod Noting
+pub mod Views
