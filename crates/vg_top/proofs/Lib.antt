@@ -5,3 +5,4 @@ pub mod Few
 pub mod Fronts
 pub mod Ready
 pub mod Works
+mod Steps

@@ -1,6 +1,15 @@
-use Rattle.std.proofs.Common.{arith, refl}
+use Rattle.std.proofs.Common.{arith, refl, subst, Ok, ◌∙◌}
 use Rattle.std.proofs.lemmas.Result.{err_from_is_err_and}
-use Rattle.vg_top.specs.Files.{first_file, second_file, third_file}
+use Rattle.vg_catalog.specs.Called.{headers_of}
+use Rattle.vg_catalog.specs.Catalogs.{entries_in}
+use Rattle.vg_catalog.specs.Files.{file_of as entries_of}
+use Rattle.vg_request.specs.Binding.{bindings_in}
+use Rattle.vg_top.specs.Files.{first_file, second_file, third_file, Tells}
+use Rattle.vg_top.specs.InstructionFile.{AreEntries, entries_or_refusal}
+use Rattle.vg_top.specs.Left.{AreLeft}
+use Rattle.vg_top.specs.ProgramFile.{IsProgram, program_file, program_or_refusal, program_seen}
+use Rattle.vg_top.specs.Run.{ran_on}
+use Rattle.vg_top.proofs.Steps.{ran-told, some-told}
 use Rattle.vg_top.proofs.Works.{begins, reads_on, stops_at, stops_instructions, stops_program, run_last}
 use Rattle.vg_top.proofs.run.run.Goals as goal
 
@@ -47,3 +56,18 @@ returns-in_err-catalog-clause-shelf g c =
     let same = err_from_is_err_and c.from_residual-in_err-catalog.result c.from_residual-in_err-catalog.ensures.1 in
     let one = reads_on s 0 first_file _ _ _ (omega arith) (begins s c.args.shelf.now) c.in_ok-file.ensures.shelf in
     rw (same.1, same.2) (stops_instructions s _ first_file _ _ _ (omega arith) (omega arith) refl one c.in_err-catalog.ensures.refusal)
+
+pub returns-clause-told : goal.returns-clause-told
+returns-clause-told g c =
+    let s = g.S.Shelf in
+    let first = c.in_ok-file.ensures.shelf.keeps in
+    let file = c.in_ok-file.file in
+    let text = c.in_ok-text.text in
+    let catalog = c.in_ok-catalog.catalog in
+    let program = c.in_ok-program.program in
+    let entries = subst (λ v. Tells AreEntries (Ok catalog) (entries_or_refusal first_file (entries_of v))) c.as_slice.ensures.value c.in_ok-catalog.ensures.told in
+    let judged = subst (λ v. Tells IsProgram (Ok program) (program_or_refusal second_file (program_file (headers_of (entries_in catalog)) v))) c.as_slice-2.ensures.value
+    (subst (λ v. Tells IsProgram (Ok program) (program_or_refusal second_file (program_file v c.as_slice-2.result.now))) c.headers.ensures.headers c.in_ok-program.ensures.told) in
+    let left = subst (λ v. Tells AreLeft c.run_on.result (ran_on v (bindings_in c.args.words.now) (program_seen program) c.in_ok-memory.memory.items)) c.entries.ensures.entries c.run_on.ensures.told in
+    some-told (s.holds c.args.shelf.now) _ _ _ _ _ _ first (c.in_ok-text.ensures.shelf.keeps ∙ first) c.in_ok-file.ensures.told c.in_ok-text.ensures.told c.in_ok-memory.ensures.told
+    (λ held a b d. ran-told held c.args.instructions.now c.args.program.now c.args.memory.now (bindings_in c.args.words.now) file text c.in_ok-memory.memory catalog program c.run_on.result a entries b judged d left)
