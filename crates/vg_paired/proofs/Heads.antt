@@ -98,7 +98,7 @@ behind-from k [] h = absurd (omega arith)
 behind-from zero (x ∷ xs) h = ap suc (sym (from-zero x xs))
 behind-from (suc k) (x ∷ xs) h = ap suc (behind-from k xs (omega arith))
 
-label-mapped : (xs : List ByteLabel) (k : ℕ) (d : ByteLabel) → k < length xs → label_at (map label_of xs) k ≡ label_of (get_or xs k d)
+pub label-mapped : (xs : List ByteLabel) (k : ℕ) (d : ByteLabel) → k < length xs → label_at (map label_of xs) k ≡ label_of (get_or xs k d)
 label-mapped [] k d h = absurd (omega arith)
 label-mapped (x ∷ xs) zero d h = refl
 label-mapped (x ∷ xs) (suc k) d h = label-mapped xs k d (omega arith)

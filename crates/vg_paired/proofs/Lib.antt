@@ -7,3 +7,10 @@ pub mod Balancing
 pub mod Holding
 pub mod Unevens
 pub mod Heads
+pub mod Lowering
+pub mod Lining
+pub mod Sweeping
+pub mod Turning
+pub mod Meeting
+pub mod Spanning
+pub mod Begins

@@ -4,3 +4,5 @@ pub mod Found
 pub mod Heads
 pub mod Holding
 pub mod Noted
+pub mod Rows
+pub mod Sweeps

@@ -83,7 +83,7 @@ pub(crate) fn byte_labels(
     Ok(all)
 }
 
-fn push_any(all: &mut Vec<ByteLabel>, access: Option<Access>) -> Result<(), AllocError>
+pub(crate) fn push_any(all: &mut Vec<ByteLabel>, access: Option<Access>) -> Result<(), AllocError>
     ensures { OnOk result (map label_of all.new.items ≡ map label_of all.old.items ++ labels_in access) }
 {
     match access {
