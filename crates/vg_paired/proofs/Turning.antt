@@ -17,9 +17,6 @@ use Rattle.vg_paired.proofs.Sweeping.{any-same, between-none}
 
 -- ---- the first of pairs
 
-or-first : {A : Type 0} (x : A) (o : Option A) → option_or (Some x) o ≡ Some x
-or-first x o = refl
-
 find-append : {A : Type 0} (p : A → Bool) (xs ys : List A) → find p (xs ++ ys) ≡ option_or (find p xs) (find p ys)
 find-append p [] ys = refl
 find-append p (x ∷ xs) ys = by (p x) refl (find-append p xs ys)
@@ -171,7 +168,8 @@ module _ (p h : ℕ → ℕ → Bool) (turned : ℕ → Bool) (a n : ℕ) (same 
       let seconds = λ (i : ℕ). option_map (λ j. order (a + i) (a + j)) (find (h i) (between (i + 1) n)) in
       elim (cases_Bool (turned k)) [
         | inl t ↦
-            ap (option_map (λ (q : ℕ × ℕ). order q.0 q.1)) (cond-true _ _ _ (anys ∙ t) ∙ ap (option_map (λ (u : ℕ). (v, u))) finds)
+            ap (option_map (λ (q : ℕ × ℕ). order q.0 q.1)) (cond-true _ _ _ (anys ∙ t))
+            ∙ ap (λ (o : Option ℕ). option_map (λ (q : ℕ × ℕ). order q.0 q.1) (option_map (λ (u : ℕ). (v, u)) o)) finds
             ∙ ordered a v (find (h k) (between (k + 1) n))
             ∙ sym (ap (λ o. o >>= seconds) (cond-true _ _ _ t))
         | inr f ↦
