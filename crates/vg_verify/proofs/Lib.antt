@@ -1,3 +1,6 @@
 pub mod Beginning
+pub mod Events
+pub mod Finding
+pub mod Lines
 pub mod Loads
 pub mod Pieces

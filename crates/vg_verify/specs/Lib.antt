@@ -1,4 +1,5 @@
 pub mod Beginning
+pub mod Finding
 pub mod Loads
 pub mod Noting
 pub mod Views

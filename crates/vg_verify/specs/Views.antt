@@ -1,6 +1,39 @@
 -- What the code holds, as the definitions see it.
+use Rattle.std.specs.Prelude.{ℕ, ◌+◌, List, [], ◌∷◌, map}
+use Rattle.vg_terms.specs.Term.{Tree}
+use Rattle.vg_lift.specs.Gather.{Bit}
 use Rattle.vg_known.specs.Kernels.{Terms}
+use Rattle.vg_known.specs.Known.{Given, Known}
+use Rattle.vg_forms.specs.declared.run.Run.{Run}
+use Rattle.vg_forms.specs.Runs.{bits_in, runs_range}
 use Rattle.vg_verify.specs.declared.kernel_values.KernelTerms.{KernelTerms}
+use Rattle.vg_verify.specs.declared.known.Knowing.{Knowing}
+use Rattle.vg_verify.specs.declared.known.Given as declared
 
 abbrev pub terms_of : KernelTerms → Terms
 terms_of k = record { terms = k.terms.items; met = k.maker.classes }
+
+-- the bits of events, from their runs
+abbrev pub pair_of : ℕ × List Run → ℕ × List Bit
+pair_of p = (p.0, bits_in p.1)
+
+abbrev pub pairs_in : List (ℕ × List Run) → List (ℕ × List Bit)
+pairs_in ps = map pair_of ps
+
+-- what the walk is given; it calls nothing
+abbrev pub given_of : declared.Given → Given
+given_of g = record { entries = []; arguments = g.arguments.now; reads = pairs_in g.reads.now.table.entries }
+
+-- what is known
+abbrev pub known_of : Knowing → Known
+known_of k = record {
+  scalars = k.scalars.items;
+  vectors = map bits_in k.vectors.items;
+  met = k.maker.classes;
+  puts = pairs_in k.puts.items;
+}
+
+-- eight bits of runs from a bit on for each event
+abbrev pub runs_for : List ℕ → List Run → ℕ → List (ℕ × List Run)
+runs_for [] rs low = []
+runs_for (e ∷ es) rs low = (e, runs_range rs low 8) ∷ runs_for es rs (low + 8)
