@@ -103,7 +103,7 @@ termed_more flags first units place s new all u t h e is =
           ∙ t.is;
     }
 
-drop-end : {A : Type 0} (xs : List A) (n : ℕ) → length xs ≤ n → drop n xs ≡ []
+pub drop-end : {A : Type 0} (xs : List A) (n : ℕ) → length xs ≤ n → drop n xs ≡ []
 drop-end [] zero h = refl
 drop-end [] (suc n) h = refl
 drop-end (x ∷ xs) zero h = absurd (omega (arith, h))

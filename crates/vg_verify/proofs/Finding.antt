@@ -28,6 +28,18 @@ at_some table e seen rs h same = ap bits_in same ∙ ap (λ o. unwrap_or (option
 pub at_none : (table : List (ℕ × List Run)) (e : ℕ) → None ≡ found table e → [] ≡ bits_at (pairs_in table) e
 at_none table e h = ap (λ o. unwrap_or (option_map bits_in o) []) h ∙ bits_found table e
 
+-- the same of bits
+pairs_found : (pairs : List (ℕ × List Bit)) (e : ℕ) → unwrap_or (found pairs e) [] ≡ bits_at pairs e
+pairs_found [] e = refl
+pairs_found (p ∷ ps) e = elim (cases_Bool (nat_eq e p.0)) [
+  | inl t ↦ rw t refl
+  | inr t ↦ rw t (pairs_found ps e)
+]
+
+-- a table of what stands first has the same bits
+pub same_bits : (table : List (ℕ × List Run)) (pairs : List (ℕ × List Bit)) → HasFirst table pairs → (e : ℕ) → bits_at (pairs_in table) e ≡ bits_at pairs e
+same_bits table pairs h e = sym (bits_found table e) ∙ ap (λ o. unwrap_or o []) (h e) ∙ pairs_found pairs e
+
 -- an event behind the others
 found_last : {V : Type 0} (ps : List (ℕ × V)) (x : ℕ) (v : V) (e : ℕ) → found (ps ++ (x, v) ∷ []) e ≡ option_or (found ps e) (if nat_eq e x then Some v else None)
 found_last [] x v e = elim (cases_Bool (nat_eq e x)) [

@@ -4,3 +4,4 @@ pub mod Finding
 pub mod Lines
 pub mod Loads
 pub mod Pieces
+pub mod Walking

@@ -21,8 +21,15 @@ abbrev pub pairs_in : List (ℕ × List Run) → List (ℕ × List Bit)
 pairs_in ps = map pair_of ps
 
 -- what the walk is given; it calls nothing
+abbrev pub given_with : List Tree → List (ℕ × List Bit) → Given
+given_with arguments reads = record { entries = []; arguments = arguments; reads = reads }
+
 abbrev pub given_of : declared.Given → Given
-given_of g = record { entries = []; arguments = g.arguments.now; reads = pairs_in g.reads.now.table.entries }
+given_of g = given_with g.arguments.now (pairs_in g.reads.now.table.entries)
+
+-- nothing is known but the terms that were met
+abbrev pub begun_with : List Tree → Known
+begun_with met = record { scalars = []; vectors = []; met = met; puts = [] }
 
 -- what is known
 abbrev pub known_of : Knowing → Known

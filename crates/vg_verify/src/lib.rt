@@ -11,9 +11,11 @@ mod event_bits;
 mod head;
 mod kernel_values;
 mod known;
+mod walk;
 
 pub use constant::constant_runs;
 pub use event_bits::{EventBits, give_events};
 pub use head::same_head;
 pub use kernel_values::{KernelTerms, kernel_terms, operand_term};
 pub use known::{Given, Knowing};
+pub use walk::known_behind;
