@@ -4,4 +4,5 @@ pub mod Finding
 pub mod Lines
 pub mod Loads
 pub mod Pieces
+pub mod UnitReads
 pub mod Walking

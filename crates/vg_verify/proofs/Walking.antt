@@ -75,7 +75,7 @@ known_same args table pairs ls ess start k all h begun walked =
 pub walked_none : (g : Given) (ls : List Line) (ess : List (List ℕ)) (k : Known) → Walked g ls ess 0 k (know_all g ls ess k)
 walked_none g ls ess k = record { is = refl }
 
-split : {A : Type 0} (xs : List A) (place : ℕ) (x : A) → place < length xs → x ≡ get_or xs place x → drop place xs ≡ x ∷ drop (place + 1) xs
+pub split : {A : Type 0} (xs : List A) (place : ℕ) (x : A) → place < length xs → x ≡ get_or xs place x → drop place xs ≡ x ∷ drop (place + 1) xs
 split xs place x h e =
     let f : suc place ≡ place + 1 = omega arith in
     drop-cons xs place x h ∙ ap (λ y. y ∷ drop (suc place) xs) (sym e) ∙ ap (λ k. x ∷ drop k xs) f

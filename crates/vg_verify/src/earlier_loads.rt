@@ -96,7 +96,7 @@ fn read_of(address: Address, width: Width) -> Access
 }
 
 // The unit at a place.
-fn unit_at(units: &[Unit], place: usize) -> &Unit
+pub(crate) fn unit_at(units: &[Unit], place: usize) -> &Unit
     requires { place < length units.now }
     ensures { result.now ≡ get_or units.now place result.now }
 {

@@ -56,7 +56,7 @@ fn term_at(alloc: Global, terms: &[Form], number: u32) -> Result<Form, AllocErro
 }
 
 // All bits of a term of a width.
-fn whole_run(alloc: Global, form: Form, width: u32) -> Result<Vec<Run>, AllocError>
+pub(crate) fn whole_run(alloc: Global, form: Form, width: u32) -> Result<Vec<Run>, AllocError>
     ensures { IfOk result (λ v. bits_in v.items ≡ bits_from form 0 width) }
 {
     let mut runs = Vec::new(alloc);

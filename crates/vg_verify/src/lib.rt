@@ -11,6 +11,7 @@ mod event_bits;
 mod head;
 mod kernel_values;
 mod known;
+mod unit_reads;
 mod walk;
 
 pub use constant::constant_runs;
@@ -18,4 +19,5 @@ pub use event_bits::{EventBits, give_events};
 pub use head::same_head;
 pub use kernel_values::{KernelTerms, kernel_terms, operand_term};
 pub use known::{Given, Knowing};
+pub use unit_reads::kernel_reads;
 pub use walk::known_behind;
