@@ -1,23 +1,27 @@
 -- The walk over lines, and that it needs of the bits that are read no more than where they are found.
-use Rattle.std.proofs.Common.{◌≡◌, ℕ, suc, ◌+◌, ◌-◌, ◌*◌, ◌<◌, ◌≤◌, List, [], ◌∷◌, ◌++◌, length, drop, get_or, replicate, refl, sym, ap, ◌∙◌, arith, drop-cons}
+use Rattle.std.proofs.Common.{◌≡◌, ℕ, suc, ◌+◌, ◌-◌, ◌*◌, ◌<◌, ◌≤◌, List, [], ◌∷◌, ◌++◌, length, drop, take, get_or, replicate, refl, sym, ap, ◌∙◌, arith, drop-cons}
 use Rattle.vg_base.specs.Width.{bits_of}
 use Rattle.vg_terms.specs.Term.{Tree}
 use Rattle.vg_lift.specs.Gather.{Bit, clear, bits_from}
 use Rattle.vg_bits.specs.Range.{replaced}
 use Rattle.vg_program.specs.declared.line.Line.{Line}
 use Rattle.vg_program.specs.declared.line.Line.TheVariants.{Load, Store, Two, Shift, Resize, Compare, Select, VectorLoad, VectorStore, Constant, Insert, Extract, Call}
+use Rattle.vg_program.specs.declared.program.Program.{Program}
+use Rattle.vg_shapes.specs.declared.ssa.Ssa.{Ssa}
+use Rattle.vg_shapes.specs.Units.{arguments}
 use Rattle.vg_program.specs.declared.operand.Operand.{Operand}
 use Rattle.vg_program.specs.declared.operand.Operand.TheVariants.{Register, Argument, Literal}
 use Rattle.vg_program.specs.Vectors.{bytes_of, register_of}
 use Rattle.vg_shapes.specs.declared.unit.Operator.TheVariants as operator
 use Rattle.vg_ssa.specs.ValueTerm.{no_term}
 use Rattle.vg_known.specs.Cuts.{computed, gathered}
-use Rattle.vg_known.specs.Kernels.{bits_at}
+use Rattle.vg_known.specs.Difference.{Sides, sides_of}
+use Rattle.vg_known.specs.Kernels.{bits_at, kernel_reads, kernel_terms, Terms}
 use Rattle.vg_known.specs.Known.{event_bits, Given, know, know_all, Known, known_bits, operand_term, with_puts, with_scalar, with_vector}
 use Rattle.vg_forms.specs.declared.run.Run.{Run}
 use Rattle.vg_verify.specs.Finding.{HasFirst}
 use Rattle.vg_verify.specs.Noting.{Walked}
-use Rattle.vg_verify.specs.Views.{given_with, pairs_in}
+use Rattle.vg_verify.specs.Views.{begun_with, given_with, pairs_in}
 use Rattle.vg_verify.proofs.Beginning.{drop-end}
 use Rattle.vg_verify.proofs.Finding.{same_bits}
 
@@ -92,3 +96,18 @@ walked_more g ls ess place k new all l es w h enough is own made = record {
 
 pub walked_all : (g : Given) (ls : List Line) (ess : List (List ℕ)) (place : ℕ) (k all : Known) → Walked g ls ess place k all → length ls ≤ place → k ≡ all
 walked_all g ls ess place k all w h = ap (λ (rest : List Line). know_all g rest (drop place ess) k) (sym (drop-end ls place h)) ∙ w.is
+
+-- ---- both sides
+
+pub sides_same : (ssa : Ssa) (p : Program) (lines : List (List ℕ)) (ts met own : List Tree) (reads : List (ℕ × List Bit)) (k : Known) → record { terms = ts; met = met } ≡ kernel_terms ssa
+    → own ≡ take (arguments ssa) ts → reads ≡ kernel_reads ssa ts → k ≡ know_all (given_with own reads) p.lines lines (begun_with met)
+    → record { terms = ts; known = k } ≡ sides_of [] ssa p lines
+sides_same ssa p lines ts met own reads k e is given walked =
+    let side : Terms → Sides = λ s. record {
+      terms = s.terms;
+      known = know_all (given_with (take (arguments ssa) s.terms) (kernel_reads ssa s.terms)) p.lines lines (begun_with s.met);
+    } in
+    ap (λ (known : Known). let s : Sides = record { terms = ts; known = known } in s)
+    (walked ∙ ap (λ (a : List Tree). know_all (given_with a reads) p.lines lines (begun_with met)) is
+    ∙ ap (λ (r : List (ℕ × List Bit)). know_all (given_with (take (arguments ssa) ts) r) p.lines lines (begun_with met)) given)
+    ∙ ap side e

@@ -9,6 +9,8 @@ use Rattle.vg_forms.specs.Runs.{bits_in, runs_range}
 use Rattle.vg_verify.specs.declared.kernel_values.KernelTerms.{KernelTerms}
 use Rattle.vg_verify.specs.declared.known.Knowing.{Knowing}
 use Rattle.vg_verify.specs.declared.known.Given as declared
+use Rattle.vg_known.specs.Difference.{Sides}
+use Rattle.vg_verify.specs.declared.both_sides.Sides as declared_sides
 
 abbrev pub terms_of : KernelTerms → Terms
 terms_of k = record { terms = k.terms.items; met = k.maker.classes }
@@ -44,3 +46,7 @@ known_of k = record {
 abbrev pub runs_for : List ℕ → List Run → ℕ → List (ℕ × List Run)
 runs_for [] rs low = []
 runs_for (e ∷ es) rs low = (e, runs_range rs low 8) ∷ runs_for es rs (low + 8)
+
+-- what is known of both sides
+abbrev pub sides_in : declared_sides.Sides → Sides
+sides_in s = record { terms = s.terms.items; known = known_of s.known }

@@ -36,7 +36,7 @@ fn piece(alloc: Global, bytes: &[u8], number: usize) -> Result<Run, AllocError>
 
 /// The bits of a constant. Fails for want of memory, and for one of more than 65,536 bytes.
 #[tactic(auto, using(crate::proofs::Pieces::pieces_none, crate::proofs::Pieces::pieces_more, crate::proofs::Pieces::pieces_all))]
-pub fn constant_runs(alloc: Global, bytes: &[u8]) -> Result<Vec<Run>, AllocError>
+pub(crate) fn constant_runs(alloc: Global, bytes: &[u8]) -> Result<Vec<Run>, AllocError>
     ensures { IfOk result (λ v. bits_in v.items
         ≡ pieces (8 * length bytes.now) (num (bits_of_bytes bytes.now)) 0 (8 * length bytes.now)) }
 {

@@ -39,7 +39,7 @@ fn push_events(
 
 /// Appends eight bits of runs for each event. Fails for want of memory alone.
 #[tactic(auto, using(crate::proofs::Events::events_given))]
-pub fn give_events(
+pub(crate) fn give_events(
     alloc: Global,
     to: &mut Vec<(usize, Items<Run>)>,
     events: &[usize],
@@ -53,14 +53,14 @@ pub fn give_events(
 
 /// The bits of events; an event has those that it was given first.
 #[derive(Drop)]
-pub struct EventBits {
+pub(crate) struct EventBits {
     pub table: IndexMap<usize, Items<Run>>,
 }
 
 impl EventBits {
     /// The bits of events of these pairs. Fails for want of memory alone.
     #[tactic(auto, using(crate::proofs::Finding::noting_none, crate::proofs::Finding::noting_all))]
-    pub fn new(alloc: Global, pairs: &[(usize, Items<Run>)]) -> Result<EventBits, AllocError>
+    pub(crate) fn new(alloc: Global, pairs: &[(usize, Items<Run>)]) -> Result<EventBits, AllocError>
         ensures { IfOk result (λ b. HasFirst b.table.entries (pairs_in pairs.now)) }
     {
         let mut table = IndexMap::new(alloc);
@@ -74,7 +74,7 @@ impl EventBits {
 
     /// The bits of an event, none where it has none.
     #[tactic(auto, using(crate::proofs::Finding::at_some, crate::proofs::Finding::at_none))]
-    pub fn at(&self, event: usize) -> &[Run]
+    pub(crate) fn at(&self, event: usize) -> &[Run]
         ensures { bits_in result.now ≡ bits_at (pairs_in self.now.table.entries) event }
     {
         match self.table.get(&event) {
@@ -84,7 +84,7 @@ impl EventBits {
     }
 
     /// The bits of events, one behind the other. Fails for want of memory alone.
-    pub fn read(&self, alloc: Global, events: &[usize]) -> Result<Vec<Run>, AllocError>
+    pub(crate) fn read(&self, alloc: Global, events: &[usize]) -> Result<Vec<Run>, AllocError>
         ensures { IfOk result (λ v. bits_in v.items
             ≡ event_bits (bits_at (pairs_in self.now.table.entries)) events.now) }
     {

@@ -21,7 +21,7 @@ use vg_shapes::Operator;
 
 /// What a walk over lines is given: the terms of the integer parameters, and the bits that loads read.
 #[derive(Clone, Copy)]
-pub struct Given<'a> {
+pub(crate) struct Given<'a> {
     pub arguments: &'a [Form],
     pub reads: &'a EventBits,
 }
@@ -70,7 +70,12 @@ pub(crate) fn whole_run(alloc: Global, form: Form, width: u32) -> Result<Vec<Run
 
 impl Knowing {
     /// The term of an operand.
-    pub fn operand(&self, alloc: Global, given: Given, x: Operand) -> Result<Form, AllocError>
+    pub(crate) fn operand(
+        &self,
+        alloc: Global,
+        given: Given,
+        x: Operand,
+    ) -> Result<Form, AllocError>
         ensures { IfOk result (λ f. f ≡ operand_term (given_of given.entry) (known_of self.now) x) }
     {
         match x {
@@ -83,7 +88,7 @@ impl Knowing {
     }
 
     /// The bits of a register.
-    pub fn register(&self, number: u32) -> &[Run]
+    pub(crate) fn register(&self, number: u32) -> &[Run]
         ensures { bits_in result.now ≡ known_bits (known_of self.now) number }
     {
         match self.vectors.get(number as usize) {
@@ -93,7 +98,7 @@ impl Knowing {
     }
 
     /// A scalar more, which is met.
-    pub fn push_scalar(&mut self, form: Form) -> Result<(), AllocError>
+    pub(crate) fn push_scalar(&mut self, form: Form) -> Result<(), AllocError>
         ensures { OnOk result (known_of self.new ≡ with_scalar (known_of self.old) form) }
     {
         self.maker.meet(&form)?;
@@ -102,7 +107,7 @@ impl Knowing {
     }
 
     /// A register more.
-    pub fn push_vector(&mut self, runs: Vec<Run>) -> Result<(), AllocError>
+    pub(crate) fn push_vector(&mut self, runs: Vec<Run>) -> Result<(), AllocError>
         ensures { OnOk result (known_of self.new ≡ with_vector (known_of self.old) (bits_in runs.items)) }
     {
         self.vectors.push(Items::from_vec(runs))?;
@@ -145,7 +150,7 @@ impl Knowing {
     }
 
     /// The line stores an operand.
-    pub fn store(
+    pub(crate) fn store(
         &mut self,
         alloc: Global,
         given: Given,
@@ -162,7 +167,7 @@ impl Knowing {
     }
 
     /// An operation on one operand.
-    pub fn single(
+    pub(crate) fn single(
         &mut self,
         alloc: Global,
         given: Given,
@@ -180,7 +185,7 @@ impl Knowing {
     }
 
     /// An operation on two operands.
-    pub fn pair(
+    pub(crate) fn pair(
         &mut self,
         alloc: Global,
         given: Given,
@@ -200,7 +205,7 @@ impl Knowing {
     }
 
     /// A choice between two operands.
-    pub fn choice(
+    pub(crate) fn choice(
         &mut self,
         alloc: Global,
         given: Given,
@@ -221,7 +226,12 @@ impl Knowing {
     }
 
     /// A number is read from memory.
-    pub fn load(&mut self, alloc: Global, given: Given, events: &[usize]) -> Result<(), AllocError>
+    pub(crate) fn load(
+        &mut self,
+        alloc: Global,
+        given: Given,
+        events: &[usize],
+    ) -> Result<(), AllocError>
         ensures { OnOk result (known_of self.new ≡ with_scalar (known_of self.old)
             (gathered (known_of self.old).met (read_bits (given_of given.entry) events.now))) }
     {
@@ -230,7 +240,7 @@ impl Knowing {
     }
 
     /// A register is read from memory, with zeros above.
-    pub fn vector_load(
+    pub(crate) fn vector_load(
         &mut self,
         alloc: Global,
         given: Given,
@@ -248,7 +258,7 @@ impl Knowing {
 
     /// The low bytes of a register are stored.
     #[tactic(auto, using(crate::proofs::Lines::low_bits))]
-    pub fn vector_store(
+    pub(crate) fn vector_store(
         &mut self,
         alloc: Global,
         size: VectorSize,
@@ -264,7 +274,7 @@ impl Knowing {
     }
 
     /// A lane of a register becomes an operand.
-    pub fn insert(
+    pub(crate) fn insert(
         &mut self,
         alloc: Global,
         given: Given,
@@ -285,7 +295,7 @@ impl Knowing {
 
     /// The number of a lane of a register.
     #[tactic(auto, using(crate::proofs::Lines::range_of))]
-    pub fn extract(
+    pub(crate) fn extract(
         &mut self,
         alloc: Global,
         register: u32,

@@ -112,7 +112,7 @@ fn reads_of(
 
 /// The bits that each event of the loads of a kernel reads, by the terms of the kernel's values. Fails for want
 /// of memory, and where a unit has no term.
-pub fn kernel_reads(
+pub(crate) fn kernel_reads(
     alloc: Global,
     ssa: &Ssa,
     terms: &[Form],

@@ -159,7 +159,7 @@ impl Knowing {
 /// its events: by the terms of the integer parameters, the bits that events of loads read, and what makes terms
 /// with those that were met. Fails for want of memory, also at a call and where a line has no events.
 #[tactic(auto, using(crate::proofs::Walking::known_same))]
-pub fn known_behind(
+pub(crate) fn known_behind(
     alloc: Global,
     arguments: &[Form],
     reads: &[(usize, Items<Run>)],
