@@ -14,7 +14,7 @@ type Case = (
     &'static str,
 );
 
-const CASES: [Case; 11] = [
+const CASES: [Case; 14] = [
     (
         "products",
         "INSTRUCTION _mm_mul_epi32 PARAM a 128 SI32 PARAM b 128 SI32\nRESULT dst 128 SI64 EXTENSION SSE4.1 COST 1 OPERATION\nFOR j := 0 to 1\ni := j*64\ndst[i+63:i] := SignExtend64(a[i+31:i]) * SignExtend64(b[i+31:i])\nENDFOR\nEND\n",
@@ -70,6 +70,27 @@ const CASES: [Case; 11] = [
         Status::Ok,
         "instruction x\nlane 0 (mul64 a.0:64 a.0:64)\nlane 1 0:64\n",
         "",
+    ),
+    (
+        "a parameter of 2,097,153 bits",
+        "INSTRUCTION x PARAM a 128 UI64 RESULT dst 128 UI64 EXTENSION SSE2 COST 1 OPERATION\nDEFINE f(p[2097152:0]) { RETURN p[7:0] }\ndst[63:0] := f(a[127:0]) dst[127:64] := f(a[127:64]) END\n",
+        Status::Ok,
+        "instruction x\nlane 0 (zext64 a.0:8)\nlane 1 (zext64 a.64:8)\n",
+        "",
+    ),
+    (
+        "its bits above 511 are zeros, moved by slices across bit 511 and past it",
+        "INSTRUCTION x PARAM a 512 UI64 RESULT dst 128 UI64 EXTENSION AVX512F COST 1 OPERATION\nDEFINE f(p[2097152:0]) { RETURN p[559:496] }\nDEFINE g(p[2097152:0]) { RETURN p[2097152:2097089] }\ndst[63:0] := f(a[511:0]) dst[127:64] := g(a[511:0]) END\n",
+        Status::Ok,
+        "instruction x\nlane 0 (zext64 a.496:16)\nlane 1 0:64\n",
+        "",
+    ),
+    (
+        "a bit past it",
+        "INSTRUCTION x\nPARAM a 128 SI32\nRESULT dst 128 SI32\nEXTENSION SSE2\nCOST 1\nOPERATION\nDEFINE f(p[2097152:0]) { RETURN p[2097153] }\ndst[31:0] := f(1)\nEND\n",
+        Status::InstructionsRefused,
+        "",
+        "vegen: instructions: 5 IndexOutside at 7:33\n",
     ),
     ("no entries", "// none\n", Status::Ok, "", ""),
     (
@@ -133,6 +154,26 @@ fn desk_with(alloc: Global, name: &str, text: &str) -> Result<Desk, Fail> {
     desk.shelf.put("i", UNSIGNED_BYTES.as_bytes())?;
     desk.shelf.put(name, text.as_bytes())?;
     Ok(desk)
+}
+
+/// The same lanes by a call whose parameter has 2,097,153 bits.
+const WIDE_PARAMETER: &str =
+    "INSTRUCTION x PARAM a 128 SI8 RESULT dst 128 SI32 EXTENSION SSE2 COST 1 OPERATION\nDEFINE f(p[2097152:0]) { RETURN p[7:0] }\nFOR j := 0 to 3\ndst.dword[j] := f(a[127:j*8])\nENDFOR\nEND\n";
+
+#[test]
+fn a_parameter_of_many_bits_compiles_and_runs(rt: HostRuntime) -> Result<(), Fail> {
+    let mut desk = desk_with(rt.alloc(), "k", UNSIGNED_KERNEL)?;
+    desk.shelf.put("i", WIDE_PARAMETER.as_bytes())?;
+    assert!(rt; desk.run(&["compile", "i", "k"])? == Status::Ok);
+    assert!(rt; desk.out.written().ends_with(b"\nend cost 3 scalar 12\n"));
+    let mut desk = desk_with(rt.alloc(), "p", CALL_X)?;
+    desk.shelf.put("i", WIDE_PARAMETER.as_bytes())?;
+    desk.shelf.put(
+        "m",
+        &[255, 1, 2, 3, 4, 5, 6, 7, 8, 9, 10, 11, 12, 13, 14, 15],
+    )?;
+    let left: [u8; 16] = [255, 0, 0, 0, 4, 5, 6, 7, 8, 9, 10, 11, 12, 13, 14, 15];
+    desk.expect(&rt, &["run", "i", "p", "m", "m=0"], Status::Ok, &left, b"")
 }
 
 #[test]

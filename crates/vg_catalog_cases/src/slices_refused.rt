@@ -28,6 +28,8 @@ fn slices_outside_of_their_registers(rt: HostRuntime) -> Result<(), Fail> {
         dst[7:0] := 1 + (@w[256:249])
         DEFINE f(p[7:0]) { RETURN @p[8] } dst[7:0] := f(1)
         DEFINE f(p) { RETURN @p[512] } dst[7:0] := f(1)
+        DEFINE f(p[2097152:0]) { RETURN @p[2097153] } dst[7:0] := f(1)
+        DEFINE f(p[2097152:0]) { RETURN @p.byte[262144] } dst[7:0] := f(1)
         ",
     )
 }
@@ -44,6 +46,8 @@ fn slices_at_the_ends_of_their_registers(rt: HostRuntime) -> Result<(), Fail> {
         dst[31:0] := w[255:224]
         t[511] := 1 dst[0] := t[511]
         dst[MAX:600] := 0
+        DEFINE f(p[2097152:0]) { RETURN p[2097152] } dst[7:0] := f(1)
+        DEFINE f(p[2097152:0]) { RETURN p.byte[262143] } dst[7:0] := f(1)
         dst[7:0] := a[7:0x0]
         ",
     )

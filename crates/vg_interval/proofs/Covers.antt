@@ -1,7 +1,7 @@
 -- What is found of an expression covers its value: a constant is the value, an interval holds it and its word stands for it,
 -- and a slice form has its bits.
 use Rattle.std.proofs.Common.{◌≡◌, ℕ, zero, suc, ◌+◌, ◌-◌, ◌/◌, ◌%◌, ◌^◌, ◌<◌, ◌≤◌, refl, sym, ap, ◌∙◌, subst, arith, inl, inr, Bool, true, false, lit<, List, [], ◌∷◌, get_or, length}
-use Rattle.std.specs.Prelude.{ℤ, pos, not, nat_eq, if◌then◌else◌, map, Option, Some, None, Result, Ok}
+use Rattle.std.specs.Prelude.{ℤ, min, pos, not, nat_eq, if◌then◌else◌, map, Option, Some, None, Result, Ok}
 use Rattle.std.specs.Option.{option_map_or}
 use Rattle.std.proofs.lemmas.Int.{ints}
 use Rattle.std.proofs.lemmas.Bool.{cases_lt, cases_Bool, lt-ltb, le-ltb, lt-leb, le-leb, eqb-true, eqb-false}
@@ -15,7 +15,7 @@ use Rattle.vg_base.proofs.Signed.{signed-within, residue-signed}
 use Rattle.vg_base.specs.Bits.{num, signed_at}
 use Rattle.vg_base.specs.Number.{residue, least_signed, greatest_signed}
 use Rattle.vg_bits.specs.BitList.{IsBits}
-use Rattle.vg_bits.proofs.BitLists.{num-range_below, num-range}
+use Rattle.vg_bits.proofs.BitLists.{num-range_below}
 use Rattle.vg_terms.specs.Term.{OneFits}
 use Rattle.vg_terms.specs.Value.{one_value}
 use Rattle.vg_terms.specs.declared.term.OneOp.TheVariants.{Zext, Sext}
@@ -26,7 +26,7 @@ use Rattle.vg_pseudo.specs.Value.{State, Bits, read}
 use Rattle.vg_script.specs.Script.{Word, width_of, Low, at, held, Frame, block}
 use Rattle.vg_script.specs.Script as script
 use Rattle.vg_script.specs.Cells.{Cells, word_value, low_value, behind, bits_read}
-use Rattle.vg_script.specs.Formed.{Formed, LowFormed, FrameFormed, frame_widths}
+use Rattle.vg_script.specs.Formed.{Formed, LowFormed, FrameFormed}
 use Rattle.vg_interval.specs.declared.span.Span.{Span}
 use Rattle.vg_interval.specs.declared.fault.RangeFault.{RangeFault}
 use Rattle.vg_interval.specs.declared.fault.RangeFault.TheVariants.{TooWide}
@@ -35,6 +35,7 @@ use Rattle.vg_interval.specs.Words.{extended}
 use Rattle.vg_interval.specs.Found.{Found, known, handed, bit, within, wide, loose, Operand, fixed, moving, span_of, word_of, plain, slice_word, handed_word, or_too_wide, operand, condition, Passed, passed}
 use Rattle.vg_interval.specs.Found as found
 use Rattle.vg_interval.proofs.Intervals.{In, Fits, EndsFit, signed-range, below-pow, small-fits, le_self, fits-in, same_some}
+use Rattle.vg_interval.proofs.Parts.{num-part}
 use Rattle.vg_interval.proofs.Words.{StandsFor, Tells, number-stands, bit-stands, is_set-tells}
 
 -- the cells of a script hold the registers, and the lowest 128 bits of each number variable
@@ -45,31 +46,31 @@ abbrev pub AllBits : List (List ℕ) → Type 0
 AllBits [] = Unit {0}
 AllBits (l ∷ ls) = IsBits l × AllBits ls
 
--- the cells of a body whose registers have these widths
+-- The cells of a body whose registers are declared with these widths: of each at least 512 bits are kept, or all of
+-- them.
 pub record AreCells (ws : List ℕ) (c : Cells) : Type 0 where
-  pub widths : ws ≡ map length c.registers
+  pub kept : (r : ℕ) → min 512 (get_or ws r 0) ≤ length (get_or c.registers r [])
   pub bits : AllBits c.registers
 
 abbrev pub bits_at_low : Cells → ℕ → Low → ℕ → Bits
 bits_at_low c r l w = record { width = w; number = bits_read c r (low_value c l) w }
 
--- a slice that lies in its register
-pub record IsSlice (ws : List ℕ) (c : Cells) (r : ℕ) (l : Low) (w : ℕ) : Type 0 where
-  pub formed : LowFormed ws l w (get_or ws r 0)
+-- a slice of some bits
+pub record IsSlice (l : Low) (w : ℕ) : Type 0 where
+  pub formed : LowFormed l
   pub some : 0 < w
-  pub inside : low_value c l + w ≤ get_or ws r 0
 
 -- a slice that is read, and its value and bits
 pub record IsRead (ws : List ℕ) (c : Cells) (g : Bool) (r : ℕ) (l : Low) (w : ℕ) (z : ℤ) (b : Option Bits) : Type 0 where
-  pub slice : IsSlice ws c r l w
+  pub slice : IsSlice l w
   pub value : z ≡ read g (bits_at_low c r l w)
   pub bits : b ≡ Some (bits_at_low c r l w)
 
 -- a slice of what a call leaves, as a number
 pub record IsHanded (ws : List ℕ) (c : Cells) (f : Frame) (r : ℕ) (l : Low) (w : ℕ) (z : ℤ) : Type 0 where
-  pub frame : FrameFormed ws f
-  pub left : AreCells (frame_widths f) (behind c f)
-  pub slice : IsSlice (frame_widths f) (behind c f) r l w
+  pub frame : FrameFormed f
+  pub left : AllBits (behind c f).registers
+  pub slice : IsSlice l w
   pub value : z ≡ pos (bits_read (behind c f) r (low_value (behind c f) l) w)
 
 -- a constant slice: its width, and the bits that its number has
@@ -105,16 +106,8 @@ bits_at [] r h = tt
 bits_at (l ∷ ls) zero h = h.0
 bits_at (l ∷ ls) (suc r) h = bits_at ls r h.1
 
-pub width_at : (ls : List (List ℕ)) (r : ℕ) → get_or (map length ls) r 0 ≡ length (get_or ls r [])
-width_at [] r = refl
-width_at (l ∷ ls) zero = refl
-width_at (l ∷ ls) (suc r) = width_at ls r
-
-pub register_width : (ws : List ℕ) (c : Cells) (r : ℕ) → AreCells ws c → get_or ws r 0 ≡ length (get_or c.registers r [])
-register_width ws c r h = ap (λ v. get_or v r 0) h.widths ∙ width_at c.registers r
-
-pub bits_small : (ws : List ℕ) (c : Cells) (r low w : ℕ) → AreCells ws c → bits_read c r low w < 2 ^ w
-bits_small ws c r low w h = num-range_below low w (get_or c.registers r []) (bits_at c.registers r h.bits)
+pub bits_small : (c : Cells) (r low w : ℕ) → AllBits c.registers → bits_read c r low w < 2 ^ w
+bits_small c r low w h = num-range_below low w (get_or c.registers r []) (bits_at c.registers r h)
 
 pub none_some : {A : Type 0} (x : A) → None ≡ Some x → ⊥
 none_some x e = absurd (cc)
@@ -187,7 +180,7 @@ less_than w m n = elim (cases_lt w 128) [ inl l ↦ l | inr g ↦ absurd (n (ome
 
 -- a word of some bits at 128 bits
 pub extended-stands : (ws : List ℕ) (c : Cells) (g : Bool) (x : Word) (w n : ℕ) → w ≤ 128 → width_of x ≡ w → word_value c x ≡ n
-    → n < 2 ^ w → Formed ws x → StandsFor ws c (extended g w x) (read g (record { width = w; number = n }))
+    → n < 2 ^ w → Formed x → StandsFor ws c (extended g w x) (read g (record { width = w; number = n }))
 extended-stands ws c g x w n most long e h formed = elim (cases_Bool (nat_eq w 128)) [
   | inl t ↦ rw t (record { bits = e ∙ sym (whole g w n (eqb-true w 128 t) h); wide = long ∙ eqb-true w 128 t; formed = formed })
   | inr t ↦ rw t (record {
@@ -197,58 +190,48 @@ extended-stands ws c g x w n most long e h formed = elim (cases_Bool (nat_eq w 1
   })
 ]
 
-pub slice-stands : (ws : List ℕ) (c : Cells) (g : Bool) (r : ℕ) (l : Low) (w : ℕ) → AreCells ws c → IsSlice ws c r l w → w ≤ 128
+pub slice-stands : (ws : List ℕ) (c : Cells) (g : Bool) (r : ℕ) (l : Low) (w : ℕ) → AllBits c.registers → IsSlice l w → w ≤ 128
     → StandsFor ws c (slice_word g r l w) (read g (bits_at_low c r l w))
 slice-stands ws c g r l w cs s most =
-    extended-stands ws c g (script.slice r l w) w _ most refl refl (bits_small ws c r _ w cs) ((s.some, most), s.formed)
+    extended-stands ws c g (script.slice r l w) w _ most refl refl (bits_small c r _ w cs) ((s.some, most), s.formed)
 
-slice-within : (ws : List ℕ) (c : Cells) (g : Bool) (r : ℕ) (l : Low) (w : ℕ) (i : Span) → AreCells ws c → IsSlice ws c r l w
+slice-within : (ws : List ℕ) (c : Cells) (g : Bool) (r : ℕ) (l : Low) (w : ℕ) (i : Span) → AllBits c.registers → IsSlice l w
     → slice_span g w ≡ Some i → IsWithin ws c i (slice_word g r l w) (read g (bits_at_low c r l w))
 slice-within ws c g r l w i cs s e = record {
-  inside = read-in g w _ i s.some (bits_small ws c r _ w cs) e;
+  inside = read-in g w _ i s.some (bits_small c r _ w cs) e;
   ends = slice_span-fits g w i e;
   stands = slice-stands ws c g r l w cs s (narrow_slice g w i e);
 }
 
 -- ---- what a call hands
 
-pub block-stands : (ws : List ℕ) (c : Cells) (f : Frame) (x : Word) (z : ℤ) → FrameFormed ws f
-    → StandsFor (frame_widths f) (behind c f) x z → StandsFor ws c (block f x) z
-block-stands ws c f x z h s = record { bits = s.bits; wide = s.wide; formed = (h, s.formed) }
+pub block-stands : (ws vs : List ℕ) (c : Cells) (f : Frame) (x : Word) (z : ℤ) → FrameFormed f
+    → StandsFor vs (behind c f) x z → StandsFor ws c (block f x) z
+block-stands ws vs c f x z h s = record { bits = s.bits; wide = s.wide; formed = (h, s.formed) }
 
-low_slice : (ws : List ℕ) (c : Cells) (r : ℕ) (l : Low) (w : ℕ) → IsSlice ws c r l w → 128 ≤ w → IsSlice ws c r l 128
-low_slice ws c r l w s h = record { formed = narrower l s.formed; some = lit< tt; inside = omega (arith, s.inside) }
-  where
-    narrower : (l : Low) → LowFormed ws l w (get_or ws r 0) → LowFormed ws l 128 (get_or ws r 0)
-    narrower (at n) p = omega (arith, p)
-    narrower (held x) p = p
-
--- the low 128 bits of a longer slice
-low_bits : (ws : List ℕ) (c : Cells) (r : ℕ) (l : Low) (w : ℕ) → AreCells ws c → IsSlice ws c r l w → 128 ≤ w
-    → bits_read c r (low_value c l) 128 ≡ bits_read c r (low_value c l) w % 2 ^ 128
-low_bits ws c r l w cs s h =
+-- the low bits of a slice are a shorter one
+pub fewer_bits : (c : Cells) (r low w v : ℕ) → AllBits c.registers → w ≤ v → bits_read c r low w ≡ bits_read c r low v % 2 ^ w
+fewer_bits c r low w v cs h =
     let x = get_or c.registers r [] in
-    let e = register_width ws c r cs in
-    let all : low_value c l + w ≤ length x = omega (arith, s.inside, e) in
-    let p = num-range (low_value c l) w x (bits_at c.registers r cs.bits) all in
-    let q = num-range (low_value c l) 128 x (bits_at c.registers r cs.bits) (omega (arith, all)) in
-    q ∙ sym (ap (λ v. v % 2 ^ 128) p ∙ low-low (num x / 2 ^ low_value c l) w 128 h)
+    let p = num-part low v x (bits_at c.registers r cs) in
+    let q = num-part low w x (bits_at c.registers r cs) in
+    q ∙ sym (ap (λ n. n % 2 ^ w) p ∙ low-low (num x / 2 ^ low) v w h)
 
 pub handed-stands : (ws : List ℕ) (c : Cells) (f : Frame) (r : ℕ) (l : Low) (w : ℕ) (z : ℤ) → IsHanded ws c f r l w z
     → StandsFor ws c (handed_word f r l w) z
 handed-stands ws c f r l w z h = elim (cases_lt w 128) [
-  | inl t ↦ rw (lt-ltb w 128 t, h.value) (block-stands ws c f _ _ h.frame (slice-stands _ _ false r l w h.left h.slice (omega arith)))
+  | inl t ↦ rw (lt-ltb w 128 t, h.value) (block-stands ws ws c f _ _ h.frame (slice-stands ws (behind c f) false r l w h.left h.slice (omega arith)))
   | inr t ↦ rw (le-ltb w 128 t, h.value) (record {
-    bits = low_bits _ _ r l w h.left h.slice t;
+    bits = fewer_bits (behind c f) r _ 128 w h.left t;
     wide = refl;
-    formed = (h.frame, ((lit< tt, omega arith), (low_slice _ _ r l w h.slice t).formed));
+    formed = (h.frame, ((lit< tt, omega arith), h.slice.formed));
   })
 ]
 
 pub handed-within : (ws : List ℕ) (c : Cells) (f : Frame) (r : ℕ) (l : Low) (w : ℕ) (z : ℤ) (i : Span) → IsHanded ws c f r l w z
     → slice_span false w ≡ Some i → IsWithin ws c i (handed_word f r l w) z
 handed-within ws c f r l w z i h e = record {
-  inside = rw h.value (read-in false w _ i h.slice.some (bits_small _ _ r _ w h.left) e);
+  inside = rw h.value (read-in false w _ i h.slice.some (bits_small (behind c f) r _ w h.left) e);
   ends = slice_span-fits false w i e;
   stands = handed-stands ws c f r l w z h;
 }
@@ -278,7 +261,7 @@ known_value : (ws : List ℕ) (c : Cells) (y : ℤ) (w : Option ℕ) (z : ℤ) (
 known_value ws c y None z b h = h.0
 known_value ws c y (Some w) z b h = h.same
 
-pub operand-ok : (ws : List ℕ) (c : Cells) (s : Spot) (f : Found) (z : ℤ) (b : Option Bits) (a : Operand) → AreCells ws c
+pub operand-ok : (ws : List ℕ) (c : Cells) (s : Spot) (f : Found) (z : ℤ) (b : Option Bits) (a : Operand) → AllBits c.registers
     → operand s f ≡ Ok a → Covers ws c f z b → Holds ws c a z
 operand-ok ws c s (known y w) z b a cs e h =
     let p = tested_ok (is_small y) (ok (fixed y)) (TooWide s.outer) e in
@@ -333,13 +316,13 @@ condition-tells ws c (loose x) a z b h k = is_set-tells ws c (word_of a) z (hold
 
 abbrev pub PassedIs : List ℕ → Cells → Passed → ℕ → Type 0
 PassedIs ws c (found.constant n) m = m ≡ n
-PassedIs ws c (found.computed x) m = (m ≡ word_value c x) × (width_of x ≡ 128) × Formed ws x
-PassedIs ws c (found.bits r l w) m = (m ≡ bits_read c r (low_value c l) w) × LowFormed ws l w (get_or ws r 0)
+PassedIs ws c (found.computed x) m = (m ≡ word_value c x) × (width_of x ≡ 128) × Formed x
+PassedIs ws c (found.bits r l w) m = (m ≡ bits_read c r (low_value c l) w) × LowFormed l
 
 word_passed : (ws : List ℕ) (c : Cells) (x : Word) (z : ℤ) → StandsFor ws c x z → PassedIs ws c (found.computed x) (residue 128 z)
 word_passed ws c x z s = (sym s.bits, s.wide, s.formed)
 
-pub passed-is : (ws : List ℕ) (c : Cells) (s : Spot) (f : Found) (z : ℤ) (b : Option Bits) (p : Passed) → AreCells ws c
+pub passed-is : (ws : List ℕ) (c : Cells) (s : Spot) (f : Found) (z : ℤ) (b : Option Bits) (p : Passed) → AllBits c.registers
     → passed s f ≡ Ok p → Covers ws c f z b → PassedIs ws c p (value.handed b z)
 passed-is ws c s (known y None) z b p cs e h = subst (λ v. PassedIs ws c v (value.handed b z)) (ok_same e) (rw (h.1, h.0) refl)
 passed-is ws c s (known y (Some w)) z b p cs e h = subst (λ v. PassedIs ws c v (value.handed b z)) (ok_same e) (rw h.bits refl)

@@ -25,7 +25,7 @@ use Rattle.vg_interval.specs.Judge as judging
 use Rattle.vg_names.specs.Proper.{AllSmall}
 use Rattle.vg_interval.proofs.Intervals.{In, Fits, EndsFit, hull-left, hull-right, hull_fits}
 use Rattle.vg_interval.proofs.Words.{StandsFor, Tells}
-use Rattle.vg_interval.proofs.Covers.{cells, AreCells, Covers, Holds, operand-ok, holds-in, holds-stands, plain-covers, condition-tells, PassedIs, passed-is}
+use Rattle.vg_interval.proofs.Covers.{cells, AllBits, AreCells, Covers, Holds, operand-ok, holds-in, holds-stands, plain-covers, condition-tells, PassedIs, passed-is}
 use Rattle.vg_interval.proofs.Operators.{IsPlace, between-ok, element-ok, slice_found-covers, IndexIs, index-is, moving_slice-covers, Made, unary_at-covers, binary_at-covers, ok_pair, same_pair}
 
 -- ---- what holds where an expression is judged
@@ -47,7 +47,7 @@ PassedAll ws c _ _ = ⊥
 -- a walk of a call goes with what the call gives: wherever it is called, with arguments that stand for numbers
 abbrev pub CallAgrees : Walk → (List ℕ → ℤ) → Type 0
 CallAgrees w f =
-    (ws : List ℕ) (c : Cells) → AreCells ws c → (s : Spot) (ps : List Passed) (ns : List ℕ) → PassedAll ws c ps ns
+    (ws : List ℕ) (c : Cells) → AllBits c.registers → (s : Spot) (ps : List Passed) (ns : List ℕ) → PassedAll ws c ps ns
     → (n m : Count) (g : Found) → w s ps n ≡ Ok (g, m) → Made ws c g (f ns)
 
 -- what is known where a body is walked covers where its run stands
@@ -88,11 +88,11 @@ SliceAt s v g r low width f =
     Covers s.widths (cells v.state) f (read g (meaning.bits_from v.state r low width)) (Some (meaning.bits_from v.state r low width))
 
 settled-slice : (s : Sight) (ks : List Kept) (v : meaning.Sight) (g : Bool) (r : ℕ) (b : judging.Bits) (low width : ℕ) → Knows s ks v
-    → low ≡ b.low → width ≡ b.width → b.low + b.width ≤ get_or s.widths r 0 → 0 < b.width
+    → low ≡ b.low → width ≡ b.width → 0 < b.width
     → SliceAt s v g r low width (slice_found g (get_or s.constants r None) r b)
-settled-slice s ks v g r b low width h p q inside some =
+settled-slice s ks v g r b low width h p q some =
     let t : SliceAt s v g r b.low b.width (slice_found g (get_or s.constants r None) r b) =
-    slice_found-covers s.widths (cells v.state) g (get_or s.constants r None) r b h.cells (h.constants r) inside some in
+    slice_found-covers s.widths (cells v.state) g (get_or s.constants r None) r b h.cells.bits (h.constants r) some in
     subst (λ m. SliceAt s v g r m width (slice_found g (get_or s.constants r None) r b)) (sym p)
     (subst (λ m. SliceAt s v g r b.low m (slice_found g (get_or s.constants r None) r b)) (sym q) t)
 
@@ -103,10 +103,10 @@ element-covers s ks v place g r size k (settled y) n m f h e p =
     let b = bind_ok (bits_of_element place (get_or s.widths r 0) size y) _ p in
     let q = element-ok place (get_or s.widths r 0) size y b.0 b.1 in
     subst (SliceAt s v g r (natural k * size) size) (ap (λ q. q.0) (same_pair b.2))
-    (settled-slice s ks v g r b.0 (natural k * size) size h (ap (λ z. natural z * size) e ∙ q.first) q.width q.inside q.some)
+    (settled-slice s ks v g r b.0 (natural k * size) size h (ap (λ z. natural z * size) e ∙ q.first) q.width q.some)
 element-covers s ks v place g r size k (unsettled a) n m f h e p =
     let b = bind_ok (moving_slice place (get_or s.widths r 0) g r size size a) _ p in
-    let q = moving_slice-covers s.widths (cells v.state) place g r size size k a b.0 h.cells (small_at s.widths r h.small) (λ w. w) e b.1 in
+    let q = moving_slice-covers s.widths (cells v.state) place (get_or s.widths r 0) g r size size k a b.0 h.cells.bits (small_at s.widths r h.small) (λ w. w) e b.1 in
     subst (SliceAt s v g r (natural k * size) size) (ap (λ q. q.0) (same_pair b.2)) q.1
 
 spread-width : (low : ℤ) (n : ℕ) (b : judging.Bits) (all : ℕ) → IsPlace all (low +ℤ pos n) low b → b.width ≡ n + 1
@@ -124,10 +124,10 @@ slice-covers s ks v place g r (Some k) y z i (settled low) n m f h d e p =
     let b = bind_ok (bits_between place (get_or s.widths r 0) (low +ℤ pos k) low) _ p in
     let q = between-ok place (get_or s.widths r 0) (low +ℤ pos k) low b.0 b.1 in
     subst (SliceAt s v g r (natural z) (k + 1)) (ap (λ q. q.0) (same_pair b.2))
-    (settled-slice s ks v g r b.0 (natural z) (k + 1) h (ap natural e ∙ q.first) (sym (spread-width low k b.0 (get_or s.widths r 0) q)) q.inside q.some)
+    (settled-slice s ks v g r b.0 (natural z) (k + 1) h (ap natural e ∙ q.first) (sym (spread-width low k b.0 (get_or s.widths r 0) q)) q.some)
 slice-covers s ks v place g r (Some k) y z i (unsettled a) n m f h d e p =
     let b = bind_ok (moving_slice place (get_or s.widths r 0) g r 1 (k + 1) a) _ p in
-    let q = moving_slice-covers s.widths (cells v.state) place g r 1 (k + 1) z a b.0 h.cells (small_at s.widths r h.small) (λ w. omega arith) e b.1 in
+    let q = moving_slice-covers s.widths (cells v.state) place (get_or s.widths r 0) g r 1 (k + 1) z a b.0 h.cells.bits (small_at s.widths r h.small) (λ w. omega arith) e b.1 in
     let one : natural z * 1 ≡ natural z = omega arith in
     subst (SliceAt s v g r (natural z) (k + 1)) (ap (λ q. q.0) (same_pair b.2)) (subst (λ w. SliceAt s v g r w (k + 1) b.0) one q.1)
 slice-covers s ks v place g r None y z (settled high) (settled low) n m f h d e p =
@@ -135,7 +135,7 @@ slice-covers s ks v place g r None y z (settled high) (settled low) n m f h d e 
     let q = between-ok place (get_or s.widths r 0) high low b.0 b.1 in
     let w : count z y ≡ b.0.width = ap (λ x. count x y) e ∙ ap (count low) d ∙ q.width in
     subst (SliceAt s v g r (natural z) (count z y)) (ap (λ q. q.0) (same_pair b.2))
-    (settled-slice s ks v g r b.0 (natural z) (count z y) h (ap natural e ∙ q.first) w q.inside q.some)
+    (settled-slice s ks v g r b.0 (natural z) (count z y) h (ap natural e ∙ q.first) w q.some)
 slice-covers s ks v place g r None y z (unsettled a) (settled low) n m f h d e p = absurd (cc)
 slice-covers s ks v place g r None y z (settled high) (unsettled a) n m f h d e p = absurd (cc)
 slice-covers s ks v place g r None y z (unsettled b) (unsettled a) n m f h d e p = absurd (cc)
@@ -155,7 +155,7 @@ same_branch e = cc
 abbrev pub JudgeCovers : List ℕ → Cells → Judges → ℤ → Type 0
 JudgeCovers ws c j z = (n m : Count) (f : Found) → j n ≡ Ok (f, m) → (b : Option Bits) × Covers ws c f z b
 
-branch-holds : (ws : List ℕ) (c : Cells) (s : Spot) (j : Judges) (z : ℤ) (n : Count) (a : Branch) → AreCells ws c → JudgeCovers ws c j z
+branch-holds : (ws : List ℕ) (c : Cells) (s : Spot) (j : Judges) (z : ℤ) (n : Count) (a : Branch) → AllBits c.registers → JudgeCovers ws c j z
     → branch s j n ≡ Ok a → Holds ws c a.0 z
 branch-holds ws c s j z n a cs h e =
     let f = bind_ok (j n) _ e in
@@ -184,7 +184,7 @@ other_choice : (b : Bool) (x y : ℤ) → (if not b then x else y) ≡ (if b the
 other_choice true x y = refl
 other_choice false x y = refl
 
-chosen-covers : (ws : List ℕ) (c : Cells) (p q : Spot) (first second : Judges) (f g : Found) (a : Operand) (z x y : ℤ) (b : Option Bits) (n m : Count) → AreCells ws c
+chosen-covers : (ws : List ℕ) (c : Cells) (p q : Spot) (first second : Judges) (f g : Found) (a : Operand) (z x y : ℤ) (b : Option Bits) (n m : Count) → AllBits c.registers
     → Covers ws c f z b → Holds ws c a z → JudgeCovers ws c first x → JudgeCovers ws c second y
     → chosen p first q second f a n ≡ Ok (g, m) → Made ws c g (if int_eq z (pos 0) then y else x)
 chosen-covers ws c p q first second f g (fixed w) z x y b n m cs k h j i e = elim (cases_Bool (int_eq w (pos 0))) [
@@ -247,42 +247,42 @@ mutual
       let i = bind_ok (index_of (spot_of x) a.0.0) _ a.2 in
       let b = bind_ok (judge s ks y a.0.1) _ i.2 in
       let j = bind_ok (index_of (spot_of y) b.0.0) _ b.2 in
-      let high = index-is s.widths (cells v.state) (spot_of x) a.0.0 (value v x) (bits_in v x) i.0 h.cells i.1 (judge-covers x s ks v n a.0.1 a.0.0 h a.1) in
-      let low = index-is s.widths (cells v.state) (spot_of y) b.0.0 (value v y) (bits_in v y) j.0 h.cells j.1 (judge-covers y s ks v a.0.1 b.0.1 b.0.0 h b.1) in
+      let high = index-is s.widths (cells v.state) (spot_of x) a.0.0 (value v x) (bits_in v x) i.0 h.cells.bits i.1 (judge-covers x s ks v n a.0.1 a.0.0 h a.1) in
+      let low = index-is s.widths (cells v.state) (spot_of y) b.0.0 (value v y) (bits_in v y) j.0 h.cells.bits j.1 (judge-covers y s ks v a.0.1 b.0.1 b.0.0 h b.1) in
       slice-covers s ks v p.inner g r k (value v x) (value v y) i.0 j.0 b.0.1 m f h high low j.2
   judge-covers (element p g r size k) s ks v n m f h e =
       let a = bind_ok (judge s ks k n) _ e in
       let i = bind_ok (index_of (spot_of k) a.0.0) _ a.2 in
-      let index = index-is s.widths (cells v.state) (spot_of k) a.0.0 (value v k) (bits_in v k) i.0 h.cells i.1 (judge-covers k s ks v n a.0.1 a.0.0 h a.1) in
+      let index = index-is s.widths (cells v.state) (spot_of k) a.0.0 (value v k) (bits_in v k) i.0 h.cells.bits i.1 (judge-covers k s ks v n a.0.1 a.0.0 h a.1) in
       element-covers s ks v p.inner g r size (value v k) i.0 a.0.1 m f h index i.2
   judge-covers (front p g r width) s ks v n m f h e =
       let b = bind_ok (bits_of_element p.inner (get_or s.widths r 0) width (pos 0)) _ e in
       let q = element-ok p.inner (get_or s.widths r 0) width (pos 0) b.0 b.1 in
-      subst (SliceAt s v g r 0 width) (ap (λ q. q.0) (same_pair b.2)) (settled-slice s ks v g r b.0 0 width h (zero_times width ∙ q.first) q.width q.inside q.some)
+      subst (SliceAt s v g r 0 width) (ap (λ q. q.0) (same_pair b.2)) (settled-slice s ks v g r b.0 0 width h (zero_times width ∙ q.first) q.width q.some)
   judge-covers (unary p op x) s ks v n m f h e =
       let a = bind_ok (judge s ks x n) _ e in
       let b = bind_ok (unary_at p op (spot_of x) a.0.0) _ a.2 in
       subst (λ w. Made s.widths (cells v.state) w (value v (unary p op x))) (ap (λ q. q.0) (same_pair b.2))
-      (unary_at-covers s.widths (cells v.state) p op (spot_of x) a.0.0 b.0 (value v x) (bits_in v x) h.cells (judge-covers x s ks v n a.0.1 a.0.0 h a.1) b.1)
+      (unary_at-covers s.widths (cells v.state) p op (spot_of x) a.0.0 b.0 (value v x) (bits_in v x) h.cells.bits (judge-covers x s ks v n a.0.1 a.0.0 h a.1) b.1)
   judge-covers (binary p op x y) s ks v n m f h e =
       let a = bind_ok (judge s ks x n) _ e in
       let i = bind_ok (operand (spot_of x) a.0.0) _ a.2 in
       let b = bind_ok (judge s ks y a.0.1) _ i.2 in
       let j = bind_ok (operand (spot_of y) b.0.0) _ b.2 in
-      let left = operand-ok s.widths (cells v.state) (spot_of x) a.0.0 (value v x) (bits_in v x) i.0 h.cells i.1 (judge-covers x s ks v n a.0.1 a.0.0 h a.1) in
-      let right = operand-ok s.widths (cells v.state) (spot_of y) b.0.0 (value v y) (bits_in v y) j.0 h.cells j.1 (judge-covers y s ks v a.0.1 b.0.1 b.0.0 h b.1) in
+      let left = operand-ok s.widths (cells v.state) (spot_of x) a.0.0 (value v x) (bits_in v x) i.0 h.cells.bits i.1 (judge-covers x s ks v n a.0.1 a.0.0 h a.1) in
+      let right = operand-ok s.widths (cells v.state) (spot_of y) b.0.0 (value v y) (bits_in v y) j.0 h.cells.bits j.1 (judge-covers y s ks v a.0.1 b.0.1 b.0.0 h b.1) in
       binary_at-covers s.widths (cells v.state) p op (spot_of y) i.0 j.0 (value v x) (value v y) b.0.1 m f left right j.2
   judge-covers (choice p c x y) s ks v n m f h e =
       let a = bind_ok (judge s ks c n) _ e in
       let i = bind_ok (operand (spot_of c) a.0.0) _ a.2 in
       let k = judge-covers c s ks v n a.0.1 a.0.0 h a.1 in
-      let o = operand-ok s.widths (cells v.state) (spot_of c) a.0.0 (value v c) (bits_in v c) i.0 h.cells i.1 k in
-      chosen-covers s.widths (cells v.state) (spot_of x) (spot_of y) (judge s ks x) (judge s ks y) a.0.0 f i.0 (value v c) (value v x) (value v y) (bits_in v c) a.0.1 m h.cells k o
+      let o = operand-ok s.widths (cells v.state) (spot_of c) a.0.0 (value v c) (bits_in v c) i.0 h.cells.bits i.1 k in
+      chosen-covers s.widths (cells v.state) (spot_of x) (spot_of y) (judge s ks x) (judge s ks y) a.0.0 f i.0 (value v c) (value v x) (value v y) (bits_in v c) a.0.1 m h.cells.bits k o
       (λ u w g q. (bits_in v x, judge-covers x s ks v u w g h q)) (λ u w g q. (bits_in v y, judge-covers y s ks v u w g h q)) i.2
   judge-covers (call p k xs) s ks v n m f h e =
       let d = bind_ok (step p.inner n) _ e in
       let g = bind_ok (judge_all s ks xs d.0) _ d.2 in
-      h.calls k s.widths (cells v.state) h.cells p g.0.0 (numbers_handed v xs) (all-passed xs s ks v d.0 g.0.1 g.0.0 h g.1) g.0.1 m f g.2
+      h.calls k s.widths (cells v.state) h.cells.bits p g.0.0 (numbers_handed v xs) (all-passed xs s ks v d.0 g.0.1 g.0.0 h g.1) g.0.1 m f g.2
 
   pub all-passed : (xs : Arguments) (s : Sight) (ks : List Kept) (v : meaning.Sight) (n m : Count) (ps : List Passed) → Knows s ks v
       → judge_all s ks xs n ≡ Ok (ps, m) → PassedAll s.widths (cells v.state) ps (numbers_handed v xs)
@@ -292,6 +292,6 @@ mutual
       let a = bind_ok (judge s ks x n) _ e in
       let p = bind_ok (passed (spot_of x) a.0.0) _ a.2 in
       let r = bind_ok (judge_all s ks xs a.0.1) _ p.2 in
-      let first = passed-is s.widths (cells v.state) (spot_of x) a.0.0 (value v x) (bits_in v x) p.0 h.cells p.1 (judge-covers x s ks v n a.0.1 a.0.0 h a.1) in
+      let first = passed-is s.widths (cells v.state) (spot_of x) a.0.0 (value v x) (bits_in v x) p.0 h.cells.bits p.1 (judge-covers x s ks v n a.0.1 a.0.0 h a.1) in
       subst (λ w. PassedAll s.widths (cells v.state) w (numbers_handed v (more x xs))) (ap (λ q. q.0) (same_passed r.2))
       (first, all-passed xs s ks v a.0.1 r.0.1 r.0.0 h r.1)

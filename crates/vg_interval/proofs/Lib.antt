@@ -5,5 +5,6 @@ pub mod Fitting
 pub mod Intervals
 pub mod Judging
 pub mod Operators
+pub mod Parts
 pub mod Uses
 pub mod Words

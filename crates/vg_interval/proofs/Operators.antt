@@ -14,7 +14,6 @@ use Rattle.vg_base.specs.Bits.{num, signed_at}
 use Rattle.vg_base.specs.Number.{residue, floor_shift}
 use Rattle.vg_base.specs.Width.{bits_of}
 use Rattle.vg_base.specs.declared.width.Width.{Width}
-use Rattle.vg_bits.proofs.BitLists.{num-range}
 use Rattle.vg_bits.specs.Range.{range}
 use Rattle.vg_text.specs.declared.place.Place.{Place}
 use Rattle.vg_pseudo.specs.declared.spot.Spot.{Spot}
@@ -41,7 +40,8 @@ use Rattle.vg_interval.specs.Judge as judge
 use Rattle.vg_interval.proofs.Intervals.{In, Fits, IsNatural, IsAmount, le_trans, le_self, fits-in, fit-some, unary-in, binary-in, within-127, mul-pos, signed-in, below-pow, shifted-in, right-in}
 use Rattle.vg_interval.proofs.Ends.{unary-fits, binary-fits, shifted-fits, right-fits, fits_signed, fits_unsigned}
 use Rattle.vg_interval.proofs.Words.{StandsFor, unary-stands, cut-unsigned, cut-signed, Says, comparison-tells, IsPlain, binary-stands, left_by-stands, right_by-stands, shift_left-stands, shift_right-stands, narrow}
-use Rattle.vg_interval.proofs.Covers.{AreCells, IsSlice, IsConstantSlice, IsWithin, Covers, Holds, bits_at_low, bits_at, register_width, bits_small, operand-ok, holds-fits, holds-in, holds-stands, slice-stands}
+use Rattle.vg_interval.proofs.Parts.{num-part}
+use Rattle.vg_interval.proofs.Covers.{AllBits, IsSlice, IsConstantSlice, IsWithin, Covers, Holds, bits_at_low, bits_at, bits_small, operand-ok, holds-fits, holds-in, holds-stands, slice-stands}
 
 -- ---- indices
 
@@ -89,18 +89,18 @@ element-ok place all size (pos k) b e =
 element-ok place all size (negsuc k) b e = absurd (cc)
 
 -- a slice that was found, of a register that may be constant
-pub slice_found-covers : (ws : List ℕ) (c : Cells) (g : Bool) (k : Option ℕ) (r : ℕ) (b : judge.Bits) → AreCells ws c
-    → ((n : ℕ) → k ≡ Some n → num (get_or c.registers r []) ≡ n) → b.low + b.width ≤ get_or ws r 0 → 0 < b.width
+pub slice_found-covers : (ws : List ℕ) (c : Cells) (g : Bool) (k : Option ℕ) (r : ℕ) (b : judge.Bits) → AllBits c.registers
+    → ((n : ℕ) → k ≡ Some n → num (get_or c.registers r []) ≡ n) → 0 < b.width
     → Covers ws c (slice_found g k r b) (read g (bits_at_low c r (at b.low) b.width)) (Some (bits_at_low c r (at b.low) b.width))
-slice_found-covers ws c g None r b cs same inside some = record {
-  slice = record { formed = inside; some = some; inside = inside };
+slice_found-covers ws c g None r b cs same some = record {
+  slice = record { formed = tt; some = some };
   value = refl;
   bits = refl;
 }
-slice_found-covers ws c g (Some n) r b cs same inside some =
+slice_found-covers ws c g (Some n) r b cs same some =
     let x = get_or c.registers r [] in
     let e : num (range b.low b.width x) ≡ num x / 2 ^ b.low % 2 ^ b.width =
-    num-range b.low b.width x (bits_at c.registers r cs.bits) (omega (arith, inside, register_width ws c r cs)) in
+    num-part b.low b.width x (bits_at c.registers r cs) in
     let f : num (range b.low b.width x) ≡ n / 2 ^ b.low % 2 ^ b.width = e ∙ ap (λ v. v / 2 ^ b.low % 2 ^ b.width) (same n refl) in
     rw f (constant_slice g (n / 2 ^ b.low % 2 ^ b.width) b.width some (mod_below (n / 2 ^ b.low) (2 ^ b.width) (pow_pos b.width)))
   where
@@ -130,7 +130,7 @@ known_is : (ws : List ℕ) (c : Cells) (y : ℤ) (w : Option ℕ) (z : ℤ) (b :
 known_is ws c y None z b h = h.0
 known_is ws c y (Some w) z b h = h.same
 
-pub index-is : (ws : List ℕ) (c : Cells) (s : Spot) (f : Found) (z : ℤ) (b : Option Bits) (i : Index) → AreCells ws c
+pub index-is : (ws : List ℕ) (c : Cells) (s : Spot) (f : Found) (z : ℤ) (b : Option Bits) (i : Index) → AllBits c.registers
     → index_of s f ≡ Ok i → Covers ws c f z b → IndexIs ws c i z
 index-is ws c s (known y w) z b i cs e h = subst (λ v. IndexIs ws c v z) (same_index e) (known_is ws c y w z b h)
 index-is ws c s (found.read g r l w) z b i cs e h =
@@ -179,14 +179,13 @@ same_width e = cc
 signed-read : (w n : ℕ) → 0 < w → n < 2 ^ w → In (signed_span w) (signed_at w n)
 signed-read w n some h = signed-in w n some h
 
-pub moving_slice-covers : (ws : List ℕ) (c : Cells) (place : Place) (g : Bool) (r size width : ℕ) (k : ℤ) (a : Option Operand) (f : Found)
-    → AreCells ws c → get_or ws r 0 ≤ 2 ^ 127 → (0 < size → 0 < width) → IndexIs ws c (unsettled a) k
-    → moving_slice place (get_or ws r 0) g r size width a ≡ Ok f
+pub moving_slice-covers : (ws : List ℕ) (c : Cells) (place : Place) (all : ℕ) (g : Bool) (r size width : ℕ) (k : ℤ) (a : Option Operand) (f : Found)
+    → AllBits c.registers → all ≤ 2 ^ 127 → (0 < size → 0 < width) → IndexIs ws c (unsettled a) k
+    → moving_slice place all g r size width a ≡ Ok f
     → IsNatural k × Covers ws c f (read g (record { width = width; number = bits_read c r (natural k * size) width }))
     (Some (record { width = width; number = bits_read c r (natural k * size) width }))
-moving_slice-covers ws c place g r size width k None f cs most some h e = absurd (cc)
-moving_slice-covers ws c place g r size width k (Some a) f cs most some h e =
-    let all = get_or ws r 0 in
+moving_slice-covers ws c place all g r size width k None f cs most some h e = absurd (cc)
+moving_slice-covers ws c place all g r size width k (Some a) f cs most some h e =
     let low = held (script.two terms.Mul 128 (word_of a) (number (pos size))) in
     let p = tested_ok (nat_lt 0 size && lies_inside all width (times size (span_of a))) (ok_found (found.read g r low width)) (IndexOutside place) e in
     let parts = and_parts (nat_lt 0 size) (lies_inside all width (times size (span_of a))) p.0 in
@@ -200,11 +199,11 @@ moving_slice-covers ws c place g r size width k (Some a) f cs most some h e =
     let place_value : low_value c low ≡ m =
     ap (λ v. (v * residue 128 (pos size)) % 2 ^ 128) stands.bits ∙ sym (residue-mul 128 k (pos size)) ∙ ap (residue 128) t.0 ∙ mod-eq_of_lt (omega arith) in
     let s : found.read g r low width ≡ f = same_found p.1 in
-    let word_formed : Formed ws (script.two terms.Mul 128 (word_of a) (number (pos size))) = ((lit< tt, omega arith), (stands.wide, refl), stands.formed, ((lit< tt, omega arith), residue_below 128 (pos size))) in (
+    let word_formed : Formed (script.two terms.Mul 128 (word_of a) (number (pos size))) = ((lit< tt, omega arith), (stands.wide, refl), stands.formed, ((lit< tt, omega arith), residue_below 128 (pos size))) in (
       t.1,
       subst (λ v. Covers ws c v (read g (record { width = width; number = bits_read c r m width })) (Some (record { width = width; number = bits_read c r m width }))) s
           (record {
-            slice = record { formed = (refl, word_formed); some = some (ltb-true 0 size parts.0); inside = rw place_value fits };
+            slice = record { formed = (refl, word_formed); some = some (ltb-true 0 size parts.0) };
             value = ap (λ v. read g (record { width = width; number = bits_read c r v width })) (sym place_value);
             bits = ap (λ v. Some (record { width = width; number = bits_read c r v width })) (sym place_value);
           }),
@@ -243,21 +242,21 @@ abbrev Narrow : ℕ → Found → Type 0
 Narrow n (found.read q r l w) = w ≤ n
 Narrow n f = Unit {0}
 
-again : (ws : List ℕ) (c : Cells) (g : Bool) (r : ℕ) (l : Low) (v : ℕ) → AreCells ws c → v ≤ 128 → (g ≡ false → v ≤ 127) → IsSlice ws c r l v
+again : (ws : List ℕ) (c : Cells) (g : Bool) (r : ℕ) (l : Low) (v : ℕ) → AllBits c.registers → v ≤ 128 → (g ≡ false → v ≤ 127) → IsSlice l v
     → IsWithin ws c (if g then signed_span v else unsigned_span v) (slice_word g r l v) (read g (bits_at_low c r l v))
 again ws c true r l v cs m n s = record {
-  inside = signed-read v _ s.some (bits_small ws c r _ v cs);
+  inside = signed-read v _ s.some (bits_small c r _ v cs);
   ends = fits_signed v m;
   stands = slice-stands ws c true r l v cs s m;
 }
 again ws c false r l v cs m n s = record {
-  inside = below-pow v _ (bits_small ws c r _ v cs);
+  inside = below-pow v _ (bits_small c r _ v cs);
   ends = fits_unsigned v (n refl);
   stands = slice-stands ws c false r l v cs s m;
 }
 
 -- a slice form read again, as signed or not
-read_again : (ws : List ℕ) (c : Cells) (g : Bool) (f : Found) (w : ℕ) (z : ℤ) (b : Option Bits) → AreCells ws c → Narrow 128 f → (g ≡ false → Narrow 127 f)
+read_again : (ws : List ℕ) (c : Cells) (g : Bool) (f : Found) (w : ℕ) (z : ℤ) (b : Option Bits) → AllBits c.registers → Narrow 128 f → (g ≡ false → Narrow 127 f)
     → width_found f ≡ Some w → Covers ws c f z b → (v : Bits) × (b ≡ Some v) × Made ws c (judge.bits_read g f) (read g v)
 read_again ws c g (known y None) w z b cs most less e h = absurd (cc)
 read_again ws c g (known y (Some v)) w z b cs most less e h = (_, h.bits, (refl, refl))
@@ -286,7 +285,7 @@ no_bits op b z e = rw e (without_bits op z)
 narrow_width : (n : Width) → bits_of n ≤ 127
 narrow_width n = omega (arith, narrow n)
 
-slice_result : (ws : List ℕ) (c : Cells) (g : Bool) (f h : Found) (w : ℕ) (z : ℤ) (b : Option Bits) (op : UnaryOp) → AreCells ws c → Narrow 128 f
+slice_result : (ws : List ℕ) (c : Cells) (g : Bool) (f h : Found) (w : ℕ) (z : ℤ) (b : Option Bits) (op : UnaryOp) → AllBits c.registers → Narrow 128 f
     → (g ≡ false → Narrow 127 f) → width_found f ≡ Some w → Covers ws c f z b → ((v : Bits) → unary_value op (Some v) z ≡ read g v)
     → judge.bits_read g f ≡ h → Made ws c h (unary_value op b z)
 slice_result ws c g f h w z b op cs most less e k value p =
@@ -309,7 +308,7 @@ narrow-found n w (within i x) e h = tt
 narrow-found n w (wide x) e h = tt
 narrow-found n w (loose x) e h = tt
 
-unary_slice : (ws : List ℕ) (c : Cells) (s : Spot) (op : UnaryOp) (f h : Found) (w : ℕ) (a : Operand) (z : ℤ) (b : Option Bits) → AreCells ws c
+unary_slice : (ws : List ℕ) (c : Cells) (s : Spot) (op : UnaryOp) (f h : Found) (w : ℕ) (a : Operand) (z : ℤ) (b : Option Bits) → AllBits c.registers
     → Narrow 128 f → width_found f ≡ Some w → Covers ws c f z b → Holds ws c a z → unary_found s op f (Some w) a ≡ Ok h
     → Made ws c h (unary_value op b z)
 unary_slice ws c s Signed f h w a z b cs most e k o p = slice_result ws c true f h w z b Signed cs most (λ q. absurd (cc)) e k (λ v. refl) (same_found p)
@@ -355,7 +354,7 @@ slice_operand s g r l w a e = elim (cases_lt 128 w) [
     too_wide false t e = none_ok s.outer a (subst (λ b. or_too_wide s.outer (option_map_or (λ i. Some (moving i (slice_word false r l w))) (if b then Some (unsigned_span w) else None) None) ≡ Ok a) (lt-leb w 127 (omega arith)) e)
 
 -- a function or operator of one operand, by what is found of that
-pub unary_at-covers : (ws : List ℕ) (c : Cells) (s : Spot) (op : UnaryOp) (t : Spot) (f h : Found) (z : ℤ) (b : Option Bits) → AreCells ws c
+pub unary_at-covers : (ws : List ℕ) (c : Cells) (s : Spot) (op : UnaryOp) (t : Spot) (f h : Found) (z : ℤ) (b : Option Bits) → AllBits c.registers
     → Covers ws c f z b → unary_at s op t f ≡ Ok h → Made ws c h (unary_value op b z)
 unary_at-covers ws c s op t (known y None) h z b cs k e =
     let a = bind_ok (operand t (known y None)) _ e in

@@ -178,13 +178,13 @@ narrow W64 = (lit< tt, lit< tt)
 pub record StandsFor (ws : List ℕ) (c : Cells) (x : Word) (z : ℤ) : Type 0 where
   pub bits : word_value c x ≡ residue 128 z
   pub wide : width_of x ≡ 128
-  pub formed : Formed ws x
+  pub formed : Formed x
 
 -- a word of one bit says whether something holds
 pub record Tells (ws : List ℕ) (c : Cells) (x : Word) (b : Bool) : Type 0 where
   pub bit : word_value c x ≡ (if b then 1 else 0)
   pub wide : width_of x ≡ 1
-  pub formed : Formed ws x
+  pub formed : Formed x
 
 full : (0 < 128) × (128 ≤ 128)
 full = (lit< tt, omega arith)

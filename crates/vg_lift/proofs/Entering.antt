@@ -14,7 +14,7 @@ use Rattle.vg_shapes.specs.Registers.{AllBits}
 use Rattle.vg_script.specs.Cells.{Cells}
 use Rattle.vg_script.specs.Cells as cell
 use Rattle.vg_lift.specs.Gather.{Bit, clear, inputs_from}
-use Rattle.vg_lift.specs.LaneTerm.{Passed, of_bits, of_number, of_parameter, bits_passed, entered, begun, parameters_from}
+use Rattle.vg_lift.specs.LaneTerm.{Passed, of_bits, of_number, of_parameter, padded, bits_passed, entered, begun, parameters_from}
 use Rattle.vg_lift.proofs.Stands.{bit_value, BitsFormed, RegistersFormed, VariablesFormed, bits_at}
 use Rattle.vg_lift.proofs.Joining.{BitsFormed-append, bit_value-below}
 use Rattle.vg_lift.proofs.Holding.{Lifting, formed-take, map-take, pieces-value, length-pieces, pieces-formed}
@@ -56,16 +56,16 @@ other_digits : (b n : ℕ) → b < 2 → (b + 2 * n) / 2 ≡ n
 other_digits b n h = omega arith
 
 -- the bits of the number of a list are the list, cut or with zeros above it
-padded : (w : ℕ) (l : List ℕ) → IsBits l → bits w (num l) ≡ take w l ++ replicate (w - length l) 0
+number-bits : (w : ℕ) (l : List ℕ) → IsBits l → bits w (num l) ≡ take w l ++ replicate (w - length l) 0
 unfolding bits num
-padded zero [] h = refl
-padded zero (b ∷ l) h = let e : 0 ≡ 0 - suc (length l) = omega arith in ap (λ n. replicate n 0) e
-padded (suc w) [] h = let e : suc w ≡ suc w - 0 = omega arith in bits-zero (suc w) ∙ ap (λ n. replicate n 0) e
-padded (suc w) (b ∷ l) h =
+number-bits zero [] h = refl
+number-bits zero (b ∷ l) h = let e : 0 ≡ 0 - suc (length l) = omega arith in ap (λ n. replicate n 0) e
+number-bits (suc w) [] h = let e : suc w ≡ suc w - 0 = omega arith in bits-zero (suc w) ∙ ap (λ n. replicate n 0) e
+number-bits (suc w) (b ∷ l) h =
     let e : w - length l ≡ suc w - suc (length l) = omega arith in
     ap (λ v. v ∷ bits w ((b + 2 * num l) / 2)) (low_digit b (num l) h.0)
     ∙ ap (λ v. b ∷ bits w v) (other_digits b (num l) h.0)
-    ∙ ap (λ v. b ∷ v) (padded w l h.1)
+    ∙ ap (λ v. b ∷ v) (number-bits w l h.1)
     ∙ ap (λ n. b ∷ (take w l ++ replicate n 0)) e
 
 pub values-bits : (env : Env) (ps : List (List ℕ)) (bs : List Bit) → AllBits ps → IsBits (map (bit_value env ps) bs)
@@ -95,25 +95,34 @@ inputs-formed ps p k (suc n) f = (omega arith, inputs-formed ps p (suc k) n (ome
 whole_width : (w m : ℕ) → w ≡ m → 0 + w ≤ m
 whole_width w m e = omega arith
 
-passed-value : (env : Env) (ps : List (List ℕ)) (w : ℕ) (g : Passed) (n : ℕ) → AllBits ps → PassedFor env ps w g n → map (bit_value env ps) (bits_passed w g) ≡ bits w n
-passed-value env ps w (of_bits bs) n h p =
+-- bits cut to a width, or with zeros above them, are those of their number
+pub padded-value : (env : Env) (ps : List (List ℕ)) (w : ℕ) (bs : List Bit) → AllBits ps → map (bit_value env ps) (padded w bs) ≡ bits w (num (map (bit_value env ps) bs))
+padded-value env ps w bs h =
     map-append (bit_value env ps) (take w bs) (replicate (w - length bs) clear)
     ∙ ap (λ l. l ++ map (bit_value env ps) (replicate (w - length bs) clear)) (map-take (bit_value env ps) w bs)
     ∙ ap (λ l. take w (map (bit_value env ps) bs) ++ l) (clears env ps (w - length bs))
     ∙ ap (λ k. take w (map (bit_value env ps) bs) ++ replicate (w - k) 0) (sym (length-map bs (bit_value env ps)))
-    ∙ sym (padded w (map (bit_value env ps) bs) (values-bits env ps bs h))
-    ∙ ap (bits w) p.1
+    ∙ sym (number-bits w (map (bit_value env ps) bs) (values-bits env ps bs h))
+
+pub padded-long : (w : ℕ) (bs : List Bit) → length (padded w bs) ≡ w
+padded-long w bs = length-append (take w bs) (replicate (w - length bs) clear) ∙ ap (λ n. length (take w bs) + n) (length-clears (w - length bs) clear) ∙ simp (length-take) (omega arith)
+
+pub padded-formed : (ps : List (List ℕ)) (w : ℕ) (bs : List Bit) → BitsFormed ps bs → BitsFormed ps (padded w bs)
+padded-formed ps w bs h = BitsFormed-append ps _ _ (formed-take ps w bs h) (clears-formed ps (w - length bs))
+
+passed-value : (env : Env) (ps : List (List ℕ)) (w : ℕ) (g : Passed) (n : ℕ) → AllBits ps → PassedFor env ps w g n → map (bit_value env ps) (bits_passed w g) ≡ bits w n
+passed-value env ps w (of_bits bs) n h p = padded-value env ps w bs h ∙ ap (bits w) p.1
 passed-value env ps w (of_number m) n h p = pieces-value env ps w m 0 w (omega arith) ∙ ap (bits w) (div-one m ∙ p)
 passed-value env ps w (of_parameter q) n h p =
     inputs-value env ps q 0 w h (whole_width w (length (get_or ps q [])) p.0) ∙ ap (bits w) (div-one (num (get_or ps q [])) ∙ p.1)
 
 pub passed-long : (w : ℕ) (g : Passed) → length (bits_passed w g) ≡ w
-passed-long w (of_bits bs) = length-append (take w bs) (replicate (w - length bs) clear) ∙ ap (λ n. length (take w bs) + n) (length-clears (w - length bs) clear) ∙ simp (length-take) (omega arith)
+passed-long w (of_bits bs) = padded-long w bs
 passed-long w (of_number m) = length-pieces w m 0 w
 passed-long w (of_parameter q) = length-inputs q 0 w
 
 passed-formed : (env : Env) (ps : List (List ℕ)) (w : ℕ) (g : Passed) (n : ℕ) → PassedFor env ps w g n → BitsFormed ps (bits_passed w g)
-passed-formed env ps w (of_bits bs) n p = BitsFormed-append ps _ _ (formed-take ps w bs p.0) (clears-formed ps (w - length bs))
+passed-formed env ps w (of_bits bs) n p = padded-formed ps w bs p.0
 passed-formed env ps w (of_number m) n p = pieces-formed ps w m 0 w (omega arith)
 passed-formed env ps w (of_parameter q) n p = inputs-formed ps q 0 w (whole_width w (length (get_or ps q [])) p.0)
 

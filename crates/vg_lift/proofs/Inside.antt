@@ -13,7 +13,7 @@ use Rattle.vg_script.specs.Script.{Word, Low, at, held, Frame, frame, Given, not
 use Rattle.vg_script.specs.Script as word
 use Rattle.vg_lift.specs.Gather.{Bit, clear, input, of_term, Run, zeros, inputs, terms, start, size, longer, continues, shifted, whole, gather_from, gather, bits_from, inputs_from}
 use Rattle.vg_lift.specs.Join.{is_same_bit, Open, shut, differ, closed, goes_on, opened, join_from, join, join_registers, join_variables}
-use Rattle.vg_lift.specs.LaneTerm.{State, pieces, Passed, of_bits, of_number, of_parameter, bits_passed, entered, begun, joined, first_bit, with_bits, term, left_by, passed, lifted, lifted_arm, parameters_from, first_state}
+use Rattle.vg_lift.specs.LaneTerm.{State, pieces, Passed, of_bits, of_number, of_parameter, padded, part, bits_passed, entered, begun, joined, first_bit, with_bits, term, left_by, passed, lifted, lifted_arm, parameters_from, first_state}
 use Rattle.vg_lift.specs.Means.{LeavesAreParameters}
 
 abbrev BitInside : List ℕ → Bit → Type 0
@@ -106,6 +106,12 @@ drop-inside vs (suc n) (x ∷ l) h = drop-inside vs n l h.1
 
 range-inside : (vs : List ℕ) (l w : ℕ) (bs : List Bit) → BitsInside vs bs → BitsInside vs (range l w bs)
 range-inside vs l w bs h = take-inside vs w (drop l bs) (drop-inside vs l bs h)
+
+padded-inside : (vs : List ℕ) (w : ℕ) (bs : List Bit) → BitsInside vs bs → BitsInside vs (padded w bs)
+padded-inside vs w bs h = append-inside vs _ _ (take-inside vs w bs h) (clears-inside vs (w - length bs))
+
+part-inside : (vs : List ℕ) (l w : ℕ) (bs : List Bit) → BitsInside vs bs → BitsInside vs (part l w bs)
+part-inside vs l w bs h = padded-inside vs w (range l w bs) (range-inside vs l w bs h)
 
 replaced-inside : (vs : List ℕ) (l : ℕ) (new bs : List Bit) → BitsInside vs new → BitsInside vs bs → BitsInside vs (replaced l new bs)
 replaced-inside vs l new bs g h =
@@ -218,7 +224,7 @@ AllInside vs (w ∷ ws) [] = Unit {0}
 AllInside vs (w ∷ ws) (p ∷ ps) = PassedInside vs w p × AllInside vs ws ps
 
 bits_passed-inside : (vs : List ℕ) (w : ℕ) (p : Passed) → PassedInside vs w p → BitsInside vs (bits_passed w p)
-bits_passed-inside vs w (of_bits bs) h = append-inside vs _ _ (take-inside vs w bs h) (clears-inside vs (w - length bs))
+bits_passed-inside vs w (of_bits bs) h = padded-inside vs w bs h
 bits_passed-inside vs w (of_number n) h = pieces-inside vs w n 0 w
 bits_passed-inside vs w (of_parameter p) h = inputs_from-inside vs p 0 w (omega arith)
 
@@ -243,7 +249,7 @@ begun-inside vs ws n ps h = record { registers = entered-inside vs ws ps h; vari
 mutual
   term-inside : (vs : List ℕ) (s : State) (x : Word) → StateInside vs s → LeavesInside vs (term s x)
   term-inside vs s (word.constant w v) h = tt
-  term-inside vs s (word.slice r l w) h = gather-inside vs _ (range-inside vs (first_bit l) w (get_or s.registers r []) (register-inside vs s.registers r h.registers))
+  term-inside vs s (word.slice r l w) h = gather-inside vs _ (part-inside vs (first_bit l) w (get_or s.registers r []) (register-inside vs s.registers r h.registers))
   term-inside vs s (word.variable k) h = variable-inside vs s.variables k h.variables
   term-inside vs s (word.one op w k x) h = term-inside vs s x h
   term-inside vs s (word.two op w x y) h = (term-inside vs s x h, term-inside vs s y h)
@@ -271,10 +277,10 @@ mutual
   lifted-inside vs stop s h = h
   lifted-inside vs (put r l w x) s h = with-inside vs r l _ s (bits_from-inside vs (low w (term s x)) 0 w (low-inside vs w (term s x) (term-inside vs s x h))) h
   lifted-inside vs (fill r l w z) s h = with-inside vs r l _ s (pieces-inside vs w _ 0 w) h
-  lifted-inside vs (copy r l w q m) s h = with-inside vs r l _ s (range-inside vs (first_bit m) w (get_or s.registers q []) (register-inside vs s.registers q h.registers)) h
+  lifted-inside vs (copy r l w q m) s h = with-inside vs r l _ s (part-inside vs (first_bit m) w (get_or s.registers q []) (register-inside vs s.registers q h.registers)) h
   lifted-inside vs (copy_from r l w f q m) s h =
       let left = left-inside vs s f h in
-      with-inside vs r l _ s (range-inside vs (first_bit m) w (get_or (left_by s f).registers q []) (register-inside vs (left_by s f).registers q left.registers)) h
+      with-inside vs r l _ s (part-inside vs (first_bit m) w (get_or (left_by s f).registers q []) (register-inside vs (left_by s f).registers q left.registers)) h
   lifted-inside vs (give k x) s h = record { registers = h.registers; variables = set-variables vs s.variables k (term s x) h.variables (term-inside vs s x h) }
   lifted-inside vs (both x y) s h = lifted-inside vs y (lifted x s) (lifted-inside vs x s h)
   lifted-inside vs (branch ways) s h = lifted-inside vs ways s h

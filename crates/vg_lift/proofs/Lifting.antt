@@ -22,14 +22,17 @@ use Rattle.vg_script.specs.Script.{Word, Low, at, held, Frame, frame, Given, not
 use Rattle.vg_script.specs.Script as word
 use Rattle.vg_script.specs.Cells.{Cells, word_value, behind, numbers_given, bits_read, absolute_value, after, after_arm}
 use Rattle.vg_script.specs.Formed.{Formed, FrameFormed, GivenFormed, ScriptFormed, frame_widths}
-use Rattle.vg_lift.specs.Gather.{bits_from}
-use Rattle.vg_lift.specs.LaneTerm.{State, absolute_term, term, left_by, passed, lifted, lifted_arm}
+use Rattle.vg_lift.specs.Gather.{bits_from, gather}
+use Rattle.vg_lift.specs.LaneTerm.{State, part, absolute_term, term, left_by, passed, lifted, lifted_arm}
 use Rattle.vg_range_laws.specs.Static.{IsStaticWord, IsStaticFrame, IsStaticGiven, IsStatic}
 use Rattle.vg_lift.proofs.Stands.{bit_value, BitsFormed}
 use Rattle.vg_lift.proofs.Joining.{bits_from-value, length-bits_from, bits_from-formed}
-use Rattle.vg_lift.proofs.Holding.{Lifting, Gathered, slice-lifts, slice-bits, slice-formed, slice-long, joined-lifts, puts-lifts, low-bits, set-terms, pieces-value, length-pieces, pieces-formed, variable_value, variable_formed}
-use Rattle.vg_lift.proofs.Entering.{AllPassed, begun-lifts, values-bits}
-use Rattle.vg_bits.proofs.BitLists.{bits-num}
+use Rattle.vg_lift.proofs.Holding.{Lifting, Gathered, slice-bits, slice-formed, joined-lifts, puts-lifts, low-bits, set-terms, pieces-value, length-pieces, pieces-formed, variable_value, variable_formed}
+use Rattle.vg_lift.proofs.Holding as holding
+use Rattle.vg_lift.proofs.Gathering.{gather-value, gather-width, gather-formed}
+use Rattle.vg_lift.proofs.Entering.{AllPassed, begun-lifts, values-bits, padded-value, padded-long, padded-formed}
+use Rattle.vg_bits.specs.BitList.{IsBits}
+use Rattle.vg_bits.proofs.BitLists.{num-range_below}
 
 -- ---- how many variables there are
 
@@ -119,23 +122,46 @@ whole-bits env ps t v p =
 whole-formed : (env : Env) (ps : List (List ℕ)) (t : Tree) (v : ℕ) → Gathered env t 128 v → BitsFormed ps (bits_from t 0 128)
 whole-formed env ps t v p = bits_from-formed ps t 0 128 p.formed (omega (arith, p.width))
 
--- the bits of a slice are those of its number
-moved-bits : (env : Env) (ps : List (List ℕ)) (ws : List ℕ) (s : State) (c : Cells) (q n w : ℕ) → AllBits ps → Lifting env ps ws s c → n + w ≤ get_or ws q 0
-    → map (bit_value env ps) (range n w (get_or s.registers q [])) ≡ bits w (bits_read c q n w)
-moved-bits env ps ws s c q n w b h f =
-    let l = range n w (get_or s.registers q []) in
-    let m = map (bit_value env ps) l in
-    sym (bits-num m (values-bits env ps l b))
-    ∙ ap (λ k. bits k (num m)) (length-map l (bit_value env ps) ∙ slice-long env ps ws s c q n w h f)
-    ∙ ap (λ k. bits w (num k)) (slice-bits env ps ws s c q n w h)
+-- ---- so many bits of a register from a bit on
+
+part-bits : (env : Env) (ps : List (List ℕ)) (ws : List ℕ) (s : State) (c : Cells) (q n w : ℕ) → AllBits ps → Lifting env ps ws s c
+    → map (bit_value env ps) (part n w (get_or s.registers q [])) ≡ bits w (bits_read c q n w)
+part-bits env ps ws s c q n w b h =
+    padded-value env ps w (range n w (get_or s.registers q [])) b ∙ ap (λ k. bits w (num k)) (slice-bits env ps ws s c q n w h)
+
+part-long : (s : State) (q n w : ℕ) → length (part n w (get_or s.registers q [])) ≡ w
+part-long s q n w = padded-long w (range n w (get_or s.registers q []))
+
+part-formed : (env : Env) (ps : List (List ℕ)) (ws : List ℕ) (s : State) (c : Cells) (q n w : ℕ) → Lifting env ps ws s c
+    → BitsFormed ps (part n w (get_or s.registers q []))
+part-formed env ps ws s c q n w h = padded-formed ps w (range n w (get_or s.registers q [])) (slice-formed env ps ws s c q n w h)
+
+-- the number that is read has the bits of a slice
+read-below : (env : Env) (ps : List (List ℕ)) (ws : List ℕ) (s : State) (c : Cells) (q n w : ℕ) → AllBits ps → Lifting env ps ws s c → bits_read c q n w < 2 ^ w
+read-below env ps ws s c q n w b h =
+    let same = sym (holding.at (bit_value env ps) s.registers q) ∙ ap (λ v. get_or v q []) h.registers in
+    num-range_below n w (get_or c.registers q []) (subst IsBits same (values-bits env ps (get_or s.registers q []) b))
+
+part-lifts : (env : Env) (ps : List (List ℕ)) (ws : List ℕ) (s : State) (c : Cells) (q n w : ℕ) → Reads env ps → AllBits ps → Lifting env ps ws s c → IsWidth w
+    → Gathered env (gather (part n w (get_or s.registers q []))) w (bits_read c q n w)
+part-lifts env ps ws s c q n w reads b h i =
+    let bs = part n w (get_or s.registers q []) in
+    let good = part-formed env ps ws s c q n w h in
+    let long = part-long s q n w in
+    record {
+      same = gather-value env ps bs reads good ∙ ap num (part-bits env ps ws s c q n w b h) ∙ num-bits w (bits_read c q n w)
+          ∙ mod-eq_of_lt (read-below env ps ws s c q n w b h);
+      formed = gather-formed ps bs good (omega (arith, i.0, long)) (omega (arith, i.1, long));
+      width = gather-width bs ∙ long;
+    }
 
 -- ---- words and statements
 
 mutual
-  pub term-lifts : (env : Env) (ps : List (List ℕ)) (ws : List ℕ) (s : State) (c : Cells) (x : Word) → Reads env ps → AllBits ps → Lifting env ps ws s c → Formed ws x → IsStaticWord x
+  pub term-lifts : (env : Env) (ps : List (List ℕ)) (ws : List ℕ) (s : State) (c : Cells) (x : Word) → Reads env ps → AllBits ps → Lifting env ps ws s c → Formed x → IsStaticWord x
       → Gathered env (term s x) (word.width_of x) (word_value c x)
   term-lifts env ps ws s c (word.constant w v) reads b h f e = record { same = refl; formed = f; width = refl }
-  term-lifts env ps ws s c (word.slice r (at l) w) reads b h f e = slice-lifts env ps ws s c r l w reads h f.0 f.1
+  term-lifts env ps ws s c (word.slice r (at l) w) reads b h f e = part-lifts env ps ws s c r l w reads b h f.0
   term-lifts env ps ws s c (word.slice r (held x) w) reads b h f e = absurd e
   term-lifts env ps ws s c (word.variable k) reads b h f e = record {
     same = sym (variable_value env s.variables k) ∙ ap (λ v. get_or v k 0) h.variables;
@@ -162,12 +188,12 @@ mutual
   term-lifts env ps ws s c (word.block f x) reads b h g e =
       term-lifts env ps (frame_widths f) (left_by s f) (behind c f) x reads b (left-lifts env ps ws s c f reads b h g.0 e.0) g.1 e.1
 
-  left-lifts : (env : Env) (ps : List (List ℕ)) (ws : List ℕ) (s : State) (c : Cells) (f : Frame) → Reads env ps → AllBits ps → Lifting env ps ws s c → FrameFormed ws f → IsStaticFrame f
+  left-lifts : (env : Env) (ps : List (List ℕ)) (ws : List ℕ) (s : State) (c : Cells) (f : Frame) → Reads env ps → AllBits ps → Lifting env ps ws s c → FrameFormed f → IsStaticFrame f
       → Lifting env ps (frame_widths f) (left_by s f) (behind c f)
   left-lifts env ps ws s c (frame vs n g t) reads b h f e =
       lifted-lifts t env ps vs _ _ reads b f.1 e.1 (begun-lifts env ps vs n (passed s g) (numbers_given c g) b (given-lifts env ps ws s c g vs reads b h f.0 e.0))
 
-  given-lifts : (env : Env) (ps : List (List ℕ)) (ws : List ℕ) (s : State) (c : Cells) (g : Given) (vs : List ℕ) → Reads env ps → AllBits ps → Lifting env ps ws s c → GivenFormed ws g → IsStaticGiven g
+  given-lifts : (env : Env) (ps : List (List ℕ)) (ws : List ℕ) (s : State) (c : Cells) (g : Given) (vs : List ℕ) → Reads env ps → AllBits ps → Lifting env ps ws s c → GivenFormed g → IsStaticGiven g
       → AllPassed env ps vs (passed s g) (numbers_given c g)
   given-lifts env ps ws s c nothing [] reads b h f e = tt
   given-lifts env ps ws s c nothing (v ∷ vs) reads b h f e = tt
@@ -195,13 +221,13 @@ mutual
       puts-lifts env ps ws s c r m w _ _ h f.1 (length-pieces w (residue w z) 0 w) (pieces-formed ps w (residue w z) 0 w (omega arith))
       (pieces-value env ps w (residue w z) 0 w (omega arith) ∙ ap (bits w) (div-one (residue w z)))
   lifted-lifts (copy r m w q (at n)) env ps ws s c reads b f e h =
-      puts-lifts env ps ws s c r m w _ _ h f.1 (slice-long env ps ws s c q n w h f.2) (slice-formed env ps ws s c q n w h) (moved-bits env ps ws s c q n w b h f.2)
+      puts-lifts env ps ws s c r m w _ _ h f.1 (part-long s q n w) (part-formed env ps ws s c q n w h) (part-bits env ps ws s c q n w b h)
   lifted-lifts (copy r m w q (held x)) env ps ws s c reads b f e h = absurd e
   lifted-lifts (copy_from r m w g q (at n)) env ps ws s c reads b f e h =
       let left = left-lifts env ps ws s c g reads b h f.2 e.0 in
-      puts-lifts env ps ws s c r m w _ _ h f.1 (slice-long env ps (frame_widths g) (left_by s g) (behind c g) q n w left f.3)
-      (slice-formed env ps (frame_widths g) (left_by s g) (behind c g) q n w left)
-      (moved-bits env ps (frame_widths g) (left_by s g) (behind c g) q n w b left f.3)
+      puts-lifts env ps ws s c r m w _ _ h f.1 (part-long (left_by s g) q n w)
+      (part-formed env ps (frame_widths g) (left_by s g) (behind c g) q n w left)
+      (part-bits env ps (frame_widths g) (left_by s g) (behind c g) q n w b left)
   lifted-lifts (copy_from r m w g q (held x)) env ps ws s c reads b f e h = absurd e.1
   lifted-lifts (give k x) env ps ws s c reads b f e h =
       let p = term-lifts env ps ws s c x reads b h f.1 e in

@@ -1,22 +1,26 @@
 -- What is put into a state.
-use Rattle.std.proofs.Common.{◌≡◌, ℕ, zero, suc, ◌++◌, ◌+◌, ◌<◌, ◌≤◌, refl, sym, ap, ◌∙◌, subst, arith, inl, inr, List, [], ◌∷◌, length, get_or, set, take, drop, length-append, length-take, length-drop}
+use Rattle.std.proofs.Common.{◌≡◌, ℕ, zero, suc, ◌++◌, ◌+◌, ◌-◌, ◌<◌, ◌≤◌, refl, sym, ap, ◌∙◌, subst, arith, inl, inr, List, [], ◌∷◌, length, get_or, set, take, drop, min, replicate, length-append, length-take, length-drop}
 use Rattle.std.specs.Prelude.{map, slice_get, Some, None}
 use Rattle.std.proofs.lemmas.Bool.{cases_lt}
 use Rattle.std.proofs.lemmas.Option.{slice_get_within, slice_get-get_or, get_or_from_slice_get}
-use Rattle.std.proofs.lemmas.List.{map-set, length-set}
+use Rattle.std.proofs.lemmas.List.{map-set, length-set, take_min, drop_min}
 use Rattle.vg_bits.specs.Range.{range, replaced}
 use Rattle.vg_terms.specs.Term.{constant, width_of}
 use Rattle.vg_pool.specs.declared.content.Content.{Content}
 use Rattle.vg_pool.specs.Pool.{Keeps, StandsFor, tree_at}
 use Rattle.vg_lift.specs.Gather.{bits_from, gather}
-use Rattle.vg_lift.specs.LaneTerm.{with_bits}
+use Rattle.vg_lift.specs.LaneTerm as lane
+use Rattle.vg_lift.specs.LaneTerm.{part, with_bits}
 use Rattle.vg_lift.specs.declared.bit.Bit.{Bit}
+use Rattle.vg_lift.specs.declared.bit.Bit.TheVariants.{Clear}
 use Rattle.vg_lift.specs.declared.state.State.{State}
 use Rattle.vg_lift.specs.States.{AllFit, AreNodes, Leaves, StateFits, state_of, widths_in, with_variable}
 use Rattle.vg_lift.specs.Views.{BitsFit, IsNode, bits_of, node_bits}
 use Rattle.vg_lift.proofs.Nodes.{append_of, append_fit, node_bits-of, node_bits-fit, length_bits_of}
 use Rattle.vg_lift.proofs.Gathering.{gather-width}
-use Rattle.vg_lift.proofs.StateSteps.{node_at, all_kept, trees_kept, registers_kept, nodes_kept, state_at, register_at, range_of, range_fits, range_length, take_of, drop_of, take_fits, drop_fits}
+use Rattle.vg_lift.proofs.Begins.{padded_of, padded_fits}
+use Rattle.vg_lift.proofs.Entering.{length-clears}
+use Rattle.vg_lift.proofs.StateSteps.{node_at, all_kept, trees_kept, registers_kept, nodes_kept, state_at, register_at, range_of, range_fits, take_of, drop_of, take_fits, drop_fits}
 
 -- ---- a state over a pool that has grown
 
@@ -45,20 +49,38 @@ bits_at pool [] i = refl
 bits_at pool (r ∷ rs) zero = refl
 bits_at pool (r ∷ rs) (suc i) = bits_at pool rs i
 
--- so many bits of a register
-pub part_is : (pool : List Content) (s : State) (i l w : ℕ) (bits : List Bit) → bits ≡ range l w (get_or s.registers.items i [])
+-- a list has no more members than it has
+pub drop_most : (n : ℕ) (bits : List Bit) → drop (min n (length bits)) bits ≡ drop n bits
+drop_most n bits = drop_min n bits
+
+pub take_most : (n : ℕ) (bits : List Bit) → take (min n (length bits)) bits ≡ take n bits
+take_most n bits = take_min n bits
+
+-- so many bits of a register, but those past its end
+pub slice_is : (pool : List Content) (s : State) (i l w : ℕ) (bits : List Bit) → bits ≡ range l w (get_or s.registers.items i [])
     → bits_of pool bits ≡ range l w (get_or (state_of pool s).registers i [])
-part_is pool s i l w bits e =
+slice_is pool s i l w bits e =
     let x = get_or s.registers.items i [] in
     ap (bits_of pool) e ∙ range_of pool l w x ∙ ap (range l w) (sym (bits_at pool s.registers.items i))
 
-pub part_fits : (pool : List Content) (s : State) (i l w : ℕ) (bits : List Bit) → StateFits pool s → bits ≡ range l w (get_or s.registers.items i []) → BitsFit pool bits
-part_fits pool s i l w bits h e =
+pub slice_fits : (pool : List Content) (s : State) (i l w : ℕ) (bits : List Bit) → StateFits pool s → bits ≡ range l w (get_or s.registers.items i []) → BitsFit pool bits
+slice_fits pool s i l w bits h e =
     let x = get_or s.registers.items i [] in
     subst (BitsFit pool) (sym e) (range_fits pool l w x (register_at pool s.registers.items i h.registers))
 
-pub part_count : (s : State) (i l w : ℕ) (bits : List Bit) → l + w ≤ get_or (widths_in s) i 0 → bits ≡ range l w (get_or s.registers.items i []) → length bits ≡ w
-part_count s i l w bits inside e = ap length e ∙ range_length l w (get_or s.registers.items i []) (omega (arith, inside, width_at s i))
+-- so many bits of a register, and zeros past its end
+pub part_is : (pool : List Content) (s : State) (i l w : ℕ) (cut bits : List Bit) → cut ≡ range l w (get_or s.registers.items i [])
+    → bits ≡ take w cut ++ replicate (w - length cut) Clear → bits_of pool bits ≡ part l w (get_or (state_of pool s).registers i [])
+part_is pool s i l w cut bits e f = ap (bits_of pool) f ∙ padded_of pool w cut ∙ ap (lane.padded w) (slice_is pool s i l w cut e)
+
+pub part_fits : (pool : List Content) (s : State) (i l w : ℕ) (cut bits : List Bit) → StateFits pool s → cut ≡ range l w (get_or s.registers.items i [])
+    → bits ≡ take w cut ++ replicate (w - length cut) Clear → BitsFit pool bits
+part_fits pool s i l w cut bits h e f = subst (BitsFit pool) (sym f) (padded_fits pool w cut (slice_fits pool s i l w cut h e))
+
+pub part_count : (w : ℕ) (cut bits : List Bit) → bits ≡ take w cut ++ replicate (w - length cut) Clear → length bits ≡ w
+part_count w cut bits f =
+    ap length f ∙ length-append (take w cut) (replicate (w - length cut) Clear)
+    ∙ ap (λ n. length (take w cut) + n) (length-clears (w - length cut) Clear) ∙ simp (length-take) (omega arith)
 
 -- the node of gathered bits has their width
 pub gathered_wide : (old new : List Content) (bits : List Bit) (node w : ℕ) → StandsFor new node (gather (bits_of old bits)) → length bits ≡ w → IsNode new node w

@@ -38,9 +38,13 @@ pub data Passed : Type 0 where
   of_number : ℕ → Passed
   of_parameter : ℕ → Passed
 
--- the bits that a register of a width then has: bits are cut to the width, or zeros stand above them
+-- bits cut to a width, or zeros above them
+abbrev pub padded : ℕ → List Bit → List Bit
+padded w bs = take w bs ++ replicate (w - length bs) clear
+
+-- the bits that a register of a width then has
 abbrev pub bits_passed : ℕ → Passed → List Bit
-bits_passed w (of_bits bs) = take w bs ++ replicate (w - length bs) clear
+bits_passed w (of_bits bs) = padded w bs
 bits_passed w (of_number n) = pieces w n 0 w
 bits_passed w (of_parameter p) = inputs_from p 0 w
 
@@ -77,6 +81,10 @@ joined c s t = record {
   variables = join_variables c s.variables t.variables;
 }
 
+-- so many bits of a register from a bit on; past its end are zeros
+abbrev pub part : ℕ → ℕ → List Bit → List Bit
+part l w bs = padded w (range l w bs)
+
 -- the bit at which a slice begins; an instance that has lanes has no place that a word says
 abbrev pub first_bit : Low → ℕ
 first_bit (at n) = n
@@ -86,7 +94,7 @@ abbrev mutual
   -- The term of a word. An instance that has lanes has no shift by a word.
   pub term : State → Word → Tree
   term s (script.constant w v) = constant w v
-  term s (script.slice r l w) = gather (range (first_bit l) w (get_or s.registers r []))
+  term s (script.slice r l w) = gather (part (first_bit l) w (get_or s.registers r []))
   term s (script.variable k) = get_or s.variables k (constant 128 0)
   term s (script.one op w k x) = one op w k (term s x)
   term s (script.two op w x y) = two op w (term s x) (term s y)
@@ -113,9 +121,9 @@ abbrev mutual
   lifted (put r l w x) s = with_bits r l (bits_from (low w (term s x)) 0 w) s
   lifted (fill r l w z) s = with_bits r l (pieces w (residue w z) 0 w) s
   lifted (copy r l w q m) s =
-      with_bits r l (range (first_bit m) w (get_or s.registers q [])) s
+      with_bits r l (part (first_bit m) w (get_or s.registers q [])) s
   lifted (copy_from r l w f q m) s =
-      with_bits r l (range (first_bit m) w (get_or (left_by s f).registers q [])) s
+      with_bits r l (part (first_bit m) w (get_or (left_by s f).registers q [])) s
   lifted (give k x) s =
       record { registers = s.registers; variables = set s.variables k (term s x) }
   lifted (both x y) s = lifted y (lifted x s)

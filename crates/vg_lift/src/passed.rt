@@ -40,7 +40,11 @@ pub(crate) fn push_clears(bits: &mut Vec<Bit>, count: usize) -> Result<(), Alloc
 
 /// Bits cut to a width, or zeros above them.
 #[tactic(auto, using(crate::proofs::Begins::padded_is))]
-fn padded_bits(alloc: Global, bits: &[Bit], width: usize) -> Result<Items<Bit>, AllocError>
+pub(crate) fn padded_bits(
+    alloc: Global,
+    bits: &[Bit],
+    width: usize,
+) -> Result<Items<Bit>, AllocError>
     ensures { IfOk result (λ v. v ≡ take width bits.now ++ replicate (width - length bits.now) Clear) }
 {
     let count = width.min(bits.len());

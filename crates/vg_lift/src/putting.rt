@@ -8,7 +8,7 @@ ghost use Rattle.vg_script.specs.Views.{number_of};
 ghost use Rattle.vg_terms.specs.Resize.{low};
 ghost use Rattle.vg_terms.specs.Term.{IsWidth};
 ghost use Rattle.vg_lift.specs.Gather.{bits_from, gather};
-ghost use Rattle.vg_lift.specs.LaneTerm.{pieces, with_bits};
+ghost use Rattle.vg_lift.specs.LaneTerm.{part, pieces, with_bits};
 ghost use Rattle.vg_lift.specs.States.{Leaves, StateFits, state_of, widths_in, with_variable};
 ghost use Rattle.vg_lift.specs.Views.{BitsFit, IsNode, bits_of};
 
@@ -16,6 +16,7 @@ use crate::bit::Bit;
 use crate::constant::constant_bits;
 use crate::gather::gather;
 use crate::join::push_bits;
+use crate::passed::padded_bits;
 use crate::run::low_node;
 use crate::state::{State, copy_bits};
 use std::alloc::{AllocError, Global};
@@ -48,8 +49,27 @@ fn bit_of(bit: u128) -> Result<usize, AllocError>
     }
 }
 
-/// So many bits of a register from a bit on.
-#[tactic(auto, using(crate::proofs::Puts::width_at, crate::proofs::Puts::part_is, crate::proofs::Puts::part_fits, crate::proofs::Puts::part_count, crate::proofs::Puts::gathered_wide))]
+/// So many bits of a register from a bit on, but those past its end.
+#[tactic(auto, using(crate::proofs::Puts::slice_is, crate::proofs::Puts::slice_fits))]
+pub(crate) fn moved_bits(
+    pool: &Pool,
+    alloc: Global,
+    state: &State,
+    register: usize,
+    first: u128,
+    width: u128,
+) -> Result<Items<Bit>, AllocError>
+    requires { StateFits pool.now state.now }
+    ensures is { IfOk result (λ v. bits_of pool.now v ≡
+        range first width (get_or (state_of pool.now state.now).registers register [])) }
+    ensures fit { IfOk result (λ v. BitsFit pool.now v) }
+{
+    let bits = copy_bits(alloc, state.slice(register, first, width))?;
+    Ok(bits)
+}
+
+/// So many bits of a register from a bit on; past its end are zeros.
+#[tactic(auto, using(crate::proofs::Puts::part_is, crate::proofs::Puts::part_fits, crate::proofs::Puts::part_count))]
 pub(crate) fn part_of(
     pool: &Pool,
     alloc: Global,
@@ -58,24 +78,23 @@ pub(crate) fn part_of(
     first: u128,
     width: u128,
 ) -> Result<Items<Bit>, AllocError>
-    requires fits { StateFits pool.now state.now }
-    requires inside { first + width ≤ get_or (widths_in state.now) register 0 }
+    requires { StateFits pool.now state.now }
     ensures is { IfOk result (λ v. bits_of pool.now v ≡
-        range first width (get_or (state_of pool.now state.now).registers register [])) }
+        part first width (get_or (state_of pool.now state.now).registers register [])) }
     ensures fit { IfOk result (λ v. BitsFit pool.now v) }
     ensures count { IfOk result (λ v. length v ≡ width) }
 {
-    let first = bit_of(first)?;
-    let width = bit_of(width)?;
-    let bits = copy_bits(alloc, state.slice(register, first, width))?;
+    let count = bit_of(width)?;
+    let bits = padded_bits(alloc, state.slice(register, first, width), count)?;
     Ok(bits)
 }
 
 /// The node of so many bits of a register from a bit on, at most 128.
-#[tactic(auto, using(crate::proofs::Puts::width_at, crate::proofs::Puts::part_is, crate::proofs::Puts::part_fits, crate::proofs::Puts::part_count, crate::proofs::Puts::gathered_wide))]
+#[tactic(auto, using(crate::proofs::Puts::gathered_wide))]
 #[inline(never)]
 pub(crate) fn slice_node(
     pool: &mut Pool,
+    alloc: Global,
     state: &State,
     register: usize,
     first: u128,
@@ -83,15 +102,13 @@ pub(crate) fn slice_node(
 ) -> Result<usize, AllocError>
     requires fits { StateFits pool.old state.now }
     requires width { IsWidth width }
-    requires inside { first + width ≤ get_or (widths_in state.now) register 0 }
     ensures node { IfOk result (λ n. StandsFor pool.new n
-        (gather (range first width (get_or (state_of pool.old state.now).registers register [])))) }
+        (gather (part first width (get_or (state_of pool.old state.now).registers register [])))) }
     ensures wide { IfOk result (λ n. IsNode pool.new n width) }
     ensures keeps { Keeps pool.old pool.new }
 {
-    let first = bit_of(first)?;
-    let bits = state.slice(register, first, width as usize);
-    let node = gather(pool, bits)?;
+    let bits = part_of(pool, alloc, state, register, first, width as u128)?;
+    let node = gather(pool, bits.as_slice())?;
     Ok(node)
 }
 

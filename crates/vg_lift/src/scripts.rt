@@ -1,15 +1,14 @@
 //! Scripts gone through once, with nodes of terms in the place of numbers.
 
 ghost use Rattle.std.specs.Prelude.{◌≡◌, ◌+◌, ◌^◌, ◌++◌, ◌<◌, ◌≤◌, [], ◌∷◌, IfOk, OnOk, get_or, length, replicate, slice_get};
-ghost use Rattle.vg_bits.specs.Range.{range};
 ghost use Rattle.vg_pool.specs.Pool.{Keeps, StandsFor, tree_at};
-ghost use Rattle.vg_script.specs.Formed.{Formed, FrameFormed, GivenFormed, LowFormed, ScriptFormed};
+ghost use Rattle.vg_script.specs.Formed.{Formed, FrameFormed, GivenFormed, ScriptFormed};
 ghost use Rattle.vg_script.specs.Script.{pick, put, way, width_of};
 ghost use Rattle.vg_script.specs.Views.{frame_of, given_of, low_of, script_of, word_of};
 ghost use Rattle.vg_terms.specs.Term.{constant, two};
 ghost use Rattle.vg_terms.specs.declared.term.TwoOp.TheVariants.{Eq};
 ghost use Rattle.vg_lift.specs.Gather.{bits_from};
-ghost use Rattle.vg_lift.specs.LaneTerm.{absolute_term, first_bit, joined, left_by, lifted, of_bits, passed, term};
+ghost use Rattle.vg_lift.specs.LaneTerm.{absolute_term, first_bit, joined, left_by, lifted, of_bits, part, passed, term};
 ghost use Rattle.vg_lift.specs.Passed.{AllPassedFit, PassedFits, all_passed, passed_of};
 ghost use Rattle.vg_lift.specs.States.{Begins, Leaves, StateFits, state_of, widths_in};
 ghost use Rattle.vg_range_laws.specs.Static.{IsPlace, IsStatic, IsStaticFrame, IsStaticGiven, IsStaticWord};
@@ -20,7 +19,9 @@ use crate::begin::begin;
 use crate::bit::Bit;
 use crate::join_states::join_states;
 use crate::passed::Passed;
-use crate::putting::{bits_of_node, give, part_of, put_bits, put_node, put_number, slice_node};
+use crate::putting::{
+    bits_of_node, give, moved_bits, part_of, put_bits, put_node, put_number, slice_node,
+};
 use crate::state::State;
 use crate::turn::Turn;
 use std::alloc::{AllocError, Global};
@@ -106,7 +107,7 @@ pub(crate) fn term(
     word: &Word,
 ) -> Result<usize, AllocError>
     requires fits { StateFits pool.old state.now }
-    requires formed { Formed (widths_in state.now) (word_of word.now) }
+    requires formed { Formed (word_of word.now) }
     requires is_static { IsStaticWord (word_of word.now) }
     ensures node { IfOk result (λ n. StandsFor pool.new n
         (term (state_of pool.old state.now) (word_of word.now))) }
@@ -119,7 +120,7 @@ pub(crate) fn term(
             register,
             low,
             width,
-        } => slice_node(pool, state, *register, first_bit(low), *width),
+        } => slice_node(pool, alloc, state, *register, first_bit(low), *width),
         Word::Variable { variable } => variable_node(pool, state, *variable),
         Word::One {
             op,
@@ -163,8 +164,8 @@ fn block(
     answer: &Word,
 ) -> Result<usize, AllocError>
     requires fits { StateFits pool.old state.now }
-    requires frame { FrameFormed (widths_in state.now) (frame_of frame.now) }
-    requires answer { Formed frame.now.widths (word_of answer.now) }
+    requires frame { FrameFormed (frame_of frame.now) }
+    requires answer { Formed (word_of answer.now) }
     requires frame_static { IsStaticFrame (frame_of frame.now) }
     requires answer_static { IsStaticWord (word_of answer.now) }
     ensures node { IfOk result (λ n. StandsFor pool.new n
@@ -182,7 +183,7 @@ fn block(
 #[inline(never)]
 fn call(pool: &mut Pool, alloc: Global, state: &State, frame: &Frame) -> Result<State, AllocError>
     requires fits { StateFits pool.old state.now }
-    requires formed { FrameFormed (widths_in state.now) (frame_of frame.now) }
+    requires formed { FrameFormed (frame_of frame.now) }
     requires is_static { IsStaticFrame (frame_of frame.now) }
     ensures left { IfOk result (λ s. Begins pool.new frame.now.widths s
         (left_by (state_of pool.old state.now) (frame_of frame.now))) }
@@ -211,7 +212,7 @@ fn passed_word(
     word: &Word,
 ) -> Result<Passed, AllocError>
     requires fits { StateFits pool.old state.now }
-    requires formed { Formed (widths_in state.now) (word_of word.now) }
+    requires formed { Formed (word_of word.now) }
     requires width { width_of (word_of word.now) ≡ 128 }
     requires is_static { IsStaticWord (word_of word.now) }
     ensures is { IfOk result (λ p. passed_of pool.new p ≡
@@ -235,7 +236,7 @@ fn passed(
     given: &Given,
 ) -> Result<Vec<Passed>, AllocError>
     requires fits { StateFits pool.old state.now }
-    requires formed { GivenFormed (widths_in state.now) (given_of given.now) }
+    requires formed { GivenFormed (given_of given.now) }
     requires is_static { IsStaticGiven (given_of given.now) }
     ensures is { IfOk result (λ v. all_passed pool.new v.items ≡
         passed (state_of pool.old state.now) (given_of given.now)) }
@@ -262,7 +263,7 @@ fn passed(
                 width,
                 rest,
             } => {
-                let bits = part_of(pool, alloc, state, *register, first_bit(low), *width)?;
+                let bits = moved_bits(pool, alloc, state, *register, first_bit(low), *width)?;
                 all.push(Passed::Bits { bits })?;
                 left = rest;
             }
@@ -387,10 +388,9 @@ fn handed(
     width: u128,
 ) -> Result<Items<Bit>, AllocError>
     requires fits { StateFits pool.old state.now }
-    requires formed { FrameFormed (widths_in state.now) (frame_of frame.now) }
+    requires formed { FrameFormed (frame_of frame.now) }
     requires is_static { IsStaticFrame (frame_of frame.now) }
-    requires inside { first + width ≤ get_or frame.now.widths register 0 }
-    ensures is { IfOk result (λ v. bits_of pool.new v ≡ range first width
+    ensures is { IfOk result (λ v. bits_of pool.new v ≡ part first width
         (get_or (left_by (state_of pool.old state.now) (frame_of frame.now)).registers register [])) }
     ensures fit { IfOk result (λ v. BitsFit pool.new v) }
     ensures count { IfOk result (λ v. length v ≡ width) }

@@ -1,6 +1,6 @@
 //! The registers and variables of a body, as bits and nodes.
 
-ghost use Rattle.std.specs.Prelude.{◌≡◌, ◌+◌, ◌++◌, ◌<◌, ◌≤◌, [], IfOk, OnOk, length, get_or, set};
+ghost use Rattle.std.specs.Prelude.{◌≡◌, ◌+◌, ◌++◌, ◌<◌, ◌≤◌, [], IfOk, OnOk, drop, length, get_or, set, take};
 ghost use Rattle.vg_bits.specs.Range.{range, replaced};
 ghost use Rattle.vg_pool.specs.Pool.{Keeps, StandsFor, tree_at};
 ghost use Rattle.vg_lift.specs.Join.{join_registers, join_variables};
@@ -49,15 +49,32 @@ pub(crate) fn copy_bits(alloc: Global, bits: &[Bit]) -> Result<Items<Bit>, Alloc
     Ok(Items::from_vec(all))
 }
 
+/// The bits behind so many.
+#[tactic(auto, using(crate::proofs::Puts::drop_most))]
+fn behind(bits: &[Bit], count: u128) -> &[Bit]
+    ensures { result.now ≡ drop count bits.now }
+{
+    let skipped = count.min(bits.len() as u128) as usize;
+    &bits[skipped..]
+}
+
+/// So many bits, or all where there are fewer.
+#[tactic(auto, using(crate::proofs::Puts::take_most))]
+fn first(bits: &[Bit], count: u128) -> &[Bit]
+    ensures { result.now ≡ take count bits.now }
+{
+    let taken = count.min(bits.len() as u128) as usize;
+    &bits[..taken]
+}
+
 impl State {
-    /// So many bits of a register from a bit on.
-    pub(crate) fn slice(&self, register: usize, low: usize, width: usize) -> &[Bit]
-        requires { low + width ≤ length (get_or self.now.registers.items register []) }
+    /// So many bits of a register from a bit on, but those past its end.
+    pub(crate) fn slice(&self, register: usize, low: u128, width: u128) -> &[Bit]
         ensures { result.now ≡ range low width (get_or self.now.registers.items register []) }
     {
         match self.registers.get(register) {
             None => &[],
-            Some(bits) => &bits.as_slice()[low..low + width],
+            Some(bits) => first(behind(bits.as_slice(), low), width),
         }
     }
 

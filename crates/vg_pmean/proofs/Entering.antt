@@ -5,8 +5,8 @@ use Rattle.vg_base.specs.Bits.{bits}
 use Rattle.vg_base.proofs.Bits.{length-bits}
 use Rattle.vg_script.specs.Cells.{Cells, entered, written}
 use Rattle.vg_terms.specs.Term.{IsWidth}
-use Rattle.vg_script.specs.Script.{Word, constant, slice, variable, one, two, sel, absolute, shift_left, shift_right, block, width_of, Low, at, held}
-use Rattle.vg_script.specs.Formed.{Formed, LowFormed, frame_widths}
+use Rattle.vg_script.specs.Script.{Word, constant, slice, variable, one, two, sel, absolute, shift_left, shift_right, block, width_of}
+use Rattle.vg_script.specs.Formed.{Formed}
 use Rattle.vg_bits.specs.Range.{replaced}
 use Rattle.vg_bits.proofs.Ranges.{length-replaced, replaced_all}
 use Rattle.std.proofs.Common.{take}
@@ -15,7 +15,6 @@ use Rattle.vg_bits.specs.declared.register.Reg.{Reg}
 use Rattle.vg_script.specs.Views.{Whole}
 use Rattle.vg_pmean.specs.Applied.{IsReady}
 use Rattle.vg_pmean.specs.Held.{Alike, Held, widths_in, entered_at, filled}
-use Rattle.vg_pmean.specs.Places.{PlaceFormed}
 use Rattle.vg_pmean.specs.declared.room.Room.{Room}
 use Rattle.vg_pmean.specs.Room.{Suffices, around, either, no_room}
 
@@ -104,21 +103,17 @@ entered_widths (w ∷ ws) (n ∷ ns) = λ i. length-bits w n i ∷ entered_width
 
 -- ---- what is formed
 
-pub place_formed : (ws : List ℕ) (l : Low) (w all : ℕ) → LowFormed ws l w all → PlaceFormed ws l
-place_formed ws (at n) w all formed = tt
-place_formed ws (held x) w all formed = formed.1
-
-pub formed_width : (ws : List ℕ) (x : Word) → Formed ws x → IsWidth (width_of x)
-formed_width ws (constant w v) f = f.0
-formed_width ws (slice r l w) f = f.0
-formed_width ws (variable k) f = (omega arith, omega arith)
-formed_width ws (one op w k x) f = f.0
-formed_width ws (two op w x y) f = f.0
-formed_width ws (sel w c x y) f = f.0
-formed_width ws (absolute x) f = (omega arith, omega arith)
-formed_width ws (shift_left x n) f = (omega arith, omega arith)
-formed_width ws (shift_right x n) f = (omega arith, omega arith)
-formed_width ws (block g x) f = formed_width (frame_widths g) x f.1
+pub formed_width : (x : Word) → Formed x → IsWidth (width_of x)
+formed_width (constant w v) f = f.0
+formed_width (slice r l w) f = f.0
+formed_width (variable k) f = (omega arith, omega arith)
+formed_width (one op w k x) f = f.0
+formed_width (two op w x y) f = f.0
+formed_width (sel w c x y) f = f.0
+formed_width (absolute x) f = (omega arith, omega arith)
+formed_width (shift_left x n) f = (omega arith, omega arith)
+formed_width (shift_right x n) f = (omega arith, omega arith)
+formed_width (block g x) f = formed_width x f.1
 
 pub entered_length : (ws ns : List ℕ) → length (entered ws ns) ≡ length ws
 entered_length [] ns = refl

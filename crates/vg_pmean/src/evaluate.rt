@@ -2,11 +2,10 @@
 
 ghost use Rattle.std.specs.Prelude.{◌≡◌, ◌+◌, ◌^◌, ◌<◌, ◌≤◌, length};
 ghost use Rattle.vg_script.specs.Cells.{absolute_value, after, after_arm, behind, left_value, low_value, numbers_given, right_value, word_value};
-ghost use Rattle.vg_script.specs.Formed.{Formed, FrameFormed, GivenFormed, ScriptFormed};
+ghost use Rattle.vg_script.specs.Formed.{Formed, FrameFormed, GivenFormed, LowFormed, ScriptFormed};
 ghost use Rattle.vg_script.specs.Script.{width_of};
 ghost use Rattle.vg_script.specs.Views.{frame_of, given_of, low_of, script_of, word_of};
 ghost use Rattle.vg_pmean.specs.Held.{Alike, filled, held, widths_in};
-ghost use Rattle.vg_pmean.specs.Places.{PlaceFormed};
 ghost use Rattle.vg_pmean.specs.Room.{Suffices, frame_room, given_room, low_room, no_room, script_room, word_room};
 
 use crate::cells::Cells;
@@ -44,7 +43,7 @@ fn shift_right(x: u128, amount: u128) -> u128
 #[cycle(run)]
 #[tactic(auto, using(crate::proofs::Entering::formed_width))]
 pub(crate) fn value(word: &Word, own: &Cells, free: &mut [Cells]) -> u128
-    requires formed { Formed (widths_in own.now.cells) (word_of word.now) }
+    requires formed { Formed (word_of word.now) }
     requires room { Suffices (word_room (word_of word.now)) own.now.room (length free.old) }
     requires alike { Alike own.now.room free.old }
     ensures is { result ≡ word_value own.now.cells (word_of word.now) }
@@ -102,7 +101,7 @@ pub(crate) fn value(word: &Word, own: &Cells, free: &mut [Cells]) -> u128
 /// Where a slice begins.
 #[cycle(run)]
 fn place(low: &Low, own: &Cells, free: &mut [Cells]) -> u128
-    requires formed { PlaceFormed (widths_in own.now.cells) (low_of low.now) }
+    requires formed { LowFormed (low_of low.now) }
     requires room { Suffices (low_room (low_of low.now)) own.now.room (length free.old) }
     requires alike { Alike own.now.room free.old }
     ensures is { result ≡ low_value own.now.cells (low_of low.now) }
@@ -118,8 +117,8 @@ fn place(low: &Low, own: &Cells, free: &mut [Cells]) -> u128
 /// What a call answers: a word over what its frame leaves.
 #[cycle(run)]
 fn block(frame: &Frame, answer: &Word, own: &Cells, free: &mut [Cells]) -> u128
-    requires frame_formed { FrameFormed (widths_in own.now.cells) (frame_of frame.now) }
-    requires formed { Formed frame.now.widths (word_of answer.now) }
+    requires frame_formed { FrameFormed (frame_of frame.now) }
+    requires formed { Formed (word_of answer.now) }
     requires room { Suffices (frame_room (frame_of frame.now) (word_room (word_of answer.now)))
         own.now.room (length free.old) }
     requires alike { Alike own.now.room free.old }
@@ -140,7 +139,7 @@ fn block(frame: &Frame, answer: &Word, own: &Cells, free: &mut [Cells]) -> u128
 /// Leaves in a frame what a call leaves.
 #[cycle(run)]
 fn call(frame: &Frame, own: &Cells, cells: &mut Cells, free: &mut [Cells])
-    requires formed { FrameFormed (widths_in own.now.cells) (frame_of frame.now) }
+    requires formed { FrameFormed (frame_of frame.now) }
     requires room { Suffices (frame_room (frame_of frame.now) no_room)
         own.now.room (length free.old + 1) }
     requires same { cells.old.room ≡ own.now.room }
@@ -165,7 +164,7 @@ fn call(frame: &Frame, own: &Cells, cells: &mut Cells, free: &mut [Cells])
 /// Gives the first registers of a frame, which has so many, what a call gives them.
 #[cycle(run)]
 fn enter_given(given: &Given, count: usize, own: &Cells, cells: &mut Cells, free: &mut [Cells])
-    requires formed { GivenFormed (widths_in own.now.cells) (given_of given.now) }
+    requires formed { GivenFormed (given_of given.now) }
     requires room { Suffices (given_room (given_of given.now)) own.now.room (length free.old) }
     requires alike { Alike own.now.room free.old }
     requires count { length cells.old.cells.registers ≡ count }

@@ -57,7 +57,7 @@ fn answer(rt: &impl Abort, mut entry: Prepared, x: u128, y: u128) -> Result<u128
 fn signed_slice(alloc: Global, register: usize, bit: u128) -> Result<Word, AllocError>
     requires first { bit ≡ 0 }
     requires known { register < 2 }
-    ensures formed { IfOk result (λ w. Formed (128 ∷ 128 ∷ 128 ∷ 256 ∷ []) (word_of w)) }
+    ensures formed { IfOk result (λ w. Formed (word_of w)) }
     ensures width { IfOk result (λ w. width_of (word_of w) ≡ 128) }
 {
     make_one(

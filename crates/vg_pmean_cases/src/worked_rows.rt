@@ -109,6 +109,33 @@ fn a_shuffle_by_27_reverses(rt: HostRuntime) -> Result<(), Fail> {
     expect(&rt, rt.alloc(), SHUFFLE, &[rising], 27, falling)
 }
 
+const WIDE_PARAMETER: &str = "INSTRUCTION x PARAM a 128 UI8 PARAM b 128 UI16
+RESULT dst 128 UI16 EXTENSION SSE2 COST 1 OPERATION
+DEFINE BYTE(p[2097152:0], n[15:0]) {
+ k := n[15:0]
+ RETURN p[k*8+7:k*8]
+}
+FOR j := 0 to 7
+ dst.word[j] := BYTE(a[127:0], b.word[j])
+ENDFOR
+END";
+
+#[test]
+fn bytes_by_index_of_a_parameter_of_many_bits(rt: HostRuntime) -> Result<(), Fail> {
+    // The bytes 100 to 115 at 0, 1, 15, 16, 63, 64, 32767 and 65535.
+    let values = 0x7372_7170_6f6e_6d6c_6b6a_6968_6766_6564;
+    let indices = 0xffff_7fff_0040_003f_0010_000f_0001_0000;
+    let taken = 0x0000_0000_0000_0000_0000_0073_0065_0064;
+    expect(
+        &rt,
+        rt.alloc(),
+        WIDE_PARAMETER,
+        &[values, indices],
+        0,
+        taken,
+    )
+}
+
 const BY_INDEX: &str = "INSTRUCTION _mm_shuffle_epi8 PARAM a 128 UI8 PARAM b 128 UI8
 RESULT dst 128 UI8 EXTENSION SSSE3 COST 1 OPERATION
 FOR j := 0 to 15

@@ -1,5 +1,5 @@
 -- What an instance of an instruction means: the bits of dst behind its operation.
-use Rattle.std.specs.Prelude.{ℕ, zero, suc, ℤ, pos, List, [], ◌∷◌, ◌++◌, take, get_or}
+use Rattle.std.specs.Prelude.{ℕ, zero, suc, ℤ, pos, List, [], ◌∷◌, ◌++◌, take, get_or, map, min}
 use Rattle.vg_base.specs.Bits.{bits}
 use Rattle.vg_pseudo.specs.Resolved.{Body, Function, Resolved}
 use Rattle.vg_pseudo.specs.Value.{State, value, bits_in, answered}
@@ -25,10 +25,18 @@ begun b given = record { registers = entered b.widths (take b.parameters given);
 abbrev pub ended : Functions → Body → List ℕ → State
 ended fs b given = run fs [] b.code (begun b given)
 
+-- Of a register of a DEFINE at most 512 bits are kept. Those above are zeros: nothing writes them,
+-- and no argument has more bits.
+abbrev pub kept_widths : List ℕ → List ℕ
+kept_widths ws = map (min 512) ws
+
+abbrev pub kept : Body → Body
+kept b = record { widths = kept_widths b.widths; parameters = b.parameters; numbers = b.numbers; code = b.code }
+
 -- what a call gives for the numbers of its arguments
 abbrev pub called : Functions → Function → List ℕ → ℤ
 called fs f given =
-    let sight = seen fs [] (ended fs f.body given) in
+    let sight = seen fs [] (ended fs (kept f.body) given) in
     answered (bits_in sight f.answer) (value sight f.answer)
 
 -- the DEFINEs in their order, each with those before it

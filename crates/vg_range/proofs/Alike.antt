@@ -1,6 +1,6 @@
 -- Statements are walked the same but for scripts, whether scripts are kept or not.
 use Rattle.std.proofs.Common.{◌≡◌, ℕ, zero, suc, refl, sym, ap, ◌∙◌, Bool, true, false, List, ◌∷◌, get_or, set}
-use Rattle.std.specs.Prelude.{ℤ, pos, ◌+ℤ◌, nat_le, if◌then◌else◌, Option, Some, None, Result, Ok, Err}
+use Rattle.std.specs.Prelude.{min, ℤ, pos, ◌+ℤ◌, nat_le, if◌then◌else◌, Option, Some, None, Result, Ok, Err}
 use Rattle.vg_base.specs.Bind.{◌>>=◌}
 use Rattle.vg_text.specs.declared.place.Place.{Place}
 use Rattle.vg_pseudo.specs.declared.spot.Spot.{Spot}
@@ -81,7 +81,7 @@ pub its_stand : (a b : ℤ × Stand) → view_constant a ≡ view_constant b →
 its_stand a b e = ap (λ p. p.1) e
 
 width-alike : (x y : Course) → Alike x y → (r : ℕ) → width_in x r ≡ width_in y r
-width-alike x y h r = ap (λ ws. get_or ws r 0) h.widths
+width-alike x y h r = ap (λ ws. min 512 (get_or ws r 0)) h.widths
 
 abbrev view_goal : Option Goal × Stand → Option Goal × (List Kept × Count)
 view_goal p = (p.0, known_at p.1)

@@ -1,7 +1,7 @@
 -- What is found of a call covers what the call gives, and a script of an instance leaves what the instance means.
-use Rattle.std.proofs.Common.{◌≡◌, ℕ, zero, suc, ◌%◌, ◌^◌, ◌≤◌, refl, sym, ap, ◌∙◌, subst, arith, true, false, lit<, List, [], ◌∷◌, ◌++◌, get_or, length, take}
+use Rattle.std.proofs.Common.{◌≡◌, ℕ, zero, suc, ◌%◌, ◌^◌, ◌+◌, ◌≤◌, refl, sym, ap, ◌∙◌, subst, arith, true, false, lit<, List, [], ◌∷◌, ◌++◌, get_or, length, take}
 use Rattle.std.proofs.Common.{length-append}
-use Rattle.std.specs.Prelude.{ℤ, pos, map, replicate, Option, Some, None, Result, Ok}
+use Rattle.std.specs.Prelude.{ℤ, pos, min, map, replicate, Option, Some, None, Result, Ok}
 use Rattle.std.specs.Option.{option_map_or}
 use Rattle.vg_base.proofs.Bind.{bind_ok}
 use Rattle.vg_base.proofs.Bits.{length-bits, num-bits}
@@ -14,11 +14,12 @@ use Rattle.vg_pseudo.specs.Resolved as resolved
 use Rattle.vg_pseudo.specs.Value.{State, Bits, value, bits_in, read}
 use Rattle.vg_pseudo.specs.Value as meant
 use Rattle.vg_pseudo.specs.Run.{Functions, seen}
-use Rattle.vg_pseudo.specs.Instance.{entered, zeros, begun, ended, called, functions_from, meaning}
-use Rattle.vg_script.specs.Script.{Word, Low, Frame, frame, block}
+use Rattle.vg_pseudo.specs.Instance.{entered, zeros, begun, ended, kept, kept_widths, called, functions_from, meaning}
+use Rattle.vg_script.specs.Script.{Word, Low, Frame, frame, block, Script}
+use Rattle.vg_script.specs.Script as script
 use Rattle.vg_script.specs.Cells.{Cells, word_value, low_value, behind, numbers_given, bits_read, after}
 use Rattle.vg_script.specs.Cells as cell
-use Rattle.vg_script.specs.Formed.{GivenFormed, FrameFormed, frame_widths}
+use Rattle.vg_script.specs.Formed.{GivenFormed, FrameFormed, ScriptFormed}
 use Rattle.vg_interval.specs.declared.fault.RangeFault.{RangeFault}
 use Rattle.vg_interval.specs.declared.span.Span.{Span}
 use Rattle.vg_interval.specs.Interval.{slice_span, unsigned_span}
@@ -30,10 +31,10 @@ use Rattle.vg_range.specs.Walk.{Stand, Course, judged, walk, constant_passed, co
 use Rattle.vg_range.specs.Walk as walking
 use Rattle.vg_interval.proofs.Covers.{cells, AllBits, AreCells, IsHanded, IsWithin, Covers, block-stands, handed-stands, handed-within, truth-within}
 use Rattle.vg_interval.proofs.Operators.{Made, same_pair}
-use Rattle.vg_names.specs.Proper.{WritesPast, IsProperCode, IsProperBody, AreProper}
+use Rattle.vg_names.specs.Proper.{AllSmall, WritesPast, IsProperCode, IsProperBody, AreProper}
 use Rattle.vg_range.specs.Meant.{InstancesMean}
 use Rattle.vg_interval.proofs.Judging.{AllKeep, PassedAll, CallAgrees, judge-covers}
-use Rattle.vg_range.proofs.Walking.{Spares, TargetSpares, Together}
+use Rattle.vg_range.proofs.Walking.{Spares, TargetSpares, Together, kept-at}
 use Rattle.vg_range.proofs.Statements.{walk-sound}
 
 abbrev cells_at : List (List ℕ) → List ℕ → Cells
@@ -50,10 +51,12 @@ zero_residues : (n : ℕ) → map (residue 128) (zeros n) ≡ replicate n 0
 zero_residues zero = refl
 zero_residues (suc n) = ap (λ v. 0 ∷ v) (zero_residues n)
 
-entered-widths : (ws ns : List ℕ) → ws ≡ map length (entered ws ns)
-entered-widths [] ns = refl
-entered-widths (w ∷ ws) [] = ap (λ v. w ∷ v) (entered-widths ws []) ∙ ap (λ v. v ∷ map length (entered ws [])) (sym (length-bits w 0))
-entered-widths (w ∷ ws) (n ∷ ns) = ap (λ v. w ∷ v) (entered-widths ws ns) ∙ ap (λ v. v ∷ map length (entered ws ns)) (sym (length-bits w n))
+length-entered : (ws ns : List ℕ) (r : ℕ) → length (get_or (entered ws ns) r []) ≡ get_or ws r 0
+length-entered [] ns r = refl
+length-entered (w ∷ ws) [] zero = length-bits w 0
+length-entered (w ∷ ws) [] (suc r) = length-entered ws [] r
+length-entered (w ∷ ws) (n ∷ ns) zero = length-bits w n
+length-entered (w ∷ ws) (n ∷ ns) (suc r) = length-entered ws ns r
 
 entered-bits : (ws ns : List ℕ) → AllBits (entered ws ns)
 entered-bits [] ns = tt
@@ -64,8 +67,21 @@ zeros-keep : (n : ℕ) → AllKeep (walking.zeros n) (zeros n)
 zeros-keep zero = tt
 zeros-keep (suc n) = ((refl, record { small = lit< tt }), zeros-keep n)
 
-begun-cells : (b : Body) (given : List ℕ) → AreCells b.widths (cells (begun b given))
-begun-cells b given = record { widths = entered-widths b.widths (take b.parameters given); bits = entered-bits b.widths (take b.parameters given) }
+-- registers are declared with these widths, and all their bits are kept, or at least 512
+abbrev KeepsEnough : List ℕ → Body → Type 0
+KeepsEnough ws b = (r : ℕ) → min 512 (get_or ws r 0) ≤ get_or b.widths r 0
+
+keeps-all : (b : Body) → KeepsEnough b.widths b
+keeps-all b r = omega arith
+
+keeps-kept : (b : Body) → KeepsEnough b.widths (kept b)
+keeps-kept b r = omega (arith, kept-at b.widths r)
+
+begun-cells : (ws : List ℕ) (b : Body) (given : List ℕ) → KeepsEnough ws b → AreCells ws (cells (begun b given))
+begun-cells ws b given enough = record {
+  kept = λ r. omega (arith, enough r, length-entered b.widths (take b.parameters given) r);
+  bits = entered-bits b.widths (take b.parameters given);
+}
 
 -- ---- what is passed
 
@@ -90,7 +106,7 @@ given-numbers ws c (found.constant k ∷ ps) (n ∷ ns) h = ap (λ v. k ∷ v) (
 given-numbers ws c (computed x ∷ ps) (n ∷ ns) h = ap (λ v. word_value c x ∷ v) (given-numbers ws c ps ns h.1) ∙ ap (λ v. v ∷ ns) (sym h.0.0)
 given-numbers ws c (found.bits r l w ∷ ps) (n ∷ ns) h = ap (λ v. bits_read c r (low_value c l) w ∷ v) (given-numbers ws c ps ns h.1) ∙ ap (λ v. v ∷ ns) (sym h.0.0)
 
-given-formed : (ws : List ℕ) (c : Cells) (ps : List Passed) (ns : List ℕ) → PassedAll ws c ps ns → GivenFormed ws (given_of ps)
+given-formed : (ws : List ℕ) (c : Cells) (ps : List Passed) (ns : List ℕ) → PassedAll ws c ps ns → GivenFormed (given_of ps)
 given-formed ws c [] [] h = tt
 given-formed ws c [] (n ∷ ns) h = absurd h
 given-formed ws c (p ∷ ps) [] h = absurd h
@@ -148,9 +164,9 @@ code-spares (arm n body arms) k cs past h = (h.0, code-spares body k cs past h.1
 
 -- ---- what a call gives
 
-within-block : (ws : List ℕ) (c : Cells) (f : Frame) (i : Span) (x : Word) (z : ℤ) → FrameFormed ws f → IsWithin (frame_widths f) (behind c f) i x z
+within-block : (ws vs : List ℕ) (c : Cells) (f : Frame) (i : Span) (x : Word) (z : ℤ) → FrameFormed f → IsWithin vs (behind c f) i x z
     → IsWithin ws c i (block f x) z
-within-block ws c f i x z h p = record { inside = p.inside; ends = p.ends; stands = block-stands ws c f x z h p.stands }
+within-block ws vs c f i x z h p = record { inside = p.inside; ends = p.ends; stands = block-stands ws vs c f x z h p.stands }
 
 abbrev pub found_ok : Found → Result Found RangeFault
 found_ok f = Ok f
@@ -158,41 +174,42 @@ found_ok f = Ok f
 same_found : {a b : Found} → found_ok a ≡ found_ok b → a ≡ b
 same_found e = cc
 
-handed-on : (ws : List ℕ) (c : Cells) (f g : Frame) (r : ℕ) (l : Low) (w : ℕ) (z : ℤ) (i : Option Span) → slice_span false w ≡ i → FrameFormed ws f
-    → IsHanded (frame_widths f) (behind c f) g r l w z
+handed-on : (ws vs : List ℕ) (c : Cells) (f g : Frame) (r : ℕ) (l : Low) (w : ℕ) (z : ℤ) (i : Option Span) → slice_span false w ≡ i → FrameFormed f
+    → IsHanded vs (behind c f) g r l w z
     → Made ws c (option_map_or (λ j. within j (block f (handed_word g r l w))) i (wide (block f (handed_word g r l w)))) z
-handed-on ws c f g r l w z (Some i) e h p = (within-block ws c f i _ z h (handed-within _ _ g r l w z i p e), refl)
-handed-on ws c f g r l w z None e h p = (block-stands ws c f _ z h (handed-stands _ _ g r l w z p), refl)
+handed-on ws vs c f g r l w z (Some i) e h p = (within-block ws vs c f i _ z h (handed-within vs (behind c f) g r l w z i p e), refl)
+handed-on ws vs c f g r l w z None e h p = (block-stands ws vs c f _ z h (handed-stands vs (behind c f) g r l w z p), refl)
 
-answered-made : (ws : List ℕ) (c : Cells) (s : Spot) (f : Frame) (g a : Found) (z : ℤ) (b : Option Bits) → FrameFormed ws f
-    → AreCells (frame_widths f) (behind c f) → Covers (frame_widths f) (behind c f) g z b → found.answered s f g ≡ Ok a → Made ws c a (meant.answered b z)
-answered-made ws c s f (known y (Some w)) a z b h cs k e = subst (λ v. Made ws c v (meant.answered b z)) (same_found e) (rw k.bits refl, refl)
-answered-made ws c s f (known y None) a z b h cs k e = subst (λ v. Made ws c v (meant.answered b z)) (same_found e) (rw k.1 k.0, refl)
-answered-made ws c s f (found.read g r l w) a z b h cs k e =
+answered-made : (ws vs : List ℕ) (c : Cells) (s : Spot) (f : Frame) (g a : Found) (z : ℤ) (b : Option Bits) → FrameFormed f
+    → AllBits (behind c f).registers → Covers vs (behind c f) g z b → found.answered s f g ≡ Ok a → Made ws c a (meant.answered b z)
+answered-made ws vs c s f (known y (Some w)) a z b h cs k e = subst (λ v. Made ws c v (meant.answered b z)) (same_found e) (rw k.bits refl, refl)
+answered-made ws vs c s f (known y None) a z b h cs k e = subst (λ v. Made ws c v (meant.answered b z)) (same_found e) (rw k.1 k.0, refl)
+answered-made ws vs c s f (found.read g r l w) a z b h cs k e =
     subst (λ v. Made ws c v (meant.answered b z)) (same_found e)
     (record { frame = h; left = cs; slice = k.slice; value = rw k.bits refl }, refl)
-answered-made ws c s f (handed g r l w) a z b h cs k e =
-    subst (λ v. Made ws c v (meant.answered b z)) (same_found e) (rw k.1 (handed-on ws c f g r l w z (slice_span false w) refl h k.0))
-answered-made ws c s f (bit x) a z b h cs k e =
+answered-made ws vs c s f (handed g r l w) a z b h cs k e =
+    subst (λ v. Made ws c v (meant.answered b z)) (same_found e) (rw k.1 (handed-on ws vs c f g r l w z (slice_span false w) refl h k.0))
+answered-made ws vs c s f (bit x) a z b h cs k e =
     subst (λ v. Made ws c v (meant.answered b z)) (same_found e)
-    (rw (k.1, k.0.1) (within-block ws c f (unsigned_span 1) (extended false 1 x) _ h (truth-within _ _ x k.0.0 k.0.2), refl))
-answered-made ws c s f (within i x) a z b h cs k e =
-    subst (λ v. Made ws c v (meant.answered b z)) (same_found e) (rw k.1 (within-block ws c f i x z h k.0, refl))
-answered-made ws c s f (wide x) a z b h cs k e =
-    subst (λ v. Made ws c v (meant.answered b z)) (same_found e) (rw k.1 (block-stands ws c f x z h k.0, refl))
-answered-made ws c s f (loose x) a z b h cs k e = absurd (cc)
+    (rw (k.1, k.0.1) (within-block ws vs c f (unsigned_span 1) (extended false 1 x) _ h (truth-within vs (behind c f) x k.0.0 k.0.2), refl))
+answered-made ws vs c s f (within i x) a z b h cs k e =
+    subst (λ v. Made ws c v (meant.answered b z)) (same_found e) (rw k.1 (within-block ws vs c f i x z h k.0, refl))
+answered-made ws vs c s f (wide x) a z b h cs k e =
+    subst (λ v. Made ws c v (meant.answered b z)) (same_found e) (rw k.1 (block-stands ws vs c f x z h k.0, refl))
+answered-made ws vs c s f (loose x) a z b h cs k e = absurd (cc)
 
 abbrev Agrees : List Walk → Functions → Type 0
 Agrees walks fs = (k : ℕ) → CallAgrees (get_or walks k no_walk) (get_or fs k (λ ns. pos 0))
 
--- where a body begins, whose registers have these constants
-begins : (walks : List Walk) (fs : Functions) (b : Body) (cs : List (Option ℕ)) (given : List ℕ) (n : Count) → Agrees walks fs → IsProperBody b
+-- where a body begins, whose registers are declared with these widths and have these constants
+begins : (walks : List Walk) (fs : Functions) (ws : List ℕ) (b : Body) (cs : List (Option ℕ)) (given : List ℕ) (n : Count) → Agrees walks fs
+    → AllSmall ws → KeepsEnough ws b
     → ((r m : ℕ) → get_or cs r None ≡ Some m → num (get_or (entered b.widths (take b.parameters given)) r []) ≡ m)
-    → Together (course_of true walks b.widths cs) fs (cells (begun b given)) (walking.begun b n) (begun b given)
-begins walks fs b cs given n agree proper same = record {
+    → Together (course_of true walks ws cs) fs (cells (begun b given)) (walking.begun b n) (begun b given)
+begins walks fs ws b cs given n agree small enough same = record {
   knows = record {
-    cells = begun-cells b given;
-    small = proper.small;
+    cells = begun-cells ws b given enough;
+    small = small;
     numbers = zeros-keep b.numbers;
     constants = same;
     turns = refl;
@@ -210,24 +227,25 @@ called-agrees walks fs f agree proper ws c cs at ps ns h n m a e =
     let b = f.body in
     let qs = take b.parameters ps in
     let ms = take b.parameters ns in
-    let x = course_of true walks b.widths (constants_of b.widths qs) in
+    let vs = kept_widths b.widths in
+    let x = course_of true walks b.widths (constants_of vs qs) in
     let w = bind_ok (walk x b.code (walking.begun b n)) _ e in
     let g = bind_ok (judged x w.0 f.answer) _ w.2 in
-    let r = bind_ok (found.answered (spot_of f.answer) (frame b.widths b.numbers (given_of qs) w.0.script) g.0.0) _ g.2 in
+    let r = bind_ok (found.answered (spot_of f.answer) (frame vs b.numbers (given_of qs) w.0.script) g.0.0) _ g.2 in
     let passed = passed-take b.parameters ws c ps ns h in
-    let start = begins walks fs b (constants_of b.widths qs) ns n agree proper (λ r k p. constant-register b.widths ws c qs ms r k passed p) in
-    let spares = code-spares b.code b.parameters (constants_of b.widths qs) (λ r p. past-given b.parameters b.widths ps r p) proper.code in
-    let ended' = walk-sound b.code x fs refl spares (cells (begun b ns)) (walking.begun b n) w.0 (begun b ns) start w.1 in
-    let covers = judge-covers f.answer x.sight w.0.numbers (seen fs [] (ended fs b ns)) w.0.count g.0.1 g.0.0 ended'.knows g.1 in
-    let fr = frame b.widths b.numbers (given_of qs) w.0.script in
-    let left : behind c fr ≡ cells (ended fs b ns) =
-    ap (λ v. after w.0.script (cells_at (cell.entered b.widths v) (replicate b.numbers 0))) (given-numbers ws c qs ms passed)
-    ∙ ap (after w.0.script) (frame-begins b ns) ∙ ended'.same in
-    let formed : FrameFormed ws fr = (given-formed ws c qs ms passed, ended'.formed) in
+    let start = begins walks fs b.widths (kept b) (constants_of vs qs) ns n agree proper.small (keeps-kept b) (λ r k p. constant-register vs ws c qs ms r k passed p) in
+    let spares = code-spares b.code b.parameters (constants_of vs qs) (λ r p. past-given b.parameters vs ps r p) proper.code in
+    let ended' = walk-sound b.code x fs refl spares (cells (begun (kept b) ns)) (walking.begun b n) w.0 (begun (kept b) ns) start w.1 in
+    let covers = judge-covers f.answer x.sight w.0.numbers (seen fs [] (ended fs (kept b) ns)) w.0.count g.0.1 g.0.0 ended'.knows g.1 in
+    let fr = frame vs b.numbers (given_of qs) w.0.script in
+    let left : behind c fr ≡ cells (ended fs (kept b) ns) =
+    ap (λ v. after w.0.script (cells_at (cell.entered vs v) (replicate b.numbers 0))) (given-numbers ws c qs ms passed)
+    ∙ ap (after w.0.script) (frame-begins (kept b) ns) ∙ ended'.same in
+    let formed : FrameFormed fr = (given-formed ws c qs ms passed, ended'.formed) in
     subst (λ v. Made ws c v (called fs f ns)) (ap (λ q. q.0) (same_pair r.2))
-    (answered-made ws c (spot_of f.answer) fr g.0.0 r.0 (value (seen fs [] (ended fs b ns)) f.answer) (bits_in (seen fs [] (ended fs b ns)) f.answer) formed
-    (subst (AreCells b.widths) (sym left) ended'.knows.cells)
-    (subst (λ v. Covers b.widths v g.0.0 (value (seen fs [] (ended fs b ns)) f.answer) (bits_in (seen fs [] (ended fs b ns)) f.answer)) (sym left) covers) r.1)
+    (answered-made ws b.widths c (spot_of f.answer) fr g.0.0 r.0 (value (seen fs [] (ended fs (kept b) ns)) f.answer) (bits_in (seen fs [] (ended fs (kept b) ns)) f.answer) formed
+    (subst (λ v. AllBits v.registers) (sym left) ended'.knows.cells.bits)
+    (subst (λ v. Covers b.widths v g.0.0 (value (seen fs [] (ended fs (kept b) ns)) f.answer) (bits_in (seen fs [] (ended fs (kept b) ns)) f.answer)) (sym left) covers) r.1)
 
 -- ---- the DEFINEs one after the other
 
@@ -256,6 +274,24 @@ none-agree k = no_walk-agrees
 
 -- ---- an instance
 
+at_most : (vs ws : List ℕ) → ((r : ℕ) → get_or vs r 0 ≤ get_or ws r 0) → (r n : ℕ) → n ≤ get_or vs r 0 → n ≤ get_or ws r 0
+at_most vs ws wider r n h = omega (arith, wider r, h)
+
+-- what is formed over registers is formed over wider ones
+wider-formed : (vs ws : List ℕ) → ((r : ℕ) → get_or vs r 0 ≤ get_or ws r 0) → (s : Script) → ScriptFormed vs s → ScriptFormed ws s
+wider-formed vs ws wider script.stop h = tt
+wider-formed vs ws wider (script.put r l w x) h = (h.0, at_most vs ws wider r (l + w) h.1, h.2, h.3)
+wider-formed vs ws wider (script.fill r l w z) h = (h.0, at_most vs ws wider r (l + w) h.1)
+wider-formed vs ws wider (script.copy r l w q m) h = (h.0, at_most vs ws wider r (l + w) h.1, h.2)
+wider-formed vs ws wider (script.copy_from r l w f q m) h = (h.0, at_most vs ws wider r (l + w) h.1, h.2, h.3)
+wider-formed vs ws wider (script.give k x) h = h
+wider-formed vs ws wider (script.both s t) h = (wider-formed vs ws wider s h.0, wider-formed vs ws wider t h.1)
+wider-formed vs ws wider (script.branch ways) h = wider-formed vs ws wider ways h
+wider-formed vs ws wider (script.way x s ways) h = (h.0, h.1, wider-formed vs ws wider s h.2, wider-formed vs ws wider ways h.3)
+wider-formed vs ws wider (script.last s) h = wider-formed vs ws wider s h
+wider-formed vs ws wider (script.pick x arms) h = (h.0, h.1, wider-formed vs ws wider arms h.2)
+wider-formed vs ws wider (script.arm n s arms) h = (wider-formed vs ws wider s h.0, wider-formed vs ws wider arms h.1)
+
 past-imm : (k : ℕ) (imm : Option ℕ) (ws : List ℕ) (r : ℕ) → k ≤ r → get_or (imm_constant k imm ws) r None ≡ None
 past-imm k imm [] r h = refl
 past-imm zero imm (w ∷ ws) zero h = refl
@@ -274,10 +310,10 @@ instances-mean r proper imm w e given has =
     let cs = imm_constant r.result imm b.widths in
     let agree = all-agree r.functions [] [] refl none-agree proper.functions in
     let same = λ (k n : ℕ) (p : get_or cs k None ≡ Some n). ap (λ v. num (get_or v k [])) (sym (same-entered b.widths (take b.parameters given))) ∙ has k n p in
-    let start = begins walks fs b cs given (record { steps = 0; is_dynamic = false }) agree proper.body same in
+    let start = begins walks fs b.widths b cs given (record { steps = 0; is_dynamic = false }) agree proper.body.small (keeps-all b) same in
     let spares = code-spares b.code b.parameters cs (λ q p. past-imm r.result imm b.widths q (subst (λ v. v ≤ q) proper.result p)) proper.body.code in
     let left = walk-sound b.code (course_of true walks b.widths cs) fs refl spares (cells (begun b given)) (walking.begun b (record { steps = 0; is_dynamic = false })) w (begun b given) start e in
     record {
-      formed = left.formed;
+      formed = wider-formed (kept_widths b.widths) b.widths (λ r. omega (arith, kept-at b.widths r)) w.script left.formed;
       leaves = ap (λ v. get_or (after w.script v).registers r.result []) (frame-begins b given) ∙ ap (λ v. get_or v.registers r.result []) left.same;
     }

@@ -2,6 +2,7 @@
 use Rattle.std.proofs.Common.{◌≡◌, ℕ, zero, suc, refl, sym, ap, ◌∙◌, Bool, true, false, List, [], ◌∷◌, ◌++◌, length, length-append, arith}
 use Rattle.std.specs.Prelude.{take, Option, Result, Ok, Err}
 use Rattle.vg_pseudo.specs.Resolved.{Function, Resolved}
+use Rattle.vg_pseudo.specs.Instance.{kept_widths}
 use Rattle.vg_script.specs.Script.{frame}
 use Rattle.vg_interval.specs.declared.fault.RangeFault.{RangeFault}
 use Rattle.vg_interval.specs.Found.{Passed, computed, answered}
@@ -43,13 +44,14 @@ constants-same ws n ps qs e =
 called-same : (k j : Bool) (us vs : List Walk) (f : Function) → AllSame us vs → CallsSame (called k us f) (called j vs f)
 called-same k j us vs f h s ps qs c e =
     let b = f.body in
-    let x = course_of k us b.widths (constants_of b.widths (take b.parameters ps)) in
-    let y = course_of j vs b.widths (constants_of b.widths (take b.parameters qs)) in
-    let alike : Alike x y = record { widths = refl; constants = constants-same b.widths b.parameters ps qs e; turns = refl; calls = h } in
+    let ws = kept_widths b.widths in
+    let x = course_of k us b.widths (constants_of ws (take b.parameters ps)) in
+    let y = course_of j vs b.widths (constants_of ws (take b.parameters qs)) in
+    let alike : Alike x y = record { widths = refl; constants = constants-same ws b.parameters ps qs e; turns = refl; calls = h } in
     steps_same known_at view (walk x b.code (begun b c)) (walk y b.code (begun b c)) _ _ (walk-alike b.code x y alike (begun b c) (begun b c) refl) (λ w v p.
     steps_same view view (judged x w f.answer) (judged y v f.answer) _ _ (judged-alike x y alike w v p f.answer) (λ g i q.
-    let before = frame b.widths b.numbers (given_of (take b.parameters ps)) w.script in
-    let behind = frame b.widths b.numbers (given_of (take b.parameters qs)) v.script in
+    let before = frame ws b.numbers (given_of (take b.parameters ps)) w.script in
+    let behind = frame ws b.numbers (given_of (take b.parameters qs)) v.script in
     steps_same bare view (answered (spot_of f.answer) before g.0) (answered (spot_of f.answer) behind i.0) _ _
     (answered-same (spot_of f.answer) before behind g.0 i.0 (looks bare g i q)) (λ l m o. rw (o, counts bare g i q) refl)))
 

@@ -9,6 +9,7 @@ use Rattle.vg_base.specs.Number.{residue}
 use Rattle.vg_text.specs.declared.place.Place.{Place}
 use Rattle.vg_pseudo.specs.Resolved.{Expr, Target, Code, stop, assign, skip, repeat, choose, way, last, pick, arm}
 use Rattle.vg_pseudo.specs.Value.{State, value, bits_in, count}
+use Rattle.vg_pseudo.specs.Instance.{kept_widths}
 use Rattle.vg_pseudo.specs.Run.{Functions, seen, run, run_ways, run_arm}
 use Rattle.vg_script.specs.Script.{Word, width_of, Script}
 use Rattle.vg_script.specs.Script as script
@@ -46,7 +47,7 @@ taken-in_front (w ∷ ws) t c d (inr h) = off-in_front ws (script.way w.0 w.1 t)
 
 abbrev WaysFormed : List ℕ → List (Word × Script) → Type 0
 WaysFormed vs [] = Unit {0}
-WaysFormed vs (w ∷ ws) = ((width_of w.0 ≡ 1) × Formed vs w.0 × ScriptFormed vs w.1) × WaysFormed vs ws
+WaysFormed vs (w ∷ ws) = ((width_of w.0 ≡ 1) × Formed w.0 × ScriptFormed vs w.1) × WaysFormed vs ws
 
 in_front-formed : (vs : List ℕ) (ws : List (Word × Script)) (t : Script) → WaysFormed vs ws → ScriptFormed vs t → ScriptFormed vs (in_front ws t)
 in_front-formed vs [] t h p = p
@@ -100,7 +101,7 @@ Going x fs s found (Some t) =
     × ((js : List Kept) × (found.joined ≡ Some js) × Knows x.sight js (seen fs x.sight.turns t)) × (length t.numbers ≡ length s.numbers)
 
 record Gone (x : Course) (fs : Functions) (s : State) (found : Ways) (o : Option State) : Type 0 where
-  pub formed : WaysFormed x.sight.widths found.scripts
+  pub formed : WaysFormed (kept_widths x.sight.widths) found.scripts
   pub joined : JoinedSome found.joined (length s.numbers)
   pub going : Going x fs s found o
 
@@ -125,7 +126,7 @@ closes x fs c w v s t found None kept h g k e =
     scripted x fs c (at_count w v.count) (joined_with found.joined v.numbers) s t (branch_of found.scripts v.script) kept (counted x fs c w s v.count h)
     (with_numbers x.sight v.numbers _ (seen fs x.sight.turns t) k.knows (joined-new found.joined (length s.numbers) v.numbers t.numbers g.joined k.knows.numbers e))
     (off-branch found.scripts v.script (cells s) g.going ∙ k.same)
-    (branch-formed x.sight.widths found.scripts v.script g.formed k.formed)
+    (branch-formed (kept_widths x.sight.widths) found.scripts v.script g.formed k.formed)
 closes x fs c w v s t found (Some u) kept h g k e =
     let js = g.going.1.0 in
     let knows = g.going.1.2 in
@@ -133,7 +134,7 @@ closes x fs c w v s t found (Some u) kept h g k e =
     (with_numbers x.sight js _ (seen fs x.sight.turns u) knows
     (joined-old js v.numbers u.numbers t.numbers found.joined g.going.1.1 knows.numbers k.knows.numbers (g.going.2 ∙ sym e)))
     (taken-branch found.scripts v.script (cells s) (cells u) g.going.0)
-    (branch-formed x.sight.widths found.scripts v.script g.formed k.formed)
+    (branch-formed (kept_widths x.sight.widths) found.scripts v.script g.formed k.formed)
 
 -- one way more
 abbrev next_left : Option State → Bool → State → Option State
@@ -215,7 +216,7 @@ Chosen x fs s found v None = AllOther found.scripts v
 Chosen x fs s found v (Some t) = Matched found.scripts v (cells s) (cells t) × Knows x.sight found.joined (seen fs x.sight.turns t) × (length t.numbers ≡ length s.numbers)
 
 record Armed (x : Course) (fs : Functions) (s : State) (found : Arms) (v : ℕ) (o : Option State) : Type 0 where
-  pub formed : ArmsFormed x.sight.widths found.scripts
+  pub formed : ArmsFormed (kept_widths x.sight.widths) found.scripts
   pub base : AllKeep found.joined s.numbers
   pub chosen : Chosen x fs s found v o
 
@@ -252,7 +253,7 @@ left-arm None false t r = refl
 left-arm (Some u) b t r = refl
 
 picks : (x : Course) (fs : Functions) (c : Cells) (w : Stand) (s : State) (y : Word) (found : Arms) (n : Count) (o : Option State) → x.is_kept ≡ true
-    → Together x fs c w s → (width_of y ≡ 128) × Formed x.sight.widths y
+    → Together x fs c w s → (width_of y ≡ 128) × Formed y
     → Armed x fs s found (word_value (cells s) y) o
     → Together x fs c (with_script x (pick_of y found.scripts) (record { numbers = found.joined; count = n; script = w.script })) (left_by o s)
 picks x fs c w s y found n o kept h wide g =
@@ -272,10 +273,10 @@ picks x fs c w s y found n o kept h wide g =
       | inr e ↦ rw e (matched-arms found.scripts script.stop (word_value (cells s) y) (cells s) (cells t) q.0)
     ]
 
-    formed : ScriptFormed x.sight.widths (pick_of y found.scripts)
+    formed : ScriptFormed (kept_widths x.sight.widths) (pick_of y found.scripts)
     formed = elim (cases_Bool (arms_do_nothing found.scripts)) [
       | inl e ↦ rw e tt
-      | inr e ↦ rw e (wide.0, wide.1, arms_in_front-formed x.sight.widths found.scripts script.stop g.formed tt)
+      | inr e ↦ rw e (wide.0, wide.1, arms_in_front-formed (kept_widths x.sight.widths) found.scripts script.stop g.formed tt)
     ]
 
 arm_is : (z : ℤ) (n : ℕ) → Fits z → n < 2 ^ 127 → nat_eq (residue 128 z) n ≡ int_eq z (pos n)
@@ -434,7 +435,7 @@ way-ways a body more i j x fs kept spares c w v s found o n h g e =
     let f = bind_ok (judge x.sight w.numbers a n) _ e in
     let q = bind_ok (operand (spot_of a) f.0.0) _ f.2 in
     let covers = judge-covers a x.sight w.numbers sight n f.0.1 f.0.0 h.knows f.1 in
-    let holds = operand-ok x.sight.widths (cells s) (spot_of a) f.0.0 (value sight a) (bits_in sight a) q.0 h.knows.cells q.1 covers in
+    let holds = operand-ok x.sight.widths (cells s) (spot_of a) f.0.0 (value sight a) (bits_in sight a) q.0 h.knows.cells.bits q.1 covers in
     way-sound a body more i j x fs kept spares c w v s found o f.0.0 f.0.1 q.0 h g covers holds q.2
 
 ways-sound : (a : Expr) (body more : Code) → Sound body → Sound more → Sound (way a body more)
@@ -487,7 +488,7 @@ pick-walks a inner rest i q x fs kept spares c w v s h e =
     let o = bind_ok (operand (spot_of a) f.0.0) _ f.2 in
     let u = bind_ok (arms_of x (at_count w f.0.1) o.0 (arm_taken x inner) (all_arms x inner)) _ o.2 in
     let covers = judge-covers a x.sight w.numbers sight w.count f.0.1 f.0.0 h.knows f.1 in
-    let holds = operand-ok x.sight.widths (cells s) (spot_of a) f.0.0 (value sight a) (bits_in sight a) o.0 h.knows.cells o.1 covers in
+    let holds = operand-ok x.sight.widths (cells s) (spot_of a) f.0.0 (value sight a) (bits_in sight a) o.0 h.knows.cells.bits o.1 covers in
     let k = case-sound inner i x fs kept spares.0 c (at_count w f.0.1) u.0 s (value sight a) o.0 (counted x fs c w s f.0.1 h) holds u.1 in
     q.walks x fs kept spares.1 c u.0 v _ k u.2
 

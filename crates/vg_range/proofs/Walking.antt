@@ -1,6 +1,6 @@
 -- In an accepted instance a script does what the statements do.
 use Rattle.std.proofs.Common.{◌≡◌, ℕ, zero, suc, ◌+◌, ◌*◌, ◌^◌, ◌<◌, ◌≤◌, refl, sym, ap, ◌∙◌, subst, arith, inl, inr, Bool, true, false, List, [], ◌∷◌, get_or, set, length}
-use Rattle.std.specs.Prelude.{ℤ, pos, ◌+ℤ◌, if◌then◌else◌, map, Option, Some, None, Result, Ok}
+use Rattle.std.specs.Prelude.{ℤ, pos, ◌+ℤ◌, min, if◌then◌else◌, map, Option, Some, None, Result, Ok}
 use Rattle.std.specs.Ordering.{int_eq}
 use Rattle.std.proofs.lemmas.Bool.{cases_Bool}
 use Rattle.std.proofs.lemmas.Bool.Decides.{Decides-int_eq}
@@ -13,6 +13,7 @@ use Rattle.vg_text.specs.declared.place.Place.{Place}
 use Rattle.vg_pseudo.specs.Whole.{natural}
 use Rattle.vg_pseudo.specs.Resolved.{Expr, Target, bits, lane, whole, number, Code, stop, assign, skip, repeat, choose, way, last, pick, arm}
 use Rattle.vg_pseudo.specs.Value.{State, value, bits_in, count}
+use Rattle.vg_pseudo.specs.Instance.{kept_widths}
 use Rattle.vg_pseudo.specs.Run.{Functions, seen, written, assigned, turned, run, run_ways, run_arm}
 use Rattle.vg_script.specs.Script.{Word, width_of, Script}
 use Rattle.vg_script.specs.Script as script
@@ -84,6 +85,16 @@ behind-formed ws s t p q = elim (cases_Bool (is_empty t)) [
   ]
 ]
 
+-- ---- what is kept of registers
+
+pub kept-at : (ws : List ℕ) (r : ℕ) → get_or (kept_widths ws) r 0 ≡ min 512 (get_or ws r 0)
+kept-at [] r = omega arith
+kept-at (w ∷ ws) zero = refl
+kept-at (w ∷ ws) (suc r) = kept-at ws r
+
+kept-inside : (ws : List ℕ) (r n : ℕ) → n ≤ min 512 (get_or ws r 0) → n ≤ get_or (kept_widths ws) r 0
+kept-inside ws r n h = subst (λ k. n ≤ k) (sym (kept-at ws r)) h
+
 -- ---- where a walk stands
 
 -- A walk that keeps scripts and a run stand together: what is known covers the state, and the script has led from these
@@ -91,7 +102,7 @@ behind-formed ws s t p q = elim (cases_Bool (is_empty t)) [
 pub record Together (x : Course) (fs : Functions) (c : Cells) (w : Stand) (s : State) : Type 0 where
   pub knows : Knows x.sight w.numbers (seen fs x.sight.turns s)
   pub same : after w.script c ≡ cells s
-  pub formed : ScriptFormed x.sight.widths w.script
+  pub formed : ScriptFormed (kept_widths x.sight.widths) w.script
 
 -- a walk goes with a run, wherever both begin
 abbrev pub GoesWith : Course → Functions → (Stand → Result Stand RangeFault) → (State → State) → Type 0
@@ -108,12 +119,12 @@ counted x fs c w s n h = record { knows = h.knows; same = h.same; formed = h.for
 
 -- a script more
 pub scripted : (x : Course) (fs : Functions) (c : Cells) (w : Stand) (ks : List Kept) (s u : State) (t : Script) → x.is_kept ≡ true → Together x fs c w s
-    → Knows x.sight ks (seen fs x.sight.turns u) → after t (cells s) ≡ cells u → ScriptFormed x.sight.widths t
+    → Knows x.sight ks (seen fs x.sight.turns u) → after t (cells s) ≡ cells u → ScriptFormed (kept_widths x.sight.widths) t
     → Together x fs c (with_script x t (record { numbers = ks; count = w.count; script = w.script })) u
 scripted x fs c w ks s u t kept h knows same formed = rw kept (record {
   knows = knows;
   same = behind-after w.script t c ∙ ap (after t) h.same ∙ same;
-  formed = behind-formed x.sight.widths w.script t h.formed formed;
+  formed = behind-formed (kept_widths x.sight.widths) w.script t h.formed formed;
 })
 
 -- ---- indices of targets
@@ -144,7 +155,7 @@ constant_at-is x fs c w s e a h p =
     let i = bind_ok (index_of (spot_of e) f.0.0) _ f.2 in
     let z = bind_ok (constant_index (spot_of e).outer i.0) _ i.2 in
     let covers = judge-covers e x.sight w.numbers sight w.count f.0.1 f.0.0 h.knows f.1 in
-    let index = index-is x.sight.widths (cells s) (spot_of e) f.0.0 (value sight e) (bits_in sight e) i.0 h.knows.cells i.1 covers in
+    let index = index-is x.sight.widths (cells s) (spot_of e) f.0.0 (value sight e) (bits_in sight e) i.0 h.knows.cells.bits i.1 covers in
     subst (IsConstant x fs c w s e) (same_constant z.2)
     (record { value = constant-is x.sight.widths (cells s) (spot_of e).outer i.0 z.0 (value sight e) z.1 index; stands = counted x fs c w s f.0.1 h })
 
@@ -159,7 +170,7 @@ same_goal e = cc
 
 -- the bits that a target names
 pub record IsGoal (x : Course) (fs : Functions) (s : State) (t : Target) (g : Goal) : Type 0 where
-  pub inside : g.bits.low + g.bits.width ≤ get_or x.sight.widths g.register 0
+  pub inside : g.bits.low + g.bits.width ≤ min 512 (get_or x.sight.widths g.register 0)
   pub some : 0 < g.bits.width
   pub spared : TargetSpares x.sight.constants t → get_or x.sight.constants g.register None ≡ None
   pub writes : (z : ℤ) → assigned (seen fs x.sight.turns s) t z ≡ written g.register g.bits.low g.bits.width z s
@@ -239,7 +250,7 @@ some_none n e = absurd (cc)
 
 -- what is known behind a write inside of a register that is not constant
 pub written-knows : (x : Course) (fs : Functions) (ks : List Kept) (s : State) (r low width : ℕ) (z : ℤ) → Knows x.sight ks (seen fs x.sight.turns s)
-    → low + width ≤ get_or x.sight.widths r 0 → get_or x.sight.constants r None ≡ None
+    → low + width ≤ min 512 (get_or x.sight.widths r 0) → get_or x.sight.constants r None ≡ None
     → Knows x.sight ks (seen fs x.sight.turns (written r low width z s))
 written-knows x fs ks s r low width z h inside spared = record {
   cells = written-cells x.sight.widths s r low width z h.cells inside;
@@ -263,7 +274,7 @@ record_numbers s k z = record { registers = s.registers; numbers = set s.numbers
 pub number-knows : (x : Course) (fs : Functions) (ks : List Kept) (s : State) (k : ℕ) (r : Kept) (z : ℤ) → Knows x.sight ks (seen fs x.sight.turns s) → Keeps r z
     → Knows x.sight (set ks k r) (seen fs x.sight.turns (record { registers = s.registers; numbers = set s.numbers k z }))
 number-knows x fs ks s k r z h p = record {
-  cells = record { widths = h.cells.widths; bits = h.cells.bits };
+  cells = record { kept = h.cells.kept; bits = h.cells.bits };
   small = h.small;
   numbers = keeps-set ks s.numbers k r z h.numbers p;
   constants = h.constants;
@@ -299,7 +310,8 @@ assign-goes x fs place t e kept spares c w v s h p =
     aimed (Some g) u f m k i covers q =
         let z = value (seen fs x.sight.turns s) e in
         let made = bind_ok (stored (spot_of e) g f) _ q in
-        let st = stored-stores x.sight.widths s (spot_of e) g.register g.bits f z (bits_in (seen fs x.sight.turns s) e) made.0 k.knows.cells i.inside i.some covers made.1 in
+        let st = stored-stores x.sight.widths (kept_widths x.sight.widths) s (spot_of e) g.register g.bits f z (bits_in (seen fs x.sight.turns s) e) made.0 k.knows.cells.bits
+        (kept-inside x.sight.widths g.register (g.bits.low + g.bits.width) i.inside) i.some covers made.1 in
         let knows = written-knows x fs u.numbers s g.register g.bits.low g.bits.width z k.knows i.inside (i.spared spares) in
         subst (λ y. Together x fs c y (assigned (seen fs x.sight.turns s) t z)) (same_stand made.2)
         (subst (Together x fs c (with_script x made.0 (at_count u m))) (sym (i.writes z))
@@ -307,7 +319,7 @@ assign-goes x fs place t e kept spares c w v s h p =
     aimed None u f m k i covers q =
         let z = value (seen fs x.sight.turns s) e in
         let a = bind_ok (operand (spot_of e) f) _ q in
-        let holds = operand-ok x.sight.widths (cells s) (spot_of e) f z (bits_in (seen fs x.sight.turns s) e) a.0 k.knows.cells a.1 covers in
+        let holds = operand-ok x.sight.widths (cells s) (spot_of e) f z (bits_in (seen fs x.sight.turns s) e) a.0 k.knows.cells.bits a.1 covers in
         let stands = holds-stands x.sight.widths (cells s) a.0 z holds in
         let r = assigned-number fs x.sight.turns s t i.0 z i.1 in
         let after = record_numbers s (target_number t) z in

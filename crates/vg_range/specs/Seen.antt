@@ -7,6 +7,7 @@ use Rattle.vg_pseudo.specs.declared.operators.UnaryOp.{UnaryOp}
 use Rattle.vg_pseudo.specs.declared.operators.BinaryOp.{BinaryOp}
 use Rattle.vg_text.specs.declared.place.Place.{Place}
 use Rattle.vg_pseudo.specs.Value.{count}
+use Rattle.vg_pseudo.specs.Instance.{kept_widths}
 use Rattle.vg_pseudo.specs.Resolved.{Expr, Function, Code, assign, skip, repeat, choose, pick}
 use Rattle.std.specs.Option.{option_map}
 use Rattle.vg_script.specs.Script.{Word, Given, Script, frame, stop}
@@ -180,4 +181,4 @@ given_onto (p ∷ given) rest = given_first p (given_onto given rest)
 -- what a call gives whose body leaves this script and whose RETURN this
 abbrev pub answered_by : Function → List Passed → Script → Found → Count → Result (Found × Count) RangeFault
 answered_by f given s g c =
-    answered (spot_of f.answer) (frame f.body.widths f.body.numbers (given_of given) s) g >>= λ a. Ok (a, c)
+    answered (spot_of f.answer) (frame (kept_widths f.body.widths) f.body.numbers (given_of given) s) g >>= λ a. Ok (a, c)

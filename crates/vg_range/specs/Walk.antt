@@ -1,5 +1,5 @@
 -- An instance, looked at in the order in which it runs: what it refuses first, or its script.
-use Rattle.std.specs.Prelude.{ℕ, zero, suc, ◌%◌, ◌^◌, ℤ, pos, ◌+ℤ◌, Bool, true, false, ◌&&◌, nat_le, List, [], ◌∷◌, ◌++◌, get_or, set, take, Option, Some, None, Result, Ok, Err, if◌then◌else◌}
+use Rattle.std.specs.Prelude.{ℕ, zero, suc, ◌%◌, ◌^◌, ℤ, pos, ◌+ℤ◌, Bool, true, false, ◌&&◌, nat_le, min, List, [], ◌∷◌, ◌++◌, get_or, set, take, Option, Some, None, Result, Ok, Err, if◌then◌else◌}
 use Rattle.std.specs.Option.{option_map}
 use Rattle.std.specs.Ordering.{int_eq}
 use Rattle.vg_base.specs.Bind.{◌>>=◌}
@@ -7,6 +7,7 @@ use Rattle.vg_text.specs.declared.place.Place.{Place}
 use Rattle.vg_pseudo.specs.declared.spot.Spot.{Spot}
 use Rattle.vg_pseudo.specs.Resolved.{Expr, Target, bits, lane, whole, number, Code, stop, assign, skip, repeat, choose, way, last, pick, arm, Body, Function, Resolved}
 use Rattle.vg_pseudo.specs.Value.{count}
+use Rattle.vg_pseudo.specs.Instance.{kept_widths}
 use Rattle.vg_script.specs.Script.{Word, Low, Frame, frame, Given, Script}
 use Rattle.vg_script.specs.Script as script
 use Rattle.vg_interval.specs.declared.fault.RangeFault.{RangeFault}
@@ -72,8 +73,9 @@ pub record Goal : Type 0 where
 abbrev pub goal : ℕ → Bits → Goal
 goal r b = record { register = r; bits = b }
 
+-- how many bits of a register an assignment can write: 512 are kept
 abbrev pub width_in : Course → ℕ → ℕ
-width_in x r = get_or x.sight.widths r 0
+width_in x r = min 512 (get_or x.sight.widths r 0)
 
 -- the target at this place; None is a number variable
 abbrev pub goal_at : Course → Place → Stand → Target → Result (Option Goal × Stand) RangeFault
@@ -354,10 +356,11 @@ begun b c = record { numbers = zeros b.numbers; count = c; script = script.stop 
 abbrev pub called : Bool → List Walk → Function → Walk
 called is_kept walks f at given c =
     let ps = take f.body.parameters given in
-    let x = course_of is_kept walks f.body.widths (constants_of f.body.widths ps) in do
+    let kept = kept_widths f.body.widths in
+    let x = course_of is_kept walks f.body.widths (constants_of kept ps) in do
       w ← walk x f.body.code (begun f.body c)
       g ← judged x w f.answer
-      a ← answered (spot_of f.answer) (frame f.body.widths f.body.numbers
+      a ← answered (spot_of f.answer) (frame kept f.body.numbers
           (given_of ps) w.script) g.0
       Ok (a, g.1)
 

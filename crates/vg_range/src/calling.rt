@@ -4,13 +4,14 @@ ghost use Rattle.std.specs.Prelude.{◌≡◌, [], IfOk, get_or, map};
 ghost use Rattle.vg_interval.specs.Judge.{no_walk};
 ghost use Rattle.vg_interval.specs.Views.{Gives, count_view, found_view, passed_view};
 ghost use Rattle.vg_names.specs.Views.{function_view};
+ghost use Rattle.vg_pseudo.specs.Instance.{kept_widths};
 ghost use Rattle.vg_script.specs.Views.{script_of};
 ghost use Rattle.vg_range.specs.Seen.{answered_by};
 ghost use Rattle.vg_range.specs.Walk.{called, walks_from};
 
 use crate::beginning::begun;
 use crate::code_walk::walk;
-use crate::course::{Course, boxed, is_constant};
+use crate::course::{Course, MOST_KEPT, boxed, is_constant};
 use crate::frames::{constants_of, given_of};
 use crate::judging::judge;
 use crate::spots::spot_of;
@@ -24,12 +25,15 @@ use vg_names::Function;
 use vg_pseudo::Spot;
 use vg_script::{Frame, Script, WholeNumber};
 
-fn copied(alloc: Global, widths: &[u128]) -> Result<Items<u128>, AllocError>
-    ensures { IfOk result (λ all. all ≡ widths.now) }
+/// How many bits a call keeps of registers of these widths: at most 512. Those above are zeros.
+fn kept_widths(alloc: Global, widths: &[u128]) -> Result<Items<u128>, AllocError>
+    ensures { IfOk result (λ kept. kept ≡ kept_widths widths.now) }
 {
-    let mut all = Vec::new(alloc);
-    all.extend_from_slice(widths)?;
-    Ok(Items::from_vec(all))
+    let mut kept = Vec::new(alloc);
+    'widths: for width in widths {
+        kept.push((*width).min(MOST_KEPT))?;
+    }
+    Ok(Items::from_vec(kept))
 }
 
 /// What a call gives whose body leaves this script and whose RETURN this.
@@ -37,15 +41,16 @@ fn copied(alloc: Global, widths: &[u128]) -> Result<Items<u128>, AllocError>
 fn answered_by(
     alloc: Global,
     function: &Function,
+    widths: Items<u128>,
     given: Vec<Passed>,
     script: Script,
     found: Box<Found>,
     count: Count,
 ) -> Result<(Box<Found>, Count), RangeFault>
+    requires { widths ≡ kept_widths (function_view function.now).body.widths }
     ensures { Gives (λ f. (found_view f.0.value, count_view f.1)) result
         (answered_by (function_view function.now) (map passed_view given.items) (script_of script) (found_view found.value) (count_view count)) }
 {
-    let widths = copied(alloc, function.body.widths.as_slice())?;
     let given = given_of(alloc, given)?;
     let frame = Frame {
         widths,
@@ -85,10 +90,10 @@ pub fn called(
     let before = written.get();
     let mut given = given;
     given.truncate(function.body.parameters);
-    let widths = function.body.widths.as_slice();
-    let constants = constants_of(alloc, widths, given.as_slice())?;
+    let kept = kept_widths(alloc, function.body.widths.as_slice())?;
+    let constants = constants_of(alloc, kept.as_slice(), given.as_slice())?;
     let course = Course {
-        widths,
+        widths: function.body.widths.as_slice(),
         constants: constants.as_slice(),
         turns: &[],
         functions,
@@ -104,7 +109,7 @@ pub fn called(
         count: _,
         script,
     } = Box::into_inner(stand);
-    let (found, count) = answered_by(alloc, function, given, script, found, count)?;
+    let (found, count) = answered_by(alloc, function, kept, given, script, found, count)?;
     keep_call(written, before, &found);
     Ok((found, count))
 }

@@ -15,7 +15,7 @@ ghost use Rattle.vg_range.specs.Weight.{code_weight};
 
 use crate::arms::{Arms, arm_of, no_arms, one_arm_more, picked_by};
 use crate::beginning::{beginning, turns_within};
-use crate::course::Course;
+use crate::course::{Course, width_in};
 use crate::decision::Decision;
 use crate::estimating::decided;
 use crate::giving::{given, given_unwritten};
@@ -28,7 +28,6 @@ use crate::turns::{first_turn, next_turn};
 use crate::uses::selector_in;
 use crate::ways::{Met, Ways, closed, no_ways, one_way_more};
 use std::alloc::Global;
-use vg_interval::moving::width_at;
 use vg_interval::slices::{bits_between, bits_of_element, index_of};
 use vg_interval::{Count, RangeFault};
 use vg_names::{Code, ResolvedExpr, Target};
@@ -70,7 +69,7 @@ fn bits_goal(
 {
     let (last, stand) = settled(alloc, course, stand, high)?;
     let (first, stand) = settled(alloc, course, stand, low)?;
-    let bits = bits_between(place, width_at(course.widths, register), last, first)?;
+    let bits = bits_between(place, width_in(course, register), last, first)?;
     Ok((Some(Goal { register, bits }), stand))
 }
 
@@ -90,7 +89,7 @@ fn lane_goal(
         (goal_at (course_view course.now) place (stand_view stand.value) (node.lane register size (expr_of index.now))) }
 {
     let (index, stand) = settled(alloc, course, stand, index)?;
-    let all = width_at(course.widths, register);
+    let all = width_in(course, register);
     let bits = bits_of_element(place, all, size as u128, index)?;
     Ok((Some(Goal { register, bits }), stand))
 }
@@ -104,7 +103,7 @@ fn whole_goal(
 ) -> Result<Goal, RangeFault>
     ensures { Gives goal_view result (whole_goal (course_view course.now) place register size) }
 {
-    let all = width_at(course.widths, register);
+    let all = width_in(course, register);
     let bits = bits_of_element(place, all, size, WholeNumber::Natural(0))?;
     Ok(Goal { register, bits })
 }

@@ -5,12 +5,13 @@ ghost use Rattle.vg_interval.specs.Found.{known};
 ghost use Rattle.vg_interval.specs.Judge.{constant, element_at, slice_at, variable_found};
 ghost use Rattle.vg_interval.specs.Views.{Gives, count_view, found_view, index_view, kept_view};
 ghost use Rattle.vg_script.specs.Views.{number_of};
-ghost use Rattle.vg_range.specs.Seen.{leaf, sight_view};
+ghost use Rattle.vg_range.specs.Seen.{course_view, leaf, sight_view};
+ghost use Rattle.vg_range.specs.Walk.{width_in};
 
 use std::alloc::{AllocError, Global};
 use std::cell::Cell;
 use vg_interval::calls::variable_found;
-use vg_interval::moving::{element_at, slice_at};
+use vg_interval::moving::{element_at, slice_at, width_at};
 use vg_interval::{Count, Found, Index, Kept, RangeFault};
 use vg_names::Function;
 use vg_pseudo::Spot;
@@ -19,6 +20,9 @@ use vg_text::Place;
 
 /// The most slices, operators, functions and choices of a script that is written out.
 const MOST_WRITTEN: u32 = 1 << 24;
+
+/// The most bits that are kept of a register.
+pub const MOST_KEPT: u128 = 512;
 
 /// What a body sees: the widths of its registers, the numbers of those that are constant, the turns
 /// of the FORs around a place, innermost first, the DEFINEs before it, whether scripts are kept, and
@@ -31,6 +35,13 @@ pub struct Course<'a> {
     pub functions: &'a [Function],
     pub is_kept: bool,
     pub written: &'a Cell<u32>,
+}
+
+/// How many bits of a register an assignment can write: those that are kept.
+pub fn width_in(course: &Course, register: usize) -> u128
+    ensures { result ≡ width_in (course_view course.now) register }
+{
+    width_at(course.widths, register).min(MOST_KEPT)
 }
 
 /// What is known of the variable of a FOR.

@@ -7,6 +7,7 @@ use Rattle.vg_text.specs.declared.place.Place.{Place}
 use Rattle.vg_pseudo.specs.declared.spot.Spot.{Spot}
 use Rattle.vg_pseudo.specs.Resolved.{Expr, Target, bits, lane, whole, number, Code, stop, assign, skip, repeat, choose, way, last, pick, arm, Body, Function, Resolved}
 use Rattle.vg_pseudo.specs.Value.{count}
+use Rattle.vg_pseudo.specs.Instance.{kept_widths}
 use Rattle.vg_script.specs.Script.{Word, Low, Frame, frame, Given, Script}
 use Rattle.vg_script.specs.Script as script
 use Rattle.vg_interval.specs.declared.fault.RangeFault.{RangeFault}
@@ -303,10 +304,10 @@ answered_at f c = Ok (f, c)
 called-settled : (is_kept : Bool) (walks : List Walk) (f : Function) → CallsSettle walks → WalkSettles (called is_kept walks f)
 called-settled is_kept walks f h p given c k =
     let ps = take f.body.parameters given in
-    let x = course_of is_kept walks f.body.widths (constants_of f.body.widths ps) in
+    let x = course_of is_kept walks f.body.widths (constants_of (kept_widths f.body.widths) ps) in
     then_settled met StandStatic is_met FirstStatic c.is_dynamic (walk x f.body.code (begun f.body c)) _ (walk-settled x h f.body.code (begun f.body c) (λ e. tt)) (λ w i.
     then_settled is_met FirstStatic is_met FirstStatic (met w) (judged x w f.answer) _ (judged-settled x h w f.answer) (λ g j.
-    let own = frame f.body.widths f.body.numbers (given_of ps) w.script in
+    let own = frame (kept_widths f.body.widths) f.body.numbers (given_of ps) w.script in
     then_plain (λ a. g.1.is_dynamic ≡ false → FoundStatic a) is_met FirstStatic g.1.is_dynamic (answered (spot_of f.answer) own g.0) (λ a. answered_at a g.1)
     (gives_where (g.1.is_dynamic ≡ false) FoundStatic (answered (spot_of f.answer) own g.0) (λ e.
     let n = j e in

@@ -39,8 +39,8 @@ pub lift_turn-join_states-requires-clause-second : goal.lift_turn-join_states-re
 lift_turn-join_states-requires-clause-second t c =
     state_fits c.args.pool.now c.lift.new.pool c.args.state.now c.lift.ensures.keeps c.requires.fits
 
-pub passed-part_of-requires-clause-fits : goal.passed-part_of-requires-clause-fits
-passed-part_of-requires-clause-fits t c =
+pub passed-moved_bits-requires : goal.passed-moved_bits-requires
+passed-moved_bits-requires t c =
     state_fits c.args.pool.now c.registers.pool c.args.state.now c.registers.invariant.keeps c.requires.fits
 
 pub term-term-requires-in-Two-2 : goal.term-term-requires-in-Two-2
@@ -51,7 +51,7 @@ term-term-requires-in-Two-2 t c =
       (
         state_fits c.args.pool.now c.term-in-Two.new.pool c.args.state.now c.term-in-Two.ensures.keeps c.requires.fits,
         (
-          subst (λ r. Formed (widths_in c.args.state.now) (word_of r)) (sym c.deref-in-Two-2.ensures) (subst (λ e. Formed (widths_in c.args.state.now) (word_of e)) c.in-Two.is c.requires.formed).3,
+          subst (λ r. Formed (word_of r)) (sym c.deref-in-Two-2.ensures) (subst (λ e. Formed (word_of e)) c.in-Two.is c.requires.formed).3,
           subst (λ r. IsStaticWord (word_of r)) (sym c.deref-in-Two-2.ensures) (subst (λ e. IsStaticWord (word_of e)) c.in-Two.is c.requires.is_static).1,
         ),
       ),
@@ -65,7 +65,7 @@ term-term-requires-in-Sel-2 t c =
       (
         state_fits c.args.pool.now c.term-in-Sel.new.pool c.args.state.now c.term-in-Sel.ensures.keeps c.requires.fits,
         (
-          subst (λ r. Formed (widths_in c.args.state.now) (word_of r)) (sym c.deref-in-Sel-2.ensures) (subst (λ e. Formed (widths_in c.args.state.now) (word_of e)) c.in-Sel.is c.requires.formed).3,
+          subst (λ r. Formed (word_of r)) (sym c.deref-in-Sel-2.ensures) (subst (λ e. Formed (word_of e)) c.in-Sel.is c.requires.formed).3,
           subst (λ r. IsStaticWord (word_of r)) (sym c.deref-in-Sel-2.ensures) (subst (λ e. IsStaticWord (word_of e)) c.in-Sel.is c.requires.is_static).1,
         ),
       ),
@@ -80,7 +80,7 @@ term-term-requires-in-Sel-3 t c =
         state_fits c.args.pool.now c.term-in-Sel-2.new.pool c.args.state.now
             (kept_twice c.args.pool.now c.term-in-Sel.new.pool c.term-in-Sel-2.new.pool c.term-in-Sel.ensures.keeps c.term-in-Sel-2.ensures.keeps) c.requires.fits,
         (
-          subst (λ r. Formed (widths_in c.args.state.now) (word_of r)) (sym c.deref-in-Sel-3.ensures) (subst (λ e. Formed (widths_in c.args.state.now) (word_of e)) c.in-Sel.is c.requires.formed).4,
+          subst (λ r. Formed (word_of r)) (sym c.deref-in-Sel-3.ensures) (subst (λ e. Formed (word_of e)) c.in-Sel.is c.requires.formed).4,
           subst (λ r. IsStaticWord (word_of r)) (sym c.deref-in-Sel-3.ensures) (subst (λ e. IsStaticWord (word_of e)) c.in-Sel.is c.requires.is_static).2,
         ),
       ),
@@ -266,7 +266,7 @@ lift_ways-term-requires-in-Way t c =
       (
         state_fits old c.ways.pool b inv.keeps before.fits,
         (
-          subst (λ r. Formed ws (word_of r)) (sym c.deref.ensures) formed.1,
+          subst (λ r. Formed (word_of r)) (sym c.deref.ensures) formed.1,
           subst (λ r. IsStaticWord (word_of r)) (sym c.deref.ensures) static.0,
         ),
       ),
@@ -375,14 +375,13 @@ passed-passed_word-requires t c =
     let inv = c.registers.invariant in
     let less : size-Word c.deref.result.now < size-Given c.registers.left.now =
     word_given c.registers.left.now c.in-Word.word c.in-Word.rest c.deref.result.now c.in-Word.is c.deref.ensures in
-    let ws = widths_in c.args.state.now in
-    let formed = subst (λ d. GivenFormed ws (given_of d)) c.in-Word.is inv.formed in
+    let formed = subst (λ d. GivenFormed (given_of d)) c.in-Word.is inv.formed in
     let static = subst (λ d. IsStaticGiven (given_of d)) c.in-Word.is inv.is_static in (
       omega (arith, c.decreases, inv.less, less),
       (
         state_fits c.args.pool.now c.registers.pool c.args.state.now inv.keeps c.requires.fits,
         (
-          subst (λ d. Formed ws (word_of d)) (sym c.deref.ensures) formed.1,
+          subst (λ d. Formed (word_of d)) (sym c.deref.ensures) formed.1,
           (
             subst (λ d. width_of (word_of d) ≡ 128) (sym c.deref.ensures) formed.0,
             subst (λ d. IsStaticWord (word_of d)) (sym c.deref.ensures) static.0,
@@ -405,7 +404,7 @@ passed-registers-preserved-in-Word t c =
     let k = c.passed_word.ensures.keeps in
     let form : given_of c.registers.left.now ≡ word x (given_of rest) =
     ap given_of c.in-Word.is ∙ ap (λ g. word x (given_of g)) (sym c.deref-left.ensures) in
-    let formed = subst (GivenFormed (widths_in state)) form inv.formed in
+    let formed = subst GivenFormed form inv.formed in
     let static = subst IsStaticGiven form inv.is_static in
     let first : passed_of new c.in_ok-first-in-Word.first ≡ of_bits (bits_from (term s x) 0 128) =
     c.in_ok-first-in-Word.ensures.is
@@ -433,7 +432,7 @@ passed-registers-preserved-in-Number t c =
     let n = c.in-Number.number in
     let form : given_of c.registers.left.now ≡ number n (given_of rest) =
     ap given_of c.in-Number.is ∙ ap (λ g. number n (given_of g)) (sym c.deref-left-in-Number.ensures) in
-    let formed = subst (GivenFormed (widths_in state)) form inv.formed in
+    let formed = subst GivenFormed form inv.formed in
     let static = subst IsStaticGiven form inv.is_static in
     let rest_less : size-Given rest < size-Given c.registers.left.now = behind_number c.registers.left.now n c.in-Number.rest rest c.in-Number.is c.deref-left-in-Number.ensures in
     record {
@@ -460,7 +459,7 @@ passed-registers-preserved t c =
     let bits = range (first_bit l) w (get_or s.registers r []) in
     let form : given_of c.registers.left.now ≡ moved r l w (given_of rest) =
     ap given_of c.in-Moved.is ∙ ap (λ g. moved r l w (given_of g)) (sym c.deref-left-in-Moved.ensures) in
-    let formed = subst (GivenFormed (widths_in state)) form inv.formed in
+    let formed = subst GivenFormed form inv.formed in
     let static = subst IsStaticGiven form inv.is_static in
     let first : bits_of now c.in_ok-bits-in-Moved.bits ≡ bits =
     c.in_ok-bits-in-Moved.ensures.is

@@ -55,7 +55,7 @@ abbrev pub invariant-passed-registers : goal.invariant-passed-registers
 invariant-passed-registers l = record {
   is : all_passed l.pool l.all.items ++ passed (state_of l.initial.pool l.state) (given_of l.left) ≡ passed (state_of l.initial.pool l.state) (given_of l.given);
   fit : AllPassedFit l.pool l.all.items;
-  formed : GivenFormed (widths_in l.state) (given_of l.left);
+  formed : GivenFormed (given_of l.left);
   is_static : IsStaticGiven (given_of l.left);
   keeps : Keeps l.initial.pool l.pool;
   less : size-Given l.left ≤ size-Given l.given;

@@ -36,7 +36,7 @@ abbrev pub invariant-enter_given-registers : goal.invariant-enter_given-register
 invariant-enter_given-registers l = record {
   is : filled l.register (numbers_given l.own.cells (given_of l.left)) l.cells.cells ≡ filled 0 (numbers_given l.own.cells (given_of l.given)) l.initial.cells.cells;
   room : l.cells.room ≡ l.initial.cells.room;
-  formed : GivenFormed (widths_in l.own.cells) (given_of l.left);
+  formed : GivenFormed (given_of l.left);
   enough : Suffices (given_room (given_of l.left)) l.own.room (length l.free);
   alike : Alike l.own.room l.free;
   count : length l.free ≡ length l.initial.free;
