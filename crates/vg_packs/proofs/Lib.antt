@@ -2,6 +2,7 @@ pub mod Beginning
 pub mod Chains
 pub mod Counts
 pub mod Cycles
+pub mod Floors
 pub mod Following
 pub mod Free
 pub mod LaneLists

@@ -1,6 +1,6 @@
 -- Marks that are set one after the other.
-use Rattle.std.proofs.Common.{◌≡◌, ℕ, zero, suc, ◌+◌, ◌<◌, ◌≤◌, Bool, true, false, List, [], ◌∷◌, length, get_or, take, refl, sym, ◌∙◌, ap, subst, inl, inr, arith, get_or-set_same, get_or-set_other}
-use Rattle.std.specs.Prelude.{◌||◌, nat_eq, nat_lt, replicate, set, Ok, Err, IfOk, Result}
+use Rattle.std.proofs.Common.{◌≡◌, ℕ, zero, suc, ◌+◌, ◌<◌, ◌≤◌, ◌⊎◌, Bool, true, false, List, [], ◌∷◌, length, get_or, take, refl, sym, ◌∙◌, ap, subst, inl, inr, arith, get_or-set_same, get_or-set_other}
+use Rattle.std.specs.Prelude.{◌||◌, nat_eq, nat_le, nat_lt, replicate, set, Ok, Err, IfOk, Result}
 use Rattle.std.specs.List.{list_any}
 use Rattle.std.proofs.lemmas.Bool.{cases_Bool}
 use Rattle.std.proofs.lemmas.Bool.Decides.{nat_tests}
@@ -8,7 +8,7 @@ use Rattle.std.proofs.lemmas.List.{length-replicate, length-set, take_all}
 use Rattle.std.proofs.lemmas.List.Folds.{list_any_more}
 use Rattle.vg_plans.specs.Members.{Has}
 use Rattle.vg_shapes.specs.declared.pack.Pack.{Pack as Packed}
-use Rattle.vg_packs.specs.Marks.{AddsMarks, AreMarks, is_packed_by}
+use Rattle.vg_packs.specs.Marks.{AddsMarks, AreMarks, is_packed_by, is_within}
 use Rattle.vg_packs.specs.Walk.{HasWay, IsApart, IsAt, LeadsApart, Way, there, down, is_in_plan}
 
 or-none : (b : Bool) → b ≡ (b || false)
@@ -80,7 +80,7 @@ marked-outside marks k l = record {
       or-none (get_or marks v false) ∙ ap (λ b. get_or marks v false || b) (sym f);
 }
 
-at-none : (n v : ℕ) → get_or (replicate n false) v false ≡ false
+pub at-none : (n v : ℕ) → get_or (replicate n false) v false ≡ false
 at-none zero v = refl
 at-none (suc n) zero = refl
 at-none (suc n) (suc v) = at-none n v
@@ -117,7 +117,7 @@ packed-any n plan packed a (u ∷ us) =
       | inr f ↦ rw f refl
     ]
 
-at-inside : (marks : List Bool) (v : ℕ) → IsAt marks v → v < length marks
+pub at-inside : (marks : List Bool) (v : ℕ) → IsAt marks v → v < length marks
 at-inside [] v t = absurd (cc)
 at-inside (b ∷ marks) zero t = omega arith
 at-inside (b ∷ marks) (suc v) t = let h = at-inside marks v t in omega (arith, h)
@@ -150,3 +150,77 @@ module _ (ns : ℕ → List ℕ) (own : ℕ → Bool) (n : ℕ) (marked : List B
   leads-own (Ok r) starts needed marks e long h =
       λ f. (marks, subst (λ l. IsApart ns own l marks) e (apart-own starts marks long (h f)))
   leads-own (Err x) starts needed marks e long h = h
+
+-- ---- marks of runs of numbers
+
+pub below-none : (end : ℕ) (marks : List Bool) → end ≡ 0 → AddsMarks (λ v. nat_lt v end) marks marks
+below-none end marks e = adds-none (λ v. nat_lt v end) marks (λ v. grind (arith, nat_tests, e))
+
+pub below-more : (k : ℕ) (a b c : List Bool) → AddsMarks (λ v. nat_lt v k) a b → AddsMarks (λ v. nat_eq v k) b c
+    → AddsMarks (λ v. nat_lt v (k + 1)) a c
+below-more k a b c f g = record {
+  long = g.long ∙ f.long;
+  at = λ v l.
+      g.at v (subst (λ n. v < n) (sym f.long) l)
+      ∙ ap (λ t. t || nat_eq v k) (f.at v l)
+      ∙ or-both (get_or a v false) (nat_lt v k) (nat_eq v k)
+      ∙ ap (λ t. get_or a v false || t) (one-more v);
+}
+  where
+    one-more : (v : ℕ) → (nat_lt v k || nat_eq v k) ≡ nat_lt v (k + 1)
+    one-more v = elim (cases_Bool (nat_lt v k)) [
+      | inl t ↦ let e : nat_lt v (k + 1) ≡ true = grind (arith, nat_tests, t) in rw t (sym e)
+      | inr n ↦ elim (cases_Bool (nat_eq v k)) [
+        | inl t ↦ let e : nat_lt v (k + 1) ≡ true = grind (arith, nat_tests, t) in rw (n, t) (sym e)
+        | inr d ↦ let e : nat_lt v (k + 1) ≡ false = grind (arith, nat_tests, n, d) in rw (n, d) (sym e)
+      ]
+    ]
+
+pub within-none : (least k : ℕ) (marks : List Bool) → k ≤ least → AddsMarks (is_within least k) marks marks
+within-none least k marks l = adds-none (is_within least k) marks never
+  where
+    never : (v : ℕ) → is_within least k v ≡ false
+    never v = elim (cases_Bool (nat_lt least v)) [
+      | inl t ↦ let e : nat_le v k ≡ false = grind (arith, nat_tests, t, l) in rw t e
+      | inr n ↦ rw n refl
+    ]
+
+pub within-more : (least k : ℕ) (a b c : List Bool) → least ≤ k → AddsMarks (is_within least k) a b
+    → AddsMarks (λ v. nat_eq v (k + 1)) b c → AddsMarks (is_within least (k + 1)) a c
+within-more least k a b c low f g = record {
+  long = g.long ∙ f.long;
+  at = λ v l.
+      g.at v (subst (λ n. v < n) (sym f.long) l)
+      ∙ ap (λ t. t || nat_eq v (k + 1)) (f.at v l)
+      ∙ or-both (get_or a v false) (is_within least k v) (nat_eq v (k + 1))
+      ∙ ap (λ t. get_or a v false || t) (one-more v);
+}
+  where
+    one-more : (v : ℕ) → (is_within least k v || nat_eq v (k + 1)) ≡ is_within least (k + 1) v
+    one-more v = elim (cases_Bool (nat_lt least v)) [
+      | inl t ↦ elim (cases_Bool (nat_le v k)) [
+        | inl s ↦ let e : nat_le v (k + 1) ≡ true = grind (arith, nat_tests, s) in rw (t, s) (sym e)
+        | inr n ↦ elim (cases_Bool (nat_eq v (k + 1))) [
+          | inl s ↦ let e : nat_le v (k + 1) ≡ true = grind (arith, nat_tests, s) in rw (t, n, s) (sym e)
+          | inr d ↦ let e : nat_le v (k + 1) ≡ false = grind (arith, nat_tests, n, d) in rw (t, n, d) (sym e)
+        ]
+      ]
+      | inr n ↦
+          let d : nat_eq v (k + 1) ≡ false = grind (arith, nat_tests, n, low) in
+          rw (n, d) refl
+    ]
+
+-- the run that was marked is the one that was wanted
+pub within-all : (least k greatest : ℕ) (a b : List Bool) → greatest ≤ k → (k ≡ least) ⊎ (k ≤ greatest)
+    → AddsMarks (is_within least k) a b → AddsMarks (is_within least greatest) a b
+within-all least k greatest a b up few m =
+    adds-same (is_within least k) (is_within least greatest) a b (λ v. elim few [
+      | inl e ↦ none v k e (omega (arith, e)) ∙ sym (none v greatest e (omega (arith, e, up)))
+      | inr l ↦ let e : k ≡ greatest = omega (arith, l, up) in ap (λ n. is_within least n v) e
+    ]) m
+  where
+    none : (v n : ℕ) → k ≡ least → n ≤ least → is_within least n v ≡ false
+    none v n e l = elim (cases_Bool (nat_lt least v)) [
+      | inl t ↦ let f : nat_le v n ≡ false = grind (arith, nat_tests, t, l) in rw t f
+      | inr d ↦ rw d refl
+    ]

@@ -80,29 +80,22 @@ module _ (ds : List Description) (matches : List Match) (ssa : Ssa) (deps : List
       let g : first_producer full plan o ≡ Some p = sym f ∙ e in
       rw s (rw (g, np, nq) refl)
 
-  found-stays : (plan ps : List Packed) (p : Packed) → find (stays_plan full plan) ps ≡ Some p → stays_plan full plan p ≡ true
+  found-stays : (plan ps : List Packed) (p : Packed) → find (stays_plan bare plan) ps ≡ Some p → stays_plan bare plan p ≡ true
   found-stays plan [] p e = absurd (cc)
-  found-stays plan (q ∷ ps) p e = elim (cases_Bool (stays_plan full plan q)) [
-    | inl t ↦ let f : Some q ≡ Some p = rw t at e in let g : q ≡ p = cc in subst (λ x. stays_plan full plan x ≡ true) g t
+  found-stays plan (q ∷ ps) p e = elim (cases_Bool (stays_plan bare plan q)) [
+    | inl t ↦ let f : Some q ≡ Some p = rw t at e in let g : q ≡ p = cc in subst (λ x. stays_plan bare plan x ≡ true) g t
     | inr f ↦ found-stays plan ps p (rw f at e)
   ]
 
-  stays-free : (plan : List Packed) (p : Packed) → stays_plan bare plan p ≡ true → IsFree matches ssa deps (plan ++ p ∷ [])
+  pub stays-free : (plan : List Packed) (p : Packed) → stays_plan bare plan p ≡ true → IsFree matches ssa deps (plan ++ p ∷ [])
   stays-free plan p t =
       (both-true (not (list_any (is_packed bare plan) (units_of p))) (has_no_cycle bare (plan ++ p ∷ [])) t).1
 
-  pub some-free : (plan new_plan : List Packed) (o : Operand) (found : Option Packed) (p : Packed)
-      → found ≡ first_producer full plan o → found ≡ Some p → new_plan ≡ plan ++ p ∷ [] → IsFree matches ssa deps new_plan
-  some-free plan new_plan o found p f e n =
-      let t = sym (stays-any plan p) ∙ found-stays plan (full.producers o) p (sym f ∙ e) in
-      subst (IsFree matches ssa deps) (sym n) (stays-free plan p t)
+  pub some-stays : (plan ps : List Packed) (found : Option Packed) (p : Packed) → found ≡ find (stays_plan bare plan) ps
+      → found ≡ Some p → stays_plan bare plan p ≡ true
+  some-stays plan ps found p f e = found-stays plan ps p (sym f ∙ e)
 
   -- ---- store groups
-
-  pub pushed-free : (plan seen new : List Packed) (p : Packed) (b : Bool) → seen ≡ plan → b ≡ stays_plan bare seen p
-      → b ≡ true → new ≡ plan ++ p ∷ [] → IsFree matches ssa deps new
-  pushed-free plan seen new p b s h t n =
-      subst (IsFree matches ssa deps) (sym n) (stays-free plan p (ap (λ l. stays_plan bare l p) (sym s) ∙ sym h ∙ t))
 
   pub group-pushed : (plan seen new : List Packed) (g : Packed) (b : Bool) → seen ≡ plan → b ≡ stays_plan bare seen g
       → b ≡ true → new ≡ plan ++ g ∷ [] → new ≡ with_groups bare plan (g ∷ [])

@@ -1,3 +1,4 @@
+pub mod Floor
 pub mod Lanes
 pub mod Laws
 pub mod Making

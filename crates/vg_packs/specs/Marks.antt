@@ -1,5 +1,5 @@
 -- Marks of numbers.
-use Rattle.std.specs.Prelude.{◌≡◌, ◌<◌, ℕ, ◌||◌, Bool, false, List, length, get_or, nat_lt, if◌then◌else◌}
+use Rattle.std.specs.Prelude.{◌≡◌, ◌<◌, ℕ, ◌||◌, ◌&&◌, Bool, false, List, length, get_or, nat_le, nat_lt, if◌then◌else◌}
 use Rattle.vg_shapes.specs.declared.pack.Pack.{Pack as Packed}
 use Rattle.vg_packs.specs.Walk.{is_in_plan}
 
@@ -17,3 +17,7 @@ pub record AddsMarks (own : ℕ → Bool) (marks new_marks : List Bool) : Type 0
 abbrev pub is_packed_by : List Bool → List Packed → ℕ → Bool
 is_packed_by packed plan v =
     if nat_lt v (length packed) then get_or packed v false else is_in_plan plan v
+
+-- a number lies above one, and not above another
+abbrev pub is_within : ℕ → ℕ → ℕ → Bool
+is_within least greatest v = nat_lt least v && nat_le v greatest

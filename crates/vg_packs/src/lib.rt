@@ -6,8 +6,10 @@
 //! An `AllocError` is want of memory; nothing else is.
 #![tactic(auto)]
 
+mod floor;
 mod follows;
 mod groups;
+mod growing;
 mod lanes;
 mod law;
 mod loads;

@@ -1,10 +1,10 @@
 //! Marks of the units of packs.
 
-ghost use Rattle.std.specs.Prelude.{◌≡◌, IfOk, false, get_or, nat_eq, replicate};
+ghost use Rattle.std.specs.Prelude.{◌≡◌, IfOk, false, get_or, nat_eq, nat_lt, replicate};
 ghost use Rattle.std.specs.List.{filter_map, list_any};
 ghost use Rattle.vg_plans.specs.World.{is_in};
 ghost use Rattle.vg_shapes.specs.Pack.{units_of};
-ghost use Rattle.vg_packs.specs.Marks.{AddsMarks};
+ghost use Rattle.vg_packs.specs.Marks.{AddsMarks, is_within};
 ghost use Rattle.vg_packs.specs.Walk.{is_in_plan, is_lane_of};
 
 use std::alloc::{AllocError, Global};
@@ -38,6 +38,37 @@ fn mark(marks: &mut [bool], number: u32)
     let index = number as usize;
     if index < marks.len() {
         marks[index] = true;
+    }
+}
+
+/// Marks the numbers below one, as far as there are marks.
+fn mark_below(marks: &mut [bool], end: u32)
+    ensures { AddsMarks (λ v. nat_lt v end) marks.old marks.new }
+{
+    let mut number = 0;
+    'numbers: while number < end {
+        mark(marks, number);
+        number += 1;
+    }
+}
+
+/// So many marks, of which those below a number are set.
+pub(crate) fn marks_below(alloc: Global, count: usize, end: u32) -> Result<Vec<bool>, AllocError>
+    ensures { IfOk result (λ marks. AddsMarks (λ v. nat_lt v end) (replicate count false) marks.items) }
+{
+    let mut marks = clear_marks(alloc, count)?;
+    mark_below(marks.as_mut_slice(), end);
+    Ok(marks)
+}
+
+/// Marks the numbers above one, up to another, as far as there are marks.
+pub(crate) fn mark_within(marks: &mut [bool], least: u32, greatest: u32)
+    ensures { AddsMarks (is_within least greatest) marks.old marks.new }
+{
+    let mut number = least;
+    'numbers: while number < greatest {
+        number += 1;
+        mark(marks, number);
     }
 }
 

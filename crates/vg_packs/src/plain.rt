@@ -9,13 +9,14 @@ ghost use Rattle.vg_packing.specs.Packing.{packing, plain_of};
 ghost use Rattle.vg_packing.specs.Taken.{MatchesNear, operands_of};
 ghost use Rattle.vg_packing.specs.Wants.{is_constant};
 ghost use Rattle.vg_shapes.specs.Description.{description_of};
+ghost use Rattle.vg_packs.specs.Floor.{IsGrown};
 ghost use Rattle.vg_packs.specs.Plain.{IsTurn};
-ghost use Rattle.vg_packs.specs.Walk.{IsFree, NameEarlierUnits, NameUnits};
+ghost use Rattle.vg_packs.specs.Walk.{IsFree, NameEarlierUnits};
 
 use crate::groups::store_groups;
+use crate::growing::GrowingPlan;
 use crate::producing::producers;
 use crate::taking::taken_by;
-use crate::walk::stays_plan;
 use std::alloc::{AllocError, Global};
 use std::collections::VecDeque;
 use vg_packing::held::holds;
@@ -71,20 +72,21 @@ fn first_queue(
 /// Puts a pack behind a plan, if the plan stays one with it.
 fn push_if_stays(
     alloc: Global,
-    plan: &mut Vec<Pack>,
+    plan: &mut GrowingPlan,
     pack: Pack,
     table: &MatchTable,
     ssa: &Ssa,
     deps: &DepList,
 ) -> Result<(), AllocError>
-    requires names { NameUnits ssa.now deps.now }
-    requires free { IsFree table.now ssa.now deps.now plan.old.items }
-    ensures plan { OnOk result (plan.new.items ≡ with_groups (packing [] table.now ssa.now deps.now) plan.old.items (pack ∷ [])) }
-    ensures free { OnOk result (IsFree table.now ssa.now deps.now plan.new.items) }
+    requires earlier { NameEarlierUnits ssa.now deps.now }
+    requires grown { IsGrown table.now ssa.now deps.now plan.old }
+    ensures plan { OnOk result (plan.new.packs.items
+        ≡ with_groups (packing [] table.now ssa.now deps.now) plan.old.packs.items (pack ∷ [])) }
+    ensures grown { OnOk result (IsGrown table.now ssa.now deps.now plan.new) }
 {
-    let stays = stays_plan(alloc, plan.as_slice(), &pack, table, ssa, deps)?;
+    let stays = plan.stays(alloc, table, ssa, deps, &pack)?;
     if stays {
-        plan.push(pack)?;
+        plan.push(alloc, table, ssa, deps, pack)?;
     }
     Ok(())
 }
@@ -96,12 +98,13 @@ fn with_groups(
     table: &MatchTable,
     ssa: &Ssa,
     deps: &DepList,
-) -> Result<Vec<Pack>, AllocError>
+) -> Result<GrowingPlan, AllocError>
     requires earlier { NameEarlierUnits ssa.now deps.now }
-    ensures groups { IfOk result (λ plan. plan.items ≡ with_groups (packing [] table.now ssa.now deps.now) [] groups.items) }
-    ensures free { IfOk result (λ plan. IsFree table.now ssa.now deps.now plan.items) }
+    ensures groups { IfOk result (λ plan. plan.packs.items
+        ≡ with_groups (packing [] table.now ssa.now deps.now) [] groups.items) }
+    ensures grown { IfOk result (IsGrown table.now ssa.now deps.now) }
 {
-    let mut plan: Vec<Pack> = Vec::new(alloc);
+    let mut plan = GrowingPlan::new(alloc, table, ssa, deps)?;
     'groups: for group in groups {
         push_if_stays(alloc, &mut plan, group, table, ssa, deps)?;
     }
@@ -125,18 +128,19 @@ fn is_settled(descriptions: &[Description], ssa: &Ssa, plan: &[Pack], operand: &
 /// The first of these packs with which a plan stays one.
 fn first_that_stays(
     alloc: Global,
-    plan: &[Pack],
+    plan: &GrowingPlan,
     packs: Vec<Pack>,
     table: &MatchTable,
     ssa: &Ssa,
     deps: &DepList,
 ) -> Result<Option<Pack>, AllocError>
-    requires names { NameUnits ssa.now deps.now }
-    requires free { IsFree table.now ssa.now deps.now plan.now }
-    ensures { IfOk result (λ found. found ≡ find (stays_plan (packing [] table.now ssa.now deps.now) plan.now) packs.items) }
+    requires earlier { NameEarlierUnits ssa.now deps.now }
+    requires grown { IsGrown table.now ssa.now deps.now plan.now }
+    ensures { IfOk result (λ found. found
+        ≡ find (stays_plan (packing [] table.now ssa.now deps.now) plan.now.packs.items) packs.items) }
 {
     'packs: for pack in packs {
-        let stays = stays_plan(alloc, plan, &pack, table, ssa, deps)?;
+        let stays = plan.stays(alloc, table, ssa, deps, &pack)?;
         if stays {
             return Ok(Some(pack));
         }
@@ -152,43 +156,43 @@ fn turn(
     table: &MatchTable,
     ssa: &Ssa,
     deps: &DepList,
-    plan: &mut Vec<Pack>,
+    plan: &mut GrowingPlan,
     queue: &mut VecDeque<Operand>,
     operand: &Operand,
 ) -> Result<(), AllocError>
     requires near { MatchesNear table.now }
-    requires names { NameUnits ssa.now deps.now }
-    requires free { IsFree table.now ssa.now deps.now plan.old.items }
-    ensures turn { OnOk result (IsTurn (packing (map description_of descriptions.now) table.now ssa.now deps.now) plan.old.items (operand.now ∷ queue.old.items) plan.new.items queue.new.items) }
-    ensures free { OnOk result (IsFree table.now ssa.now deps.now plan.new.items) }
+    requires earlier { NameEarlierUnits ssa.now deps.now }
+    requires grown { IsGrown table.now ssa.now deps.now plan.old }
+    ensures turn { OnOk result (IsTurn (packing (map description_of descriptions.now) table.now ssa.now deps.now) plan.old.packs.items (operand.now ∷ queue.old.items) plan.new.packs.items queue.new.items) }
+    ensures grown { OnOk result (IsGrown table.now ssa.now deps.now plan.new) }
 {
-    if is_settled(descriptions, ssa, plan.as_slice(), operand) {
+    if is_settled(descriptions, ssa, plan.packs(), operand) {
         return Ok(());
     }
     let packs = producers(alloc, operand, descriptions, table, ssa)?;
-    let found = first_that_stays(alloc, plan.as_slice(), packs, table, ssa, deps)?;
+    let found = first_that_stays(alloc, plan, packs, table, ssa, deps)?;
     match found {
         None => Ok(()),
         Some(pack) => {
             push_operands(alloc, queue, descriptions, table, ssa, &pack)?;
-            plan.push(pack)?;
+            plan.push(alloc, table, ssa, deps, pack)?;
             Ok(())
         }
     }
 }
 
-/// The packs of the plain plan of a kernel.
-fn plain_packs(
+/// The plain plan of a kernel, as it grew.
+fn grown_plan(
     alloc: Global,
     descriptions: &[Description],
     table: &MatchTable,
     ssa: &Ssa,
     deps: &DepList,
-) -> Result<Vec<Pack>, AllocError>
+) -> Result<GrowingPlan, AllocError>
     requires near { MatchesNear table.now }
     requires earlier { NameEarlierUnits ssa.now deps.now }
-    ensures plain { IfOk result (λ plan. plan.items ≡ plain_of (map description_of descriptions.now) table.now ssa.now deps.now) }
-    ensures free { IfOk result (λ plan. IsFree table.now ssa.now deps.now plan.items) }
+    ensures plain { IfOk result (λ plan. plan.packs.items ≡ plain_of (map description_of descriptions.now) table.now ssa.now deps.now) }
+    ensures grown { IfOk result (IsGrown table.now ssa.now deps.now) }
 {
     let count = ssa.units.as_slice().len();
     if count > MOST {
@@ -197,7 +201,7 @@ fn plain_packs(
     let mut turns = 2 * count;
     let groups = store_groups(alloc, ssa)?;
     let mut plan = with_groups(alloc, groups, table, ssa, deps)?;
-    let mut queue = first_queue(alloc, descriptions, table, ssa, plan.as_slice())?;
+    let mut queue = first_queue(alloc, descriptions, table, ssa, plan.packs())?;
     'turns: while turns > 0 {
         match queue.pop_front() {
             None => return Ok(plan),
@@ -235,6 +239,6 @@ pub fn plain_plan(
     ensures plain { IfOk result (λ plan. plan ≡ plain_of (map description_of descriptions.now) table.now ssa.now deps.now) }
     ensures free { IfOk result (λ plan. IsFree table.now ssa.now deps.now plan) }
 {
-    let packs = plain_packs(alloc, descriptions, table, ssa, deps)?;
-    Ok(Plan::from_vec(packs))
+    let plan = grown_plan(alloc, descriptions, table, ssa, deps)?;
+    Ok(Plan::from_vec(plan.into_packs()))
 }

@@ -63,7 +63,7 @@ impl PlanMarks {
             return Ok(false);
         }
         let end = packed.len();
-        let reached = reaches_itself(alloc, table, ssa, deps, plan, packed, pack, end)?;
+        let reached = reaches_itself(alloc, table, ssa, deps, plan, packed, pack, end, 0)?;
         Ok(!reached)
     }
 }

@@ -1,15 +1,16 @@
 //! Whether a plan stays one with a pack behind it.
 
-ghost use Rattle.std.specs.Prelude.{◌≡◌, ◌+◌, ◌<◌, ℕ, [], All, IfOk, OnOk, false, get_or, length, replicate, true};
+ghost use Rattle.std.specs.Prelude.{◌≡◌, ◌+◌, ◌<◌, ◌≤◌, ℕ, [], All, IfOk, OnOk, false, get_or, length, replicate, true};
 ghost use Rattle.std.specs.List.{filter_map, list_any};
 ghost use Rattle.vg_packing.specs.Packing.{needs_of, packing};
 ghost use Rattle.vg_plans.specs.World.{is_in, stays_plan};
 ghost use Rattle.vg_shapes.specs.Pack.{units_of};
 ghost use Rattle.vg_shapes.specs.Units.{arguments, is_unit};
+ghost use Rattle.vg_packs.specs.Floor.{IsFloor};
 ghost use Rattle.vg_packs.specs.Marks.{AreMarks, is_packed_by};
 ghost use Rattle.vg_packs.specs.Walk.{HasWay, IsApart, IsFree, IsSettled, LeadsApart, NameUnits, Pushed, is_in_plan, is_lane_in, node_needs};
 
-use crate::marks::{clear_marks, is_marked, mark_pack, some_marked};
+use crate::marks::{clear_marks, is_marked, mark_pack, marks_below, some_marked};
 use crate::needs::{is_in_plan, needs_of_packs, node_needs, pack_needs};
 use crate::plan_marks::PlanMarks;
 use std::alloc::{AllocError, Global};
@@ -85,7 +86,7 @@ pub(crate) fn end_of_units(ssa: &Ssa) -> Result<usize, AllocError>
 }
 
 /// Whether there is a way from what a pack needs, by what the nodes of a plan need, back to the pack. The
-/// units of the plan are marked, and the other marks are clear.
+/// units of the plan are marked; of the other marks those are set that need no look.
 fn reaches_by(
     alloc: Global,
     table: &MatchTable,
@@ -100,7 +101,8 @@ fn reaches_by(
     requires names { NameUnits ssa.now deps.now }
     requires packed { AreMarks (arguments ssa.now + length ssa.now.units) (is_in_plan plan.now) packed.now }
     requires own { own.old ≡ replicate (arguments ssa.now + length ssa.now.units) false }
-    requires marks { marks.old ≡ replicate (arguments ssa.now + length ssa.now.units) false }
+    requires long { length marks.old ≡ arguments ssa.now + length ssa.now.units }
+    requires settled { IsSettled (node_needs table.now ssa.now deps.now plan.now) (λ v. is_in v (units_of pack.now)) marks.old }
     ensures way { IfOk result (λ r. r ≡ true → HasWay (node_needs table.now ssa.now deps.now plan.now) (λ v. is_in v (units_of pack.now)) (needs_of table.now ssa.now deps.now pack.now)) }
     ensures apart { IfOk result (λ r. r ≡ false → LeadsApart (node_needs table.now ssa.now deps.now plan.now) (λ v. is_in v (units_of pack.now)) (needs_of table.now ssa.now deps.now pack.now)) }
 {
@@ -119,7 +121,7 @@ fn reaches_by(
     )
 }
 
-/// The same, with marks of its own.
+/// The same, with marks of its own: what is below a floor needs no look.
 pub(crate) fn reaches_itself(
     alloc: Global,
     table: &MatchTable,
@@ -129,15 +131,18 @@ pub(crate) fn reaches_itself(
     packed: &[bool],
     pack: &Pack,
     end: usize,
+    floor: u32,
 ) -> Result<bool, AllocError>
     requires names { NameUnits ssa.now deps.now }
     requires end { end ≡ arguments ssa.now + length ssa.now.units }
     requires packed { AreMarks end (is_in_plan plan.now) packed.now }
+    requires floor { IsFloor (node_needs table.now ssa.now deps.now plan.now) (λ v. is_in v (units_of pack.now)) floor }
+    requires inside { floor ≤ end }
     ensures way { IfOk result (λ r. r ≡ true → HasWay (node_needs table.now ssa.now deps.now plan.now) (λ v. is_in v (units_of pack.now)) (needs_of table.now ssa.now deps.now pack.now)) }
     ensures apart { IfOk result (λ r. r ≡ false → LeadsApart (node_needs table.now ssa.now deps.now plan.now) (λ v. is_in v (units_of pack.now)) (needs_of table.now ssa.now deps.now pack.now)) }
 {
     let mut own = clear_marks(alloc, end)?;
-    let mut marks = clear_marks(alloc, end)?;
+    let mut marks = marks_below(alloc, end, floor)?;
     reaches_by(
         alloc,
         table,

@@ -7,5 +7,5 @@ use Rattle.vg_packs.proofs.plain.first_that_stays.Given as goal
 
 abbrev pub invariant-packs : goal.invariant-packs
 invariant-packs l =
-    find (stays_plan (packing [] l.table l.ssa l.deps) l.plan) (into_iter_items l.pack-iterator)
-    ≡ find (stays_plan (packing [] l.table l.ssa l.deps) l.plan) l.fn.packs.items
+    find (stays_plan (packing [] l.table l.ssa l.deps) l.plan.packs.items) (into_iter_items l.pack-iterator)
+    ≡ find (stays_plan (packing [] l.table l.ssa l.deps) l.plan.packs.items) l.fn.packs.items

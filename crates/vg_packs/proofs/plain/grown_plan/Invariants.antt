@@ -2,13 +2,13 @@ use Rattle.std.proofs.Common.{◌≡◌, map}
 use Rattle.vg_packing.specs.Packing.{packing, plain_of}
 use Rattle.vg_plans.specs.PlainPlan.{walk}
 use Rattle.vg_shapes.specs.Description.{description_of}
-use Rattle.vg_packs.specs.Walk.{IsFree}
-use Rattle.vg_packs.proofs.plain.plain_packs.Given as goal
+use Rattle.vg_packs.specs.Floor.{IsGrown}
+use Rattle.vg_packs.proofs.plain.grown_plan.Given as goal
 
 abbrev pub invariant-turns : goal.invariant-turns
 invariant-turns l = record {
-  plan : walk (packing (map description_of l.descriptions) l.table l.ssa l.deps) l.turns l.plan.items l.queue.items ≡ plain_of (map description_of l.descriptions) l.table l.ssa l.deps;
-  free : IsFree l.table l.ssa l.deps l.plan.items;
+  plan : walk (packing (map description_of l.descriptions) l.table l.ssa l.deps) l.turns l.plan.packs.items l.queue.items ≡ plain_of (map description_of l.descriptions) l.table l.ssa l.deps;
+  grown : IsGrown l.table l.ssa l.deps l.plan;
 }
 
 abbrev pub decreases-turns : goal.decreases-turns
