@@ -10,7 +10,7 @@ use Rattle.vg_packing.specs.Laws.{IsPlanFor, cost_of}
 use Rattle.vg_packing.specs.Packing.{packing}
 use Rattle.vg_packing.specs.Taken.{IsShort}
 use Rattle.vg_packs.proofs.Free.{free-first}
-use Rattle.vg_packs.proofs.Turns.{pushed-free, stays-any}
+use Rattle.vg_packs.proofs.Turns.{stays-any, stays-free}
 use Rattle.vg_packs.specs.Walk.{IsFree, NameEarlierUnits, is_in_plan}
 use Rattle.vg_plans.proofs.Lists.{every-append, has-map, take-whole}
 use Rattle.vg_plans.proofs.Members.{from-filter, has-filter}
@@ -61,7 +61,7 @@ module _ (ds : List Description) (matches : List Match) (ssa : Ssa) (deps : List
   plan-free earlier _ empty = free-first matches ssa deps earlier.earlier
   plan-free earlier _ (more plan p is h) =
       let t = (from-filter (stays_plan world plan) p (tried world plan) h).1 in
-      pushed-free ds matches ssa deps plan plan (plan ++ p ∷ []) p true refl (sym t ∙ stays-any ds matches ssa deps plan p) refl refl
+      stays-free ds matches ssa deps plan p (sym (sym t ∙ stays-any ds matches ssa deps plan p))
 
   pub longer-plan : (plan : List Packed) (p : Packed) → IsPlanFor ds matches ssa deps plan → Has p (tried world plan)
       → stays_plan (packing [] matches ssa deps) plan p ≡ true → IsPlanFor ds matches ssa deps (plan ++ p ∷ [])

@@ -46,6 +46,10 @@ fn search(
         (world_of space.now)) (plan_cost (world_of space.now)) width sizes (plain_of (described
         space.now) space.now.table.now space.now.ssa.now space.now.deps.now)) }
 {
+    let none = sizes == 0;
+    if none {
+        return Ok(first.plan);
+    }
     let mut board = Board::new(alloc);
     let empty = empty_plan(alloc, &mut board, space)?;
     let mut level = Vec::new(alloc);

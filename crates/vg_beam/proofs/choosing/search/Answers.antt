@@ -1,4 +1,5 @@
 use Rattle.std.proofs.Common.{◌≡◌, ◌∙◌, ◌++◌, ◌∷◌, [], ap, arith, subst, sym}
+use Rattle.std.proofs.lemmas.Bool.Decides.{nat_tests}
 use Rattle.vg_packing.specs.Laws.{IsPlanFor, cost_of}
 use Rattle.vg_packing.specs.Packing.{plain_of}
 use Rattle.vg_plans.proofs.Lists.{every-kept}
@@ -15,6 +16,15 @@ use Rattle.vg_beam.specs.Priced.{priced_plans}
 use Rattle.vg_beam.proofs.Candidates.{all-growing, all-placed, all-plans, all-priced, each-priced, plans-priced}
 use Rattle.vg_beam.proofs.Growing.{first-best, first-level, least-priced, map-kept, next-best, next-level}
 use Rattle.vg_beam.proofs.choosing.search.Goals as goal
+
+pub returns-then-none : goal.returns-then-none
+returns-then-none c =
+    let w = world_of c.args.space.now in
+    let cost = cost_of (described c.args.space.now) c.args.space.now.table.now c.args.space.now.ssa.now c.args.space.now.deps.now in
+    let plain = plain_of (described c.args.space.now) c.args.space.now.table.now c.args.space.now.ssa.now c.args.space.now.deps.now in
+    let zero : 0 ≡ c.args.sizes = grind (arith, nat_tests, c.if-none.true) in
+    first-best (follows w) (same_packs w) cost c.args.width plain c.args.first.plan c.requires.plan
+    ∙ ap (λ n. chosen (follows w) (same_packs w) cost c.args.width n plain) zero
 
 pub sizes-init : goal.sizes-init
 sizes-init c =
