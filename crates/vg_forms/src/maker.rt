@@ -52,7 +52,7 @@ impl Maker {
 
     /// The canonical form of a term. Fails for want of memory, also past the bounds on nodes, and where a
     /// term is not well-formed, which is none of a valid program.
-    pub(crate) fn settle(&mut self, alloc: Global, t: Term) -> Result<Form, AllocError>
+    pub fn settle(&mut self, alloc: Global, t: Term) -> Result<Form, AllocError>
         ensures form { IfOk result (λ f. f ≡ canonical (tree t)) }
         ensures classes { self.new.classes ≡ self.old.classes }
     {

@@ -1,8 +1,13 @@
 pub mod Beginning
+pub mod Calling
 pub mod Events
 pub mod Finding
+pub mod Heads
 pub mod Lines
 pub mod Loads
 pub mod Pieces
+pub mod Seeking
 pub mod UnitReads
+pub mod UnitValues
+pub mod Verdicts
 pub mod Walking

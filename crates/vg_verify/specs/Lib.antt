@@ -1,5 +1,12 @@
 pub mod Beginning
+pub mod Coded
 pub mod Finding
+pub mod Forms
+pub mod Heads
+pub mod Instances
 pub mod Loads
 pub mod Noting
+pub mod Seeking
+pub mod Values
+pub mod Verdicts
 pub mod Views

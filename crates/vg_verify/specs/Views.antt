@@ -1,9 +1,11 @@
 -- What the code holds, as the definitions see it.
-use Rattle.std.specs.Prelude.{ℕ, ◌+◌, List, [], ◌∷◌, map}
+use Rattle.std.specs.Prelude.{ℕ, ◌+◌, List, [], ◌∷◌, map, Option}
 use Rattle.vg_terms.specs.Term.{Tree}
 use Rattle.vg_lift.specs.Gather.{Bit}
+use Rattle.vg_catalog.specs.Entries.{Entry}
+use Rattle.vg_known.specs.Calls.{bits_of_terms, call_terms, lane_bits, met_with_all}
 use Rattle.vg_known.specs.Kernels.{Terms}
-use Rattle.vg_known.specs.Known.{Given, Known}
+use Rattle.vg_known.specs.Known.{Given, Known, known_bits, with_met, with_vector}
 use Rattle.vg_forms.specs.declared.run.Run.{Run}
 use Rattle.vg_forms.specs.Runs.{bits_in, runs_range}
 use Rattle.vg_verify.specs.declared.kernel_values.KernelTerms.{KernelTerms}
@@ -22,12 +24,13 @@ pair_of p = (p.0, bits_in p.1)
 abbrev pub pairs_in : List (ℕ × List Run) → List (ℕ × List Bit)
 pairs_in ps = map pair_of ps
 
--- what the walk is given; it calls nothing
-abbrev pub given_with : List Tree → List (ℕ × List Bit) → Given
-given_with arguments reads = record { entries = []; arguments = arguments; reads = reads }
+-- what the walk is given
+abbrev pub given_with : List Entry → List Tree → List (ℕ × List Bit) → Given
+given_with entries arguments reads =
+    record { entries = entries; arguments = arguments; reads = reads }
 
 abbrev pub given_of : declared.Given → Given
-given_of g = given_with g.arguments.now (pairs_in g.reads.now.table.entries)
+given_of g = given_with g.called.now g.arguments.now (pairs_in g.reads.now.table.entries)
 
 -- nothing is known but the terms that were met
 abbrev pub begun_with : List Tree → Known
@@ -41,6 +44,17 @@ known_of k = record {
   met = k.maker.classes;
   puts = pairs_in k.puts.items;
 }
+
+-- the register of so many bits a lane that has these terms, all of which are met
+abbrev pub with_lanes : Known → ℕ → List Tree → Known
+with_lanes k w terms =
+    with_vector (with_met k (met_with_all k.met terms)) (bits_of_terms w terms)
+
+-- what is known behind a call
+abbrev pub with_call : Given → Known → List ℕ → Option ℕ → List ℕ → Known
+with_call g k name imm vs =
+    with_lanes k (lane_bits g.entries name)
+    (call_terms g.entries k.met name imm (map (known_bits k) vs))
 
 -- eight bits of runs from a bit on for each event
 abbrev pub runs_for : List ℕ → List Run → ℕ → List (ℕ × List Run)

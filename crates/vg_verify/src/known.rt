@@ -12,6 +12,7 @@ ghost use Rattle.vg_shapes.specs.declared.unit.Operator.TheVariants as operator;
 ghost use Rattle.vg_ssa.specs.ValueTerm.{no_term};
 ghost use Rattle.vg_verify.specs.Views.{given_of, known_of};
 
+use crate::called::Called;
 use crate::event_bits::{EventBits, give_events};
 use std::alloc::{AllocError, Global};
 use vg_base::{Items, Width};
@@ -19,9 +20,11 @@ use vg_forms::{Form, Maker, Run, push_range};
 use vg_program::{Operand, VectorSize};
 use vg_shapes::Operator;
 
-/// What a walk over lines is given: the terms of the integer parameters, and the bits that loads read.
+/// What a walk over lines is given: what they call, the terms of the integer parameters, and the bits that loads
+/// read.
 #[derive(Clone, Copy)]
 pub(crate) struct Given<'a> {
+    pub called: &'a Called<'a>,
     pub arguments: &'a [Form],
     pub reads: &'a EventBits,
 }

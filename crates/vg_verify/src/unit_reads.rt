@@ -16,7 +16,7 @@ use vg_forms::{Form, Run};
 use vg_shapes::{Ssa, Unit};
 
 // The number so many places on, or want of memory where there is none.
-fn following(number: usize, count: u32) -> Result<usize, AllocError>
+pub(crate) fn following(number: usize, count: u32) -> Result<usize, AllocError>
     ensures { IfOk result (λ n. n ≡ number + count) }
 {
     match number.checked_add(count as usize) {
@@ -27,7 +27,7 @@ fn following(number: usize, count: u32) -> Result<usize, AllocError>
 
 // Appends so many numbers, from a first on.
 #[tactic(auto, using(crate::proofs::UnitReads::numbers_none, crate::proofs::UnitReads::numbers_more))]
-fn push_numbers(to: &mut Vec<usize>, first: usize, count: u32) -> Result<(), AllocError>
+pub(crate) fn push_numbers(to: &mut Vec<usize>, first: usize, count: u32) -> Result<(), AllocError>
     ensures { OnOk result (to.new.items ≡ to.old.items ++ numbers_from first count) }
 {
     if count == 0 {
@@ -65,7 +65,7 @@ fn give_read(
 
 // How many events a unit has.
 #[tactic(auto, using(crate::proofs::UnitReads::some_counted, crate::proofs::UnitReads::none_counted))]
-fn event_count(unit: &Unit) -> u32
+pub(crate) fn event_count(unit: &Unit) -> u32
     ensures { result ≡ length (labels_in (access_of unit.now)) }
 {
     match unit.access() {

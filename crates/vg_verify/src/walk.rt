@@ -1,4 +1,4 @@
-//! What is known behind the lines of a program that calls nothing.
+//! What is known behind the lines of a program.
 
 ghost use Rattle.std.specs.Prelude.{◌≡◌, ◌*◌, ◌<◌, IfOk, OnOk, get_or, length};
 ghost use Rattle.vg_base.specs.Bits.{bits_of_bytes, num};
@@ -6,6 +6,7 @@ ghost use Rattle.vg_known.specs.Known.{know, know_all, with_vector};
 ghost use Rattle.vg_lift.specs.LaneTerm.{pieces};
 ghost use Rattle.vg_verify.specs.Views.{begun_with, given_of, given_with, pairs_in, known_of};
 
+use crate::called::Called;
 use crate::constant::constant_runs;
 use crate::event_bits::EventBits;
 use crate::known::{Given, Knowing};
@@ -15,8 +16,8 @@ use vg_forms::{Form, Maker, Run};
 use vg_program::Line;
 use vg_shapes::Operator;
 
-// The line at a place.
-fn line_at(lines: &[Line], place: usize) -> &Line
+/// The line at a place.
+pub(crate) fn line_at(lines: &[Line], place: usize) -> &Line
     requires { place < length lines.now }
     ensures { result.now ≡ get_or lines.now place result.now }
 {
@@ -53,7 +54,7 @@ impl Knowing {
         self.push_vector(runs)
     }
 
-    // A line that has these events. Fails for want of memory, and at a call.
+    // A line that has these events.
     fn line(
         &mut self,
         alloc: Global,
@@ -127,12 +128,16 @@ impl Knowing {
                 lane,
                 width,
             } => self.extract(alloc, *register, *lane, *width),
-            Line::Call { .. } => Err(AllocError),
+            Line::Call {
+                name,
+                registers,
+                imm,
+                ..
+            } => self.call(alloc, given, name.bytes(), registers.as_slice(), *imm),
         }
     }
 
-    // Lines, for each of which there are its events. Fails for want of memory, at a call, and where a line has no
-    // events.
+    // Lines, for each of which there are its events. Fails for want of memory, and where a line has no events.
     #[tactic(auto, using(crate::proofs::Walking::walked_none, crate::proofs::Walking::walked_more, crate::proofs::Walking::walked_all))]
     fn lines(
         &mut self,
@@ -155,12 +160,13 @@ impl Knowing {
     }
 }
 
-/// What is known behind the lines of a program that calls nothing, for each of which there are the numbers of
-/// its events: by the terms of the integer parameters, the bits that events of loads read, and what makes terms
-/// with those that were met. Fails for want of memory, also at a call and where a line has no events.
+/// What is known behind the lines of a program, for each of which there are the numbers of its events: by what
+/// they call, the terms of the integer parameters, the bits that events of loads read, and what makes terms with
+/// those that were met. Fails for want of memory, also where a line has no events.
 #[tactic(auto, using(crate::proofs::Walking::known_same))]
 pub(crate) fn known_behind(
     alloc: Global,
+    called: &Called,
     arguments: &[Form],
     reads: &[(usize, Items<Run>)],
     maker: Maker,
@@ -168,11 +174,13 @@ pub(crate) fn known_behind(
     events: &[Items<usize>],
 ) -> Result<Knowing, AllocError>
     ensures { IfOk result (λ k. known_of k
-        ≡ know_all (given_with arguments.now (pairs_in reads.now)) lines.now events.now (begun_with maker.classes)) }
+        ≡ know_all (given_with called.now arguments.now (pairs_in reads.now)) lines.now events.now
+        (begun_with maker.classes)) }
 {
     let bits = EventBits::new(alloc, reads)?;
     let mut known = begin(alloc, maker);
     let given = Given {
+        called,
         arguments,
         reads: &bits,
     };
