@@ -12,5 +12,5 @@ returns c =
     (λ found. option_map difference_of found ≡ event_difference c.in_ok-called.called c.args.ssa.now c.args.program.now)
     (λ found. option_map difference_of found ≡ inner_difference (entries_in c.args.catalog.now) c.args.ssa.now c.args.program.now)
     (λ found e. inner_events c.in_ok-called.called (entries_in c.args.catalog.now) c.args.ssa.now c.args.program.now c.in_ok-line.field-0 (option_map difference_of found)
-        c.in_ok-called.ensures.entries c.in_ok-line.ensures c.in-None.is e)
+    c.in_ok-called.ensures.entries c.in_ok-line.ensures c.in-None.is e)
     c.event_difference.ensures
