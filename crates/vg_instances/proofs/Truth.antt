@@ -77,7 +77,7 @@ lanes-mean h o imm n (dynamic ∷ ls) regs m d b all e fits = absurd (cc)
 -- ---- causes
 
 -- no lane depends on data, and none is too large
-record AllKnown (lanes : List Lane) : Type 0 where
+pub record AllKnown (lanes : List Lane) : Type 0 where
   pub static : list_any is_dynamic lanes ≡ false
   pub small : list_any is_big lanes ≡ false
 
@@ -122,7 +122,7 @@ called entries e regs imm named at =
     ap (λ found. option_map_or (λ x. answer_of x regs (immediate e.header.imm imm)) found []) named
     ∙ ap (λ n. bits e.header.register (num (meant e.header e.operation (map num regs ++ n ∷ [])))) at
 
-is-true : (entries : List Entry) (e : Entry) (imm : ℕ) (ls : List Lane) → entry_named entries (name_of e) ≡ Some e
+pub is-true : (entries : List Entry) (e : Entry) (imm : ℕ) (ls : List Lane) → entry_named entries (name_of e) ≡ Some e
     → IsNumbered e.header imm → MeanLanes e.header e.operation imm 0 ls
     → length ls * e.header.lane_width ≡ e.header.register → AllKnown (map canonical_lane ls)
     → IsTrueOf (called_by entries) (description e.header imm (map canonical_lane ls))

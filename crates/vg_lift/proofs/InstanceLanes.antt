@@ -59,7 +59,7 @@ is_dynamic_there h o imm at i same there on = ap (λ k. is_dynamic_in (unrolled 
 
 -- ---- one lane
 
-sized_means : (h : Header) (o : Operation) (imm lane : ℕ) (t : Tree) → IsLaneOf h o imm lane t → MeansLane h o imm lane (sized t)
+pub sized_means : (h : Header) (o : Operation) (imm lane : ℕ) (t : Tree) → IsLaneOf h o imm lane t → MeansLane h o imm lane (sized t)
 sized_means h o imm lane t m = elim (cases_Bool (nat_le (node_count t) 1024)) [
   | inl few ↦ subst (MeansLane h o imm lane) (sym (cond-true _ (known t) big few)) m
   | inr many ↦ subst (MeansLane h o imm lane) (sym (cond-false _ (known t) big many)) tt
@@ -83,11 +83,11 @@ same_from : (f g : ℕ → Lane) (k n : ℕ) → ((j : ℕ) → f j ≡ g j) →
 same_from f g k zero e = refl
 same_from f g k (suc n) e = ap (λ l. l ∷ lanes_from f (k + 1) n) (e k) ∙ ap (λ ls. g k ∷ ls) (same_from f g (k + 1) n e)
 
-count_from : (f : ℕ → Lane) (k n : ℕ) → length (lanes_from f k n) ≡ n
+pub count_from : (f : ℕ → Lane) (k n : ℕ) → length (lanes_from f k n) ≡ n
 count_from f k zero = refl
 count_from f k (suc n) = ap suc (count_from f (k + 1) n)
 
-mean_from : (h : Header) (o : Operation) (imm : ℕ) (f : ℕ → Lane) (k n : ℕ) → ((j : ℕ) → j < k + n → MeansLane h o imm j (f j)) → MeanLanes h o imm k (lanes_from f k n)
+pub mean_from : (h : Header) (o : Operation) (imm : ℕ) (f : ℕ → Lane) (k n : ℕ) → ((j : ℕ) → j < k + n → MeansLane h o imm j (f j)) → MeanLanes h o imm k (lanes_from f k n)
 mean_from h o imm f k zero m = tt
 mean_from h o imm f k (suc n) m = (m k (omega arith), mean_from h o imm f (k + 1) n (λ j less. m j (omega (arith, less))))
 
@@ -95,7 +95,7 @@ mean_from h o imm f k (suc n) m = (m k (omega arith), mean_from h o imm f (k + 1
 pub filled : (h : Header) → HasLanes h → h.register / h.lane_width * h.lane_width ≡ h.register
 filled h has = let e = div-add-mod' h.register h.lane_width in omega (arith, e, has.fill)
 
-lane_in_result : (h : Header) (j : ℕ) → HasLanes h → j < h.register / h.lane_width → InResult h j
+pub lane_in_result : (h : Header) (j : ℕ) → HasLanes h → j < h.register / h.lane_width → InResult h j
 lane_in_result h j has less = let e = filled h has in let f = row_fits j h.lane_width (h.register / h.lane_width) h.lane_width less (omega arith) in record {
   width = has.width;
   inside = omega (arith, e, f);

@@ -14,7 +14,7 @@ may-be h o imm lane (known t) m = m.is_lane
 may-be h o imm lane big m = tt
 may-be h o imm lane dynamic m = tt
 
-all-may-be : (h : Header) (o : Operation) (imm lane : ℕ) (ls : List Lane) → MeanLanes h o imm lane ls
+pub all-may-be : (h : Header) (o : Operation) (imm lane : ℕ) (ls : List Lane) → MeanLanes h o imm lane ls
     → AllByRecursion (MayBeLane h) ls
 all-may-be h o imm lane [] m = tt
 all-may-be h o imm lane (l ∷ ls) m = (may-be h o imm lane l m.0, all-may-be h o imm (lane + 1) ls m.1)

@@ -19,7 +19,7 @@ use Rattle.vg_lift.specs.Instances.{HasInstance, HasLanes, InResult, IsLaneOf, M
 use Rattle.vg_lift.specs.LaneTerm.{lane_term}
 use Rattle.vg_lift.specs.Lanes.{lanes_from, sized}
 use Rattle.vg_lift.proofs.Entries.{Instanced, lane_is, params_there, result_there}
-use Rattle.vg_lift.proofs.InstanceLanes.{filled}
+use Rattle.vg_lift.proofs.InstanceLanes.{count_from, filled, lane_in_result, mean_from, sized_means}
 use Rattle.vg_told.proofs.Accepted.{Accepts, instance_written, unrolled_is}
 use Rattle.vg_told.proofs.Immediates.{has_immediate, some_given, some_is_given}
 
@@ -64,12 +64,6 @@ written laws h o imm a said has small =
 
 -- ---- one lane
 
-sized-means : (h : Header) (o : Operation) (imm lane : ℕ) (t : Tree) → IsLaneOf h o imm lane t → MeansLane h o imm lane (sized t)
-sized-means h o imm lane t m = elim (cases_Bool (nat_le (node_count t) 1024)) [
-  | inl few ↦ subst (MeansLane h o imm lane) (sym (cond-true _ (known t) big few)) m
-  | inr many ↦ subst (MeansLane h o imm lane) (sym (cond-false _ (known t) big many)) tt
-]
-
 lane-means : (h : Header) (o : Operation) (imm lane : ℕ) → Written h o imm → InResult h lane → MeansLane h o imm lane (instance_lane h o imm lane)
 lane-means h o imm lane w inside = elim (cases_Bool (is_dynamic h o imm)) [
   | inl on ↦ subst (MeansLane h o imm lane) (sym (cond-true _ _ _ on)) tt
@@ -78,33 +72,19 @@ lane-means h o imm lane w inside = elim (cases_Bool (is_dynamic h o imm)) [
       let same : lane_term w.whole (length h.params) imm h.lane_width lane ≡ instance_term h o imm lane =
       ap (λ x. term_in x (length h.params) imm h.lane_width lane) (sym w.is) in
       subst (MeansLane h o imm lane) (sym (cond-false _ _ _ off))
-      (sized-means h o imm lane (instance_term h o imm lane)
+      (sized_means h o imm lane (instance_term h o imm lane)
       (subst (IsLaneOf h o imm lane) same (lane_is h o imm w.whole lane (w.known flag) inside)))
 ]
 
 -- ---- all lanes
 
-mean-from : (h : Header) (o : Operation) (imm : ℕ) (f : ℕ → Lane) (k n : ℕ) → ((j : ℕ) → j < k + n → MeansLane h o imm j (f j)) → MeanLanes h o imm k (lanes_from f k n)
-mean-from h o imm f k zero m = tt
-mean-from h o imm f k (suc n) m = (m k (omega arith), mean-from h o imm f (k + 1) n (λ j less. m j (omega (arith, less))))
-
-count-from : (f : ℕ → Lane) (k n : ℕ) → length (lanes_from f k n) ≡ n
-count-from f k zero = refl
-count-from f k (suc n) = ap suc (count-from f (k + 1) n)
-
-in-result : (h : Header) (j : ℕ) → HasLanes h → j < h.register / h.lane_width → InResult h j
-in-result h j has less =
-    let e = filled h has in
-    let f = row_fits j h.lane_width (h.register / h.lane_width) h.lane_width less (omega arith) in
-    record { width = has.width; inside = omega (arith, e, f) }
-
 pub lanes-fill : (h : Header) (o : Operation) (imm : ℕ) → HasLanes h → length (instance_lanes h o imm) * h.lane_width ≡ h.register
 lanes-fill h o imm has =
-    ap (λ n. n * h.lane_width) (count-from (instance_lane h o imm) 0 (h.register / h.lane_width)) ∙ filled h has
+    ap (λ n. n * h.lane_width) (count_from (instance_lane h o imm) 0 (h.register / h.lane_width)) ∙ filled h has
 
 pub lanes-mean : Scripts → (h : Header) (o : Operation) (imm : ℕ) → Accepts h o → IsWritten h o → HasLanes h → HasInstance h imm → IsByte (immediate_of h.imm imm)
     → MeanLanes h o imm 0 (instance_lanes h o imm)
 lanes-mean laws h o imm a said lanes has small =
     let w = written laws h o imm a said has small in
-    mean-from h o imm (instance_lane h o imm) 0 (h.register / h.lane_width)
-    (λ j less. lane-means h o imm j w (in-result h j lanes (omega (arith, less))))
+    mean_from h o imm (instance_lane h o imm) 0 (h.register / h.lane_width)
+    (λ j less. lane-means h o imm j w (lane_in_result h j lanes (omega (arith, less))))
