@@ -25,17 +25,17 @@ code (one op w k x) = node 2 w (gcons (gnum (one_tag op)) (gnum k)) (code x)
 code (two op w x y) = node 3 w (gnum (two_tag op)) (gcons (code x) (code y))
 code (sel w c x y) = node 4 w (code c) (gcons (code x) (code y))
 
-abbrev first : Gv → Gv
+abbrev pub first : Gv → Gv
 first (gcons a b) = a
 first (gnum n) = gnil
 first gnil = gnil
 
-abbrev rest : Gv → Gv
+abbrev pub rest : Gv → Gv
 rest (gcons a b) = b
 rest (gnum n) = gnil
 rest gnil = gnil
 
-abbrev kind : Gv → ℕ
+abbrev pub kind : Gv → ℕ
 kind g = num (first g)
 
 abbrev width : Gv → ℕ

@@ -22,9 +22,6 @@ pub(crate) const MOST_NODES: u64 = 128;
 /// The most nodes of a term that is made canonical.
 pub(crate) const MOST_BUILT: u64 = 4096;
 
-/// The most nodes of all terms that one maker makes canonical.
-const MOST_IN_ALL: u64 = 16_777_216;
-
 /// Makes the terms of values: the terms that were met, and how many nodes may still be made canonical.
 #[derive(Drop)]
 pub struct Maker {
@@ -33,14 +30,22 @@ pub struct Maker {
 }
 
 impl Maker {
-    /// No term was met.
-    pub fn new(alloc: Global) -> Maker
-        ensures { result.classes ≡ [] }
+    /// No term was met, and so many nodes may be made canonical.
+    pub fn new(alloc: Global, left: u64) -> Maker
+        ensures classes { result.classes ≡ [] }
+        ensures left { result.left ≡ left }
     {
         Maker {
             classes: Classes::new(alloc),
-            left: MOST_IN_ALL,
+            left,
         }
+    }
+
+    /// How many nodes may still be made canonical.
+    pub fn nodes_left(&self) -> u64
+        ensures { result ≡ self.now.left }
+    {
+        self.left
     }
 
     /// A term is met. Fails for want of memory alone.

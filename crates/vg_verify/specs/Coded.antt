@@ -2,6 +2,7 @@
 use Rattle.std.proofs.Common.{◌≡◌, ℕ, List, ap, refl, arith}
 use Rattle.std.specs.Coded.{Coded, codes}
 use base.Stored.{Gv, gnum, gcons, num, gnil}
+use Rattle.vg_forms.specs.Coded.{first, kind, rest}
 use Rattle.vg_base.specs.declared.width.Width.{Width}
 use Rattle.vg_text.specs.declared.place.Place.{Place}
 use Rattle.vg_pseudo.specs.declared.spot.Spot.{Spot}
@@ -32,19 +33,6 @@ bytes_code = Prim.hlevel codes
 -- the kind of a node, and what stands in it
 abbrev pub node : ℕ → Gv → Gv → Gv → Gv → Gv
 node kind a b c d = gcons (gnum kind) (gcons a (gcons b (gcons c d)))
-
-abbrev first : Gv → Gv
-first (gcons a b) = a
-first (gnum n) = gnil
-first gnil = gnil
-
-abbrev rest : Gv → Gv
-rest (gcons a b) = b
-rest (gnum n) = gnil
-rest gnil = gnil
-
-abbrev kind : Gv → ℕ
-kind g = num (first g)
 
 abbrev one : Gv → Gv
 one g = first (rest g)

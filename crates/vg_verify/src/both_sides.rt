@@ -43,7 +43,7 @@ pub fn sides_of(
 ) -> Result<Sides, AllocError>
     ensures { IfOk result (λ s. sides_in s ≡ sides_of called.now ssa.now program.now events.now) }
 {
-    let KernelTerms { terms, maker } = kernel_terms(alloc, ssa)?;
+    let KernelTerms { terms, maker } = kernel_terms(alloc, called.nodes_left(), ssa)?;
     let reads = kernel_reads(alloc, ssa, &terms)?;
     let before = ssa.arguments();
     if terms.len() < before {

@@ -15,12 +15,17 @@ use vg_forms::Maker;
 use vg_program::{Line, Program};
 use vg_range::Checked;
 
+/// The most nodes of terms that are made canonical for one program: of the lanes of what it calls, and of
+/// what is known of its values and of the kernel's.
+const MOST_MADE: u64 = 16_777_216;
+
 /// The instances of the instructions of a catalogue that a program calls, the lanes of each made once.
 /// Contracts see it as the entries of the catalogue.
 #[derive(Drop)]
 pub struct Called<'a> {
     catalog: &'a Catalog,
     instances: IndexMap<Instance, Lanes>,
+    left: u64,
 }
 
 impl<'a> Model for Called<'a> {
@@ -114,22 +119,23 @@ fn keep_line(
 fn instances_of(
     alloc: Global,
     catalog: &Catalog,
+    maker: &mut Maker,
     lines: &[Line],
 ) -> Result<IndexMap<Instance, Lanes>, AllocError>
     requires { AllWritten (entries_in catalog.now) }
     ensures { IfOk result (λ m. AreKept (entries_in catalog.now) m.entries) }
 {
-    let mut maker = Maker::new(alloc);
     let mut instances = IndexMap::new(alloc);
     'lines: for line in lines {
-        keep_line(alloc, catalog, &mut maker, &mut instances, line)?;
+        keep_line(alloc, catalog, maker, &mut instances, line)?;
     }
     Ok(instances)
 }
 
 impl<'a> Called<'a> {
     /// What a program calls of the instructions of a catalogue. Fails for want of memory, also at the bounds of
-    /// `vg_lift::lift_entry` and past 2^24 nodes of all lanes, and for a call that no valid program has.
+    /// `vg_lift::lift_entry` and past 2^24 nodes of all lanes, and for a call that no valid program has. The
+    /// nodes of the lanes are not left for values.
     pub fn new(
         alloc: Global,
         catalog: &'a Catalog,
@@ -138,8 +144,18 @@ impl<'a> Called<'a> {
         requires written { AllWritten (entries_in catalog.now) }
         ensures entries { IfOk result (λ c. c ≡ entries_in catalog.now) }
     {
-        let instances = instances_of(alloc, catalog, program.lines.as_slice())?;
-        Ok(Called { catalog, instances })
+        let mut maker = Maker::new(alloc, MOST_MADE);
+        let instances = instances_of(alloc, catalog, &mut maker, program.lines.as_slice())?;
+        Ok(Called {
+            catalog,
+            instances,
+            left: maker.nodes_left(),
+        })
+    }
+
+    /// How many nodes of terms of values may be made canonical.
+    pub fn nodes_left(&self) -> u64 {
+        self.left
     }
 
     /// The lanes of what a name calls with an immediate, where that is kept.

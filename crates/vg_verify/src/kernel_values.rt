@@ -46,15 +46,15 @@ pub fn operand_term(alloc: Global, terms: &[Form], x: Wanted) -> Result<Form, Al
 }
 
 impl KernelTerms {
-    // The integer parameters, which are met first.
+    // The integer parameters, which are met first; so many nodes may be made canonical.
     #[tactic(auto, using(crate::proofs::Beginning::begun_none, crate::proofs::Beginning::begun_more, crate::proofs::Beginning::begun_terms, crate::proofs::Beginning::begun_met))]
-    fn begin(alloc: Global, params: &[SsaParam]) -> Result<KernelTerms, AllocError>
+    fn begin(alloc: Global, left: u64, params: &[SsaParam]) -> Result<KernelTerms, AllocError>
         ensures terms { IfOk result (λ k. k.terms.items ≡ argument_leaves 0 (integers_of params.now)) }
         ensures met { IfOk result (λ k. k.maker.classes ≡ argument_leaves 0 (integers_of params.now)) }
     {
         let mut begun = KernelTerms {
             terms: Vec::new(alloc),
-            maker: Maker::new(alloc),
+            maker: Maker::new(alloc, left),
         };
         let mut rest = params;
         'params: while let [param, behind @ ..] = rest {
@@ -180,13 +180,14 @@ fn is_store(unit: &Unit) -> bool
     }
 }
 
-/// The terms of the values of a kernel. Fails for want of memory, and where a unit fits no valid kernel.
+/// The terms of the values of a kernel, of which so many nodes may be made canonical. Fails for want of memory,
+/// and where a unit fits no valid kernel.
 #[tactic(auto, using(crate::proofs::Beginning::termed_none, crate::proofs::Beginning::termed_more, crate::proofs::Beginning::termed_all))]
-pub fn kernel_terms(alloc: Global, ssa: &Ssa) -> Result<KernelTerms, AllocError>
+pub fn kernel_terms(alloc: Global, left: u64, ssa: &Ssa) -> Result<KernelTerms, AllocError>
     ensures { IfOk result (λ k. terms_of k ≡ kernel_terms ssa.now) }
 {
     let flags = noalias_flags(alloc, ssa)?;
-    let mut made = KernelTerms::begin(alloc, ssa.params.as_slice())?;
+    let mut made = KernelTerms::begin(alloc, left, ssa.params.as_slice())?;
     let units = ssa.units.as_slice();
     let first = ssa.arguments();
     if first.saturating_add(units.len()) > u32::MAX as usize {
