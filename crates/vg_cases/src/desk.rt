@@ -95,6 +95,7 @@ pub fn status_of(word: &str) -> Status {
         "ProgramRefused" => Status::ProgramRefused,
         "BindingsRefused" => Status::BindingsRefused,
         "Trap" => Status::Trap,
+        "Differs" => Status::Differs,
         _ => Status::Ok,
     }
 }

@@ -2,6 +2,8 @@
 #![tactic(auto)]
 
 #[cfg(test)]
+mod check_cases;
+#[cfg(test)]
 mod compile_cases;
 #[cfg(test)]
 mod desk;

@@ -7,7 +7,7 @@ use Rattle.clap.specs.declared.parser.matches.ArgMatches.{ArgMatches}
 use Rattle.vg_request.specs.Binding.{is_binding, bindings_in}
 use Rattle.vg_request.specs.Options.{KernelAsked, width_of, allowed_of, two_files}
 use Rattle.vg_request.specs.Parts.{Part, widths_in, extensions_in, guards_in, words_in}
-use Rattle.vg_request.specs.Request.{Asked, run, eval, lift, trial, trial_number}
+use Rattle.vg_request.specs.Request.{Asked, run, eval, lift, trial, check, trial_number}
 
 -- all values of an argument, in their order
 abbrev pub values_of : List ℕ → ArgMatches → List (List ℕ)
@@ -56,3 +56,7 @@ lift_found _ = None
 abbrev pub trial_found : List (List ℕ) → Option Asked
 trial_found (a ∷ digits ∷ []) = option_map (λ number. trial a number) (trial_number digits)
 trial_found _ = None
+
+abbrev pub check_found : List (List ℕ) → Option Asked
+check_found (a ∷ b ∷ c ∷ []) = Some (check a b c)
+check_found _ = None

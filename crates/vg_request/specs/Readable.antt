@@ -57,4 +57,5 @@ are_read (command ∷ words) =
     else if bytes_eq command (codes "lift") then are_plain words
     else if bytes_eq command (codes "explain") then are_options false words
     else if bytes_eq command (codes "trial") then are_plain words
+    else if bytes_eq command (codes "check") then are_plain words
     else false

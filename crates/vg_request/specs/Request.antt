@@ -5,7 +5,7 @@ use Rattle.std.specs.List.{list_all}
 use Rattle.std.specs.Option.{option_and_then, option_map}
 use Rattle.vg_text.specs.Number.{decimal_value}
 use Rattle.vg_request.specs.declared.request.Request.{Request}
-use Rattle.vg_request.specs.declared.request.Request.TheVariants.{Compile, Run, Eval, Lift, Explain, Trial}
+use Rattle.vg_request.specs.declared.request.Request.TheVariants.{Compile, Run, Eval, Lift, Explain, Trial, Check}
 use Rattle.vg_request.specs.Binding.{Binding, is_binding, bindings_in}
 use Rattle.vg_request.specs.Options.{Choices, kernel_asked, choices_seen}
 use Rattle.vg_request.specs.Word.{plain_word}
@@ -18,6 +18,7 @@ pub data Asked : Type 0 where
   lift : List ℕ → Asked
   explain : List ℕ → List ℕ → Choices → Asked
   trial : List ℕ → ℕ → Asked
+  check : List ℕ → List ℕ → List ℕ → Asked
 
 -- the names of its files, in the order in which they are read
 abbrev pub files_of : Asked → List (List ℕ)
@@ -27,6 +28,7 @@ files_of (eval kernel memory bindings) = kernel ∷ memory ∷ []
 files_of (lift instructions) = instructions ∷ []
 files_of (explain instructions kernel choices) = instructions ∷ kernel ∷ []
 files_of (trial instructions number) = instructions ∷ []
+files_of (check instructions kernel program) = instructions ∷ kernel ∷ program ∷ []
 
 -- words that are no request name no file
 abbrev pub files_in : Option Asked → List (List ℕ)
@@ -93,6 +95,15 @@ trial_words (a ∷ digits ∷ []) =
     option_map (λ number. trial instructions number) (trial_number digits)) (plain_word a)
 trial_words _ = None
 
+-- the words behind `check INSTRUCTIONS KERNEL PROGRAM`
+abbrev pub check_words : List (List ℕ) → Option Asked
+check_words (a ∷ b ∷ c ∷ []) =
+    option_and_then (λ instructions.
+    option_and_then (λ kernel.
+    option_map (λ program. check instructions kernel program)
+    (plain_word c)) (plain_word b)) (plain_word a)
+check_words _ = None
+
 -- the command, and what stands behind it; all other words are no request
 abbrev pub request_of : List (List ℕ) → Option Asked
 request_of [] = None
@@ -103,6 +114,7 @@ request_of (command ∷ words) =
     else if bytes_eq command (codes "lift") then lift_words words
     else if bytes_eq command (codes "explain") then explain_words words
     else if bytes_eq command (codes "trial") then trial_words words
+    else if bytes_eq command (codes "check") then check_words words
     else None
 
 -- what a request of the code asks for
@@ -113,3 +125,4 @@ asked_of (Eval a b words) = eval a.now b.now (bindings_in words.now)
 asked_of (Lift a) = lift a.now
 asked_of (Explain a b options) = explain a.now b.now (choices_seen options)
 asked_of (Trial a number) = trial a.now number
+asked_of (Check a b c) = check a.now b.now c.now

@@ -1,9 +1,9 @@
 //! What the words of a command line ask for.
 
 ghost use Rattle.std.specs.Prelude.{◌≡◌, true, false, Ok, None, option_map, IfOk, drop, length, ◌≤◌};
-ghost use Rattle.vg_request.specs.Found.{run_found, eval_found, lift_found, trial_found};
+ghost use Rattle.vg_request.specs.Found.{run_found, eval_found, lift_found, trial_found, check_found};
 ghost use Rattle.vg_request.specs.Readable.{are_options, are_plain, are_read};
-ghost use Rattle.vg_request.specs.Request.{run_words, eval_words, lift_words, compile_words, explain_words, trial_number, trial_words, request_of, files_of, file_name, asked_of};
+ghost use Rattle.vg_request.specs.Request.{run_words, eval_words, lift_words, compile_words, explain_words, trial_number, trial_words, check_words, request_of, files_of, file_name, asked_of};
 ghost use Rattle.vg_request.specs.Texts.{texts_of};
 
 use crate::binding::are_bindings;
@@ -51,6 +51,12 @@ pub enum Request<'a> {
         instructions: &'a str,
         number: u32,
     },
+    /// Whether a program means a kernel.
+    Check {
+        instructions: &'a str,
+        kernel: &'a str,
+        program: &'a str,
+    },
 }
 
 impl<'a> Request<'a> {
@@ -70,6 +76,9 @@ impl<'a> Request<'a> {
             (Request::Explain { instructions, .. }, 0..=1) => instructions,
             (Request::Explain { kernel, .. }, 2) => kernel,
             (Request::Trial { instructions, .. }, 0..=1) => instructions,
+            (Request::Check { instructions, .. }, 0..=1) => instructions,
+            (Request::Check { kernel, .. }, 2) => kernel,
+            (Request::Check { program, .. }, 3) => program,
             _ => "",
         }
     }
@@ -105,6 +114,9 @@ pub fn request_of(alloc: Global, words: &Words) -> Result<Option<Request<'_>>, A
     }
     if command == b"trial".as_slice() {
         return trial_words(alloc, words);
+    }
+    if command == b"check".as_slice() {
+        return check_words(alloc, words);
     }
     Ok(None)
 }
@@ -274,4 +286,31 @@ fn trial_words(alloc: Global, words: &Words) -> Result<Option<Request<'_>>, Allo
     }
     let matches = positional(alloc, behind)?;
     Ok(trial_found(values_of(&matches, "files")))
+}
+
+fn check_found<'a>(files: &[&'a str]) -> Option<Request<'a>>
+    ensures { option_map asked_of result ≡ check_found (texts_of files.now) }
+{
+    match files {
+        [instructions, kernel, program] => Some(Request::Check {
+            instructions: *instructions,
+            kernel: *kernel,
+            program: *program,
+        }),
+        _ => None,
+    }
+}
+
+#[tactic(auto, using(crate::proofs::Plain::check_is, crate::proofs::Plain::check_none))]
+fn check_words(alloc: Global, words: &Words) -> Result<Option<Request<'_>>, AllocError>
+    requires { 1 ≤ length words.now }
+    ensures asked { IfOk result (λ r. option_map asked_of r ≡ check_words (drop 1 words.now)) }
+    ensures refused { are_plain (drop 1 words.now) ≡ false → result ≡ Ok None }
+{
+    let behind = words.behind(1);
+    if !are_plain(behind) {
+        return Ok(None);
+    }
+    let matches = positional(alloc, behind)?;
+    Ok(check_found(values_of(&matches, "files")))
 }

@@ -2,7 +2,7 @@
 use Rattle.std.proofs.Common.{◌≡◌, ◌≢◌, ℕ, ◌-◌, ◌<◌, ◌^◌, Option, Some, None, Result, refl, sym, ◌∙◌, ap, arith}
 use Rattle.vg_outside.specs.Count.{Rose}
 use Rattle.vg_top.specs.declared.ending.Ending.{Ending}
-use Rattle.vg_top.specs.declared.ending.Ending.TheVariants.{Usage, Instructions, Kernel, Program, Absent, ReadFault, TooLarge, Bindings, Trap, WriteFault, Memory}
+use Rattle.vg_top.specs.declared.ending.Ending.TheVariants.{Usage, Instructions, Kernel, Program, Absent, ReadFault, TooLarge, Bindings, Trap, WriteFault, Memory, Differs}
 use Rattle.vg_top.specs.declared.status.Status.{Status}
 use Rattle.vg_top.specs.declared.status.Status.TheVariants as status
 use Rattle.vg_top.specs.Causes.{MayEnd, MayStop}
@@ -25,6 +25,7 @@ usage_from (Some x) status.ReadFault may = λ e. absurd (cc)
 usage_from (Some x) status.WriteFault may = λ e. absurd (cc)
 usage_from (Some x) status.BindingsRefused may = λ e. absurd (cc)
 usage_from (Some x) status.Trap may = λ e. absurd (cc)
+usage_from (Some x) status.Differs may = λ e. absurd (cc)
 usage_from (Some x) status.TooLarge may = λ e. absurd (cc)
 usage_from (Some x) status.NoMemory may = λ e. absurd (cc)
 
@@ -55,6 +56,7 @@ stopped_may None Bindings may = absurd may
 stopped_may None Trap may = absurd may
 stopped_may None WriteFault may = absurd may
 stopped_may None Memory may = tt
+stopped_may None (Differs t) may = absurd may
 stopped_may (Some x) Usage may = may
 stopped_may (Some x) (Instructions n f) may = may
 stopped_may (Some x) (Kernel n f) may = may
@@ -66,6 +68,7 @@ stopped_may (Some x) Bindings may = may
 stopped_may (Some x) Trap may = may
 stopped_may (Some x) WriteFault may = absurd may
 stopped_may (Some x) Memory may = may
+stopped_may (Some x) (Differs t) may = may
 
 -- the status of the ending that the verdict names
 pub status_from_verdict : (e : Ending) (v : Result Outcome Ending) → EndedBy (Some e) v → status_of e ≢ status.NoMemory → status_of e ≢ status.ReadFault → status_of e ≢ status.WriteFault → status_of e ≡ status_told v
@@ -80,6 +83,7 @@ status_from_verdict Bindings v told memory read write = sym (ap status_told told
 status_from_verdict Trap v told memory read write = sym (ap status_told told)
 status_from_verdict WriteFault v told memory read write = absurd (write refl)
 status_from_verdict Memory v told memory read write = absurd (memory refl)
+status_from_verdict (Differs t) v told memory read write = sym (ap status_told told)
 
 -- a count that stayed did not rise, below its last value
 pub not_rose : (before now : ℕ) → Rose before now → now ≡ before → before < 2 ^ 64 - 1 → ⊥
@@ -97,6 +101,7 @@ not_read_fault Bindings before now counts same below = λ is. absurd (cc)
 not_read_fault Trap before now counts same below = λ is. absurd (cc)
 not_read_fault WriteFault before now counts same below = λ is. absurd (cc)
 not_read_fault Memory before now counts same below = λ is. absurd (cc)
+not_read_fault (Differs t) before now counts same below = λ is. absurd (cc)
 
 pub not_write_fault : (a : Option Asked) (e : Ending) → MayStop a (Some e) → status_of e ≢ status.WriteFault
 not_write_fault None Usage may = λ is. absurd (cc)
@@ -110,6 +115,7 @@ not_write_fault None Bindings may = absurd may
 not_write_fault None Trap may = absurd may
 not_write_fault None WriteFault may = absurd may
 not_write_fault None Memory may = λ is. absurd (cc)
+not_write_fault None (Differs t) may = absurd may
 not_write_fault (Some x) Usage may = λ is. absurd (cc)
 not_write_fault (Some x) (Instructions n f) may = λ is. absurd (cc)
 not_write_fault (Some x) (Kernel n f) may = λ is. absurd (cc)
@@ -121,3 +127,4 @@ not_write_fault (Some x) Bindings may = λ is. absurd (cc)
 not_write_fault (Some x) Trap may = λ is. absurd (cc)
 not_write_fault (Some x) WriteFault may = λ is. may
 not_write_fault (Some x) Memory may = λ is. absurd (cc)
+not_write_fault (Some x) (Differs t) may = λ is. absurd (cc)

@@ -1,5 +1,6 @@
 pub mod Answers
 pub mod BoundInputs
+pub mod Checks
 pub mod Endings
 pub mod Few
 pub mod Fronts

@@ -18,7 +18,7 @@ use Rattle.vg_top.specs.ProgramFile.{IsProgram, program_file, program_or_refusal
 use Rattle.vg_top.specs.Run.{ran, ran_on}
 
 -- what is told of a step that went well is told of what comes after it
-step : {A B C : Type 0} (same : A → B → Type 0) (x : A) (told : Result B Ending) (next : B → Result C Ending) (P : Result C Ending → Type 0)
+pub step : {A B C : Type 0} (same : A → B → Type 0) (x : A) (told : Result B Ending) (next : B → Result C Ending) (P : Result C Ending → Type 0)
     → Tells same (Ok x) told → ((y : B) → same x y → P (next y)) → P (told >>= next)
 step same x (Ok y) next P is after = after y is
 step same x (Err e) next P none after = absurd none

@@ -5,10 +5,10 @@ use Rattle.vg_outside.specs.Shelf.{CountsRead}
 use Rattle.vg_outside.specs.declared.shelf.Shelf as shelf
 use Rattle.vg_top.specs.declared.ending.FileNumber.{FileNumber}
 use Rattle.vg_top.specs.declared.ending.Ending.{Ending}
-use Rattle.vg_top.specs.declared.ending.Ending.TheVariants.{Usage, Instructions, Kernel, Program, Absent, ReadFault, TooLarge, Bindings, Trap, WriteFault, Memory}
-use Rattle.vg_top.specs.Causes.{MayStop, reads_instructions, reads_kernel, reads_program, runs}
+use Rattle.vg_top.specs.declared.ending.Ending.TheVariants.{Usage, Instructions, Kernel, Program, Absent, ReadFault, TooLarge, Bindings, Trap, WriteFault, Memory, Differs}
+use Rattle.vg_top.specs.Causes.{MayStop, reads_instructions, reads_kernel, reads_program, runs, compares}
 use Rattle.vg_request.specs.Request.{Asked, files_of}
-use Rattle.vg_top.specs.Works.{GrewBy, IsReadCount, CountsAbsence, CountsFault, Works, ReadsFile, IsOfFile, IsOfInstructions, IsOfKernel, IsOfProgram, IsOfRun, ending_of}
+use Rattle.vg_top.specs.Works.{GrewBy, IsReadCount, CountsAbsence, CountsFault, Works, ReadsFile, IsOfFile, IsOfInstructions, IsOfKernel, IsOfProgram, IsOfRun, IsOfComparison, ending_of}
 
 one_more : (n : ℕ) (before middle now : Option ℕ) → n ≤ 9 → GrewBy n before middle → CountsRead middle now → GrewBy (n + 1) before now
 one_more n (Some b) middle now few so_far read = λ small.
@@ -52,6 +52,7 @@ stops_file asked number (Program n f) is = absurd is
 stops_file asked number Bindings is = absurd is
 stops_file asked number Trap is = absurd is
 stops_file asked number WriteFault is = absurd is
+stops_file asked number (Differs t) is = absurd is
 
 counts_file : (files : ℕ) (number : FileNumber) (e : Ending) → 1 ≤ number.0 → number.0 ≤ files → IsOfFile number e → IsReadCount files number.0 (Some e)
 counts_file files number (Absent n) low high is = (ap (λ (m : FileNumber). m.0) (sym is), low, high)
@@ -65,6 +66,7 @@ counts_file files number (Program n f) low high is = absurd is
 counts_file files number Bindings low high is = absurd is
 counts_file files number Trap low high is = absurd is
 counts_file files number WriteFault low high is = absurd is
+counts_file files number (Differs t) low high is = absurd is
 
 -- the file behind those that were read is refused
 pub stops_at : {S : Type 0} (g : shelf.Ghosts S) (asked : Asked) (n : ℕ) (number : FileNumber) (before middle now : S) (e : Ending)
@@ -102,6 +104,7 @@ quiet_absence before now (Some Bindings) quiet same = same
 quiet_absence before now (Some Trap) quiet same = same
 quiet_absence before now (Some WriteFault) quiet same = same
 quiet_absence before now (Some Memory) quiet same = same
+quiet_absence before now (Some (Differs t)) quiet same = same
 
 quiet_fault : (before now : ℕ) (e : Option Ending) → IsQuiet e → now ≡ before → CountsFault before now e
 quiet_fault before now None quiet same = same
@@ -116,6 +119,7 @@ quiet_fault before now (Some Bindings) quiet same = same
 quiet_fault before now (Some Trap) quiet same = same
 quiet_fault before now (Some WriteFault) quiet same = same
 quiet_fault before now (Some Memory) quiet same = same
+quiet_fault before now (Some (Differs t)) quiet same = same
 
 -- behind so many files the work ends with no further read
 ends : {S : Type 0} (g : shelf.Ghosts S) (asked : Asked) (n : ℕ) (before now : S) (e : Option Ending)
@@ -144,6 +148,7 @@ stops_instructions g asked number before now (TooLarge n) low high reads h is = 
 stops_instructions g asked number before now Bindings low high reads h is = absurd is
 stops_instructions g asked number before now Trap low high reads h is = absurd is
 stops_instructions g asked number before now WriteFault low high reads h is = absurd is
+stops_instructions g asked number before now (Differs t) low high reads h is = absurd is
 
 -- the kernel in the last file that was read is refused
 pub stops_kernel : {S : Type 0} (g : shelf.Ghosts S) (asked : Asked) (number : FileNumber) (before now : S) (e : Ending)
@@ -159,6 +164,7 @@ stops_kernel g asked number before now (TooLarge n) low high reads h is = absurd
 stops_kernel g asked number before now Bindings low high reads h is = absurd is
 stops_kernel g asked number before now Trap low high reads h is = absurd is
 stops_kernel g asked number before now WriteFault low high reads h is = absurd is
+stops_kernel g asked number before now (Differs t) low high reads h is = absurd is
 
 -- the program in the last file that was read is refused
 pub stops_program : {S : Type 0} (g : shelf.Ghosts S) (asked : Asked) (number : FileNumber) (before now : S) (e : Ending)
@@ -174,6 +180,7 @@ stops_program g asked number before now (TooLarge n) low high reads h is = absur
 stops_program g asked number before now Bindings low high reads h is = absurd is
 stops_program g asked number before now Trap low high reads h is = absurd is
 stops_program g asked number before now WriteFault low high reads h is = absurd is
+stops_program g asked number before now (Differs t) low high reads h is = absurd is
 
 -- behind all files the bindings or the run end the work
 stops_run : {S : Type 0} (g : shelf.Ghosts S) (asked : Asked) (before now : S) (e : Ending)
@@ -189,6 +196,23 @@ stops_run g asked before now (Absent n) may h is = absurd is
 stops_run g asked before now (ReadFault n) may h is = absurd is
 stops_run g asked before now (TooLarge n) may h is = absurd is
 stops_run g asked before now WriteFault may h is = absurd is
+stops_run g asked before now (Differs t) may h is = absurd is
+
+-- behind all files the comparison ends the work
+stops_comparison : {S : Type 0} (g : shelf.Ghosts S) (asked : Asked) (before now : S) (e : Ending)
+    → compares asked ≡ true → HasRead g (length (files_of asked)) before now → IsOfComparison e → Works g (Some asked) before now (Some e)
+stops_comparison g asked before now (Differs t) may h is = ends g asked (length (files_of asked)) before now (Some (Differs t)) h tt may refl
+stops_comparison g asked before now Memory may h is = ends g asked (length (files_of asked)) before now (Some Memory) h tt tt (omega arith)
+stops_comparison g asked before now Usage may h is = absurd is
+stops_comparison g asked before now (Instructions n f) may h is = absurd is
+stops_comparison g asked before now (Kernel n f) may h is = absurd is
+stops_comparison g asked before now (Program n f) may h is = absurd is
+stops_comparison g asked before now (Absent n) may h is = absurd is
+stops_comparison g asked before now (ReadFault n) may h is = absurd is
+stops_comparison g asked before now (TooLarge n) may h is = absurd is
+stops_comparison g asked before now Bindings may h is = absurd is
+stops_comparison g asked before now Trap may h is = absurd is
+stops_comparison g asked before now WriteFault may h is = absurd is
 
 -- the kernel in the last file is judged, and nothing else ends the work
 pub kernel_last : {S X : Type 0} (g : shelf.Ghosts S) (asked : Asked) (number : FileNumber) (before now : S) (r : Result X Ending)
@@ -207,3 +231,9 @@ pub run_last : {S X : Type 0} (g : shelf.Ghosts S) (asked : Asked) (before now :
     → runs asked ≡ true → HasRead g (length (files_of asked)) before now → IfErr r IsOfRun → Works g (Some asked) before now (ending_of r)
 run_last g asked before now (Ok x) may h is = ends g asked (length (files_of asked)) before now None h tt tt refl
 run_last g asked before now (Err e) may h is = stops_run g asked before now e may h is
+
+-- the program is compared, and nothing else ends the work
+pub comparison_last : {S X : Type 0} (g : shelf.Ghosts S) (asked : Asked) (before now : S) (r : Result X Ending)
+    → compares asked ≡ true → HasRead g (length (files_of asked)) before now → IfErr r IsOfComparison → Works g (Some asked) before now (ending_of r)
+comparison_last g asked before now (Ok x) may h is = ends g asked (length (files_of asked)) before now None h tt tt refl
+comparison_last g asked before now (Err e) may h is = stops_comparison g asked before now e may h is

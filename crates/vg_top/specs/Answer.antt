@@ -1,10 +1,12 @@
 -- What may be written for a kernel.
-use Rattle.std.specs.Prelude.{◌≡◌, ℕ, List}
+use Rattle.std.specs.Prelude.{◌≡◌, ℕ, List, [], ◌∷◌, ◌++◌, codes}
+use Rattle.vg_catalog.specs.Called.{called_by}
 use Rattle.vg_catalog.specs.Entries.{Entry}
 use Rattle.vg_kernel.specs.Tree.{Tree}
 use Rattle.vg_program.specs.declared.program.Program.{Program}
 use Rattle.vg_program.specs.Text.{text_of}
 use Rattle.vg_compile.specs.Compiled.{IsCompiled}
+use Rattle.vg_compile.specs.Means.{Means}
 use Rattle.vg_compile.specs.Planned.{IsExplained}
 use Rattle.vg_guard.specs.declared.guarded.Guarded.{Guarded}
 use Rattle.vg_guard.specs.Guarded.{guarded_text}
@@ -34,6 +36,16 @@ pub record LoopSource : Type 0 where
 abbrev pub loop_source : List Entry → Loop → Choices → LoopSource
 loop_source entries l choices = record { entries = entries; loop = l; choices = choices }
 
+-- a kernel and a program, and the entries that the program may call
+pub record Pair : Type 0 where
+  pub entries : List Entry
+  pub kernel : Tree
+  pub program : Program
+
+abbrev pub pair : List Entry → Tree → Program → Pair
+pair entries kernel program =
+    record { entries = entries; kernel = kernel; program = program }
+
 -- The text of a program that is valid where it may call the entries, calls the allowed ones alone,
 -- means the kernel, states its scalar cost, and costs at most that and what the chosen plan costs, which
 -- is at most what the plain plan does.
@@ -62,3 +74,12 @@ pub record LoopedAnswer (s : LoopSource) (bytes : List ℕ) : Type 0 where
 -- program costs what this plan does, not that it has these packs
 abbrev pub Explanation : Source → List ℕ → Type 0
 Explanation s bytes = IsExplained s.entries s.choices.allowed s.kernel s.choices.width bytes
+
+abbrev pub same_text : List ℕ
+same_text = codes "same" ++ 10 ∷ []
+
+-- The word `same`. The program means the kernel: on everything that the kernel may be run on it leaves the
+-- same memory, or traps where the kernel traps, each call giving what the text of its entry means.
+pub record SameAnswer (q : Pair) (bytes : List ℕ) : Type 0 where
+  pub text : bytes ≡ same_text
+  pub means : Means (called_by q.entries) q.program q.kernel

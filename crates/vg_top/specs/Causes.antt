@@ -5,7 +5,7 @@ use Rattle.vg_top.specs.declared.ending.Ending.TheVariants.{WriteFault}
 use Rattle.vg_top.specs.declared.status.Status.{Status}
 use Rattle.vg_top.specs.declared.status.Status.TheVariants as status
 use Rattle.vg_top.specs.Ending.{status_of}
-use Rattle.vg_request.specs.Request.{Asked, compile, run, eval, lift, explain, trial}
+use Rattle.vg_request.specs.Request.{Asked, compile, run, eval, lift, explain, trial, check}
 
 -- the commands that read a file of instructions
 abbrev pub reads_instructions : Asked → Bool
@@ -15,6 +15,7 @@ reads_instructions (eval kernel memory bindings) = false
 reads_instructions (explain instructions kernel choices) = true
 reads_instructions (lift instructions) = true
 reads_instructions (trial instructions number) = true
+reads_instructions (check instructions kernel program) = true
 
 -- the commands that read a kernel
 abbrev pub reads_kernel : Asked → Bool
@@ -24,6 +25,7 @@ reads_kernel (eval kernel memory bindings) = true
 reads_kernel (explain instructions kernel choices) = true
 reads_kernel (lift instructions) = false
 reads_kernel (trial instructions number) = false
+reads_kernel (check instructions kernel program) = true
 
 -- the commands that read a program
 abbrev pub reads_program : Asked → Bool
@@ -33,6 +35,7 @@ reads_program (eval kernel memory bindings) = false
 reads_program (explain instructions kernel choices) = false
 reads_program (lift instructions) = false
 reads_program (trial instructions number) = false
+reads_program (check instructions kernel program) = true
 
 -- the commands that bind parameters and run something on a memory
 abbrev pub runs : Asked → Bool
@@ -42,9 +45,21 @@ runs (eval kernel memory bindings) = true
 runs (explain instructions kernel choices) = false
 runs (lift instructions) = false
 runs (trial instructions number) = false
+runs (check instructions kernel program) = false
+
+-- the command that compares a program with a kernel
+abbrev pub compares : Asked → Bool
+compares (compile instructions kernel choices guard) = false
+compares (run instructions program memory bindings) = false
+compares (eval kernel memory bindings) = false
+compares (explain instructions kernel choices) = false
+compares (lift instructions) = false
+compares (trial instructions number) = false
+compares (check instructions kernel program) = true
 
 -- A request may end so: its instructions, its kernel, its program are refused only where it reads
--- them, and bindings are refused and runs trap only where it binds parameters and runs something.
+-- them, bindings are refused and runs trap only where it binds parameters and runs something, and a
+-- program differs only where it is compared.
 -- Words that are no request have one ending, want of memory aside.
 abbrev pub MayEnd : Option Asked → Status → Type 0
 MayEnd None status.Usage = Unit {0}
@@ -56,6 +71,7 @@ MayEnd (Some asked) status.KernelRefused = reads_kernel asked ≡ true
 MayEnd (Some asked) status.ProgramRefused = reads_program asked ≡ true
 MayEnd (Some asked) status.BindingsRefused = runs asked ≡ true
 MayEnd (Some asked) status.Trap = runs asked ≡ true
+MayEnd (Some asked) status.Differs = compares asked ≡ true
 MayEnd (Some asked) s = Unit {0}
 
 -- The work on what was asked for may end so: with an answer, or with an ending that its command may

@@ -1,6 +1,6 @@
 -- The status of each ending.
 use Rattle.vg_top.specs.declared.ending.Ending.{Ending}
-use Rattle.vg_top.specs.declared.ending.Ending.TheVariants.{Usage, Instructions, Kernel, Program, Absent, ReadFault, TooLarge, Bindings, Trap, WriteFault, Memory}
+use Rattle.vg_top.specs.declared.ending.Ending.TheVariants.{Usage, Instructions, Kernel, Program, Absent, ReadFault, TooLarge, Bindings, Trap, WriteFault, Memory, Differs}
 use Rattle.vg_top.specs.declared.status.Status.{Status}
 use Rattle.vg_top.specs.declared.status.Status.TheVariants as status
 
@@ -16,3 +16,4 @@ status_of Bindings = status.BindingsRefused
 status_of Trap = status.Trap
 status_of WriteFault = status.WriteFault
 status_of Memory = status.NoMemory
+status_of (Differs text) = status.Differs

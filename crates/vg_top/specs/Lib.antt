@@ -1,5 +1,6 @@
 pub mod Answer
 pub mod Causes
+pub mod Check
 pub mod Ending
 pub mod Eval
 pub mod Files

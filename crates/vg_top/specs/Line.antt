@@ -17,7 +17,7 @@ use Rattle.vg_outside.specs.Count.{Rose}
 use Rattle.vg_outside.specs.Sink.{Appends, AppendsFront}
 use Rattle.vg_top.specs.declared.ending.FileNumber.{FileNumber}
 use Rattle.vg_top.specs.declared.ending.Ending.{Ending}
-use Rattle.vg_top.specs.declared.ending.Ending.TheVariants.{Usage, Instructions, Kernel, Program, Absent, ReadFault, TooLarge, Bindings, Trap, WriteFault, Memory}
+use Rattle.vg_top.specs.declared.ending.Ending.TheVariants.{Usage, Instructions, Kernel, Program, Absent, ReadFault, TooLarge, Bindings, Trap, WriteFault, Memory, Differs}
 
 -- the name of a file, by its number among the files of the request
 abbrev pub file_name : List (List ℕ) → FileNumber → List ℕ
@@ -47,6 +47,7 @@ head_of Bindings = codes "vegen: bindings"
 head_of Trap = codes "vegen: trap"
 head_of WriteFault = codes "vegen: write fault"
 head_of Memory = codes "vegen: memory"
+head_of (Differs text) = codes "vegen: differs: "
 
 -- the refusal of an instruction file: its name and its place
 abbrev pub instructions_refusal : CatalogFault → List ℕ
@@ -60,7 +61,7 @@ kernel_refusal f = kernel_names.name_of_fault f ++ place_text (kernel.place_of_f
 abbrev pub program_refusal : ProgramFault → List ℕ
 program_refusal f = name_of_fault f ++ (costs_text f ++ place_text (place_of_fault f))
 
--- the file that it names, or the refusal
+-- the file that it names, the refusal, or the first difference
 abbrev pub tail_of : List (List ℕ) → Ending → List ℕ
 tail_of files (Instructions n f) = instructions_refusal f
 tail_of files (Kernel n f) = kernel_refusal f
@@ -68,6 +69,7 @@ tail_of files (Program n f) = program_refusal f
 tail_of files (Absent n) = file_name files n
 tail_of files (ReadFault n) = file_name files n
 tail_of files (TooLarge n) = file_name files n
+tail_of files (Differs text) = text
 tail_of files _ = []
 
 abbrev pub line_of : List (List ℕ) → Ending → List ℕ

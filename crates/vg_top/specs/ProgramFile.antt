@@ -81,6 +81,10 @@ program_seen (seen.Plain p) = plain p
 program_seen (seen.Guarded g) = guarded g
 program_seen (seen.Looped l) = looped l
 
+-- a program alone is this one
+abbrev pub IsPlain : Program → Program → Type 0
+IsPlain p q = p ≡ q
+
 -- the program of the code is this one
 abbrev pub IsProgram : code.ProgramFile → ProgramFile → Type 0
 IsProgram p q = program_seen p ≡ q

@@ -16,3 +16,4 @@ code_of status.BindingsRefused = 9
 code_of status.Trap = 10
 code_of status.TooLarge = 11
 code_of status.NoMemory = 12
+code_of status.Differs = 13

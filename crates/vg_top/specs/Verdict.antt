@@ -7,10 +7,11 @@ use Rattle.vg_top.specs.declared.ending.Ending.TheVariants.{Usage}
 use Rattle.vg_top.specs.declared.status.Status.{Status}
 use Rattle.vg_top.specs.declared.status.Status.TheVariants as status
 use Rattle.vg_top.specs.Ending.{status_of}
-use Rattle.vg_request.specs.Request.{Asked, compile, run, eval, lift, explain, trial, request_of}
+use Rattle.vg_request.specs.Request.{Asked, compile, run, eval, lift, explain, trial, check, request_of}
 use Rattle.vg_top.specs.declared.on_kernel.Task.TheVariants.{Program, Guarded, Plan}
 use Rattle.vg_top.specs.OnKernel.{written_for}
 use Rattle.vg_top.specs.Outcome.{Outcome, memory_left, listing, line_on, IsAnswer, VecAnswers}
+use Rattle.vg_top.specs.Check.{checked}
 use Rattle.vg_top.specs.Eval.{evaluated}
 use Rattle.vg_top.specs.Lift.{listed}
 use Rattle.vg_top.specs.Run.{ran}
@@ -30,6 +31,7 @@ outcome_of held (eval kernel memory bindings) =
 outcome_of held (lift instructions) = listed held instructions >>= λ lines. Ok (listing lines)
 outcome_of held (trial instructions number) =
     trial_told held instructions number >>= λ t. Ok (line_on t)
+outcome_of held (check instructions kernel program) = checked held instructions kernel program
 
 -- what is to be written, or the first refusal: of the words, and then of the files in their order
 abbrev pub asked_outcome : Held → Option Asked → Result Outcome Ending

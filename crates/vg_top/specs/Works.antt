@@ -6,7 +6,7 @@ use Rattle.vg_outside.specs.Shelf.{CountsRead}
 use Rattle.vg_outside.specs.declared.shelf.Shelf as shelf
 use Rattle.vg_top.specs.declared.ending.FileNumber.{FileNumber}
 use Rattle.vg_top.specs.declared.ending.Ending.{Ending}
-use Rattle.vg_top.specs.declared.ending.Ending.TheVariants.{Usage, Instructions, Kernel, Program, Absent, ReadFault, TooLarge, Bindings, Trap, WriteFault, Memory}
+use Rattle.vg_top.specs.declared.ending.Ending.TheVariants.{Usage, Instructions, Kernel, Program, Absent, ReadFault, TooLarge, Bindings, Trap, WriteFault, Memory, Differs}
 use Rattle.vg_top.specs.Causes.{MayStop}
 use Rattle.vg_request.specs.Request.{Asked, files_in}
 
@@ -34,6 +34,7 @@ IsReadCount files n (Some Bindings) = n ≡ files
 IsReadCount files n (Some Trap) = n ≡ files
 IsReadCount files n (Some WriteFault) = n ≡ files
 IsReadCount files n (Some Memory) = n ≤ files
+IsReadCount files n (Some (Differs text)) = n ≡ files
 
 -- the number of reads grew by the files that were read
 abbrev pub Reads : ℕ → Option ℕ → Option ℕ → Option Ending → Type 0
@@ -97,6 +98,12 @@ IsOfRun Bindings = Unit {0}
 IsOfRun Trap = Unit {0}
 IsOfRun Memory = Unit {0}
 IsOfRun e = ⊥
+
+-- the comparison of a program with a kernel
+abbrev pub IsOfComparison : Ending → Type 0
+IsOfComparison (Differs text) = Unit {0}
+IsOfComparison Memory = Unit {0}
+IsOfComparison e = ⊥
 
 -- One file was read, by its number in the request.
 pub record ReadsFile {S : Type 0} (g : shelf.Ghosts S) (number : FileNumber) (before now : S)

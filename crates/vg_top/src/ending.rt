@@ -4,6 +4,7 @@ ghost use Rattle.std.specs.Prelude.{◌≡◌};
 ghost use Rattle.vg_top.specs.Ending.{status_of};
 
 use crate::status::Status;
+use vg_base::Items;
 use vg_catalog::CatalogFault;
 use vg_kernel::KernelFault;
 use vg_program::ProgramFault;
@@ -37,6 +38,8 @@ pub enum Ending {
     WriteFault,
     /// There was no memory, or a bound of the code was reached (docs/limits.md).
     Memory,
+    /// The program differs from the kernel: the text of their first difference.
+    Differs(Items<u8>),
 }
 
 impl Ending {
@@ -56,6 +59,7 @@ impl Ending {
             Ending::Trap => Status::Trap,
             Ending::WriteFault => Status::WriteFault,
             Ending::Memory => Status::NoMemory,
+            Ending::Differs(_) => Status::Differs,
         }
     }
 }

@@ -2,6 +2,7 @@
 //! written and the status.
 #![tactic(auto)]
 
+mod check;
 mod ending;
 mod eval;
 mod files;

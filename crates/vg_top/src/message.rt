@@ -40,6 +40,7 @@ fn head_of(ending: &Ending) -> &'static [u8]
         Ending::Trap => b"vegen: trap",
         Ending::WriteFault => b"vegen: write fault",
         Ending::Memory => b"vegen: memory",
+        Ending::Differs(_) => b"vegen: differs: ",
     }
 }
 
@@ -147,6 +148,7 @@ fn write_tail<E: Sink>(
         Ending::Absent(number) => err.write(file_name(request, *number).as_bytes()),
         Ending::ReadFault(number) => err.write(file_name(request, *number).as_bytes()),
         Ending::TooLarge(number) => err.write(file_name(request, *number).as_bytes()),
+        Ending::Differs(text) => err.write(text.as_slice()),
         _ => err.write(b""),
     }
 }

@@ -2,8 +2,10 @@
 
 ghost use Rattle.std.specs.Prelude.{◌≡◌, length, take, IfOk, IfErr};
 ghost use Rattle.std.specs.Str.{bytes_eq};
+ghost use Rattle.vg_program.specs.Faults.{read};
+ghost use Rattle.vg_program.specs.Valid.{KeepsRules};
 ghost use Rattle.vg_top.specs.Files.{Tells};
-ghost use Rattle.vg_top.specs.ProgramFile.{plain_file, guarded_file, looped_file, program_file, program_or_refusal, program_seen, params_of, KeepsAll, IsProgram};
+ghost use Rattle.vg_top.specs.ProgramFile.{plain_file, guarded_file, looped_file, program_file, program_or_refusal, program_seen, params_of, KeepsAll, IsPlain, IsProgram};
 ghost use Rattle.vg_top.specs.Works.{IsOfProgram};
 
 use crate::ending::{Ending, FileNumber};
@@ -48,6 +50,26 @@ fn begins(text: &[u8], bytes: &[u8]) -> bool
     }
 }
 
+/// The program of the text of the request's file of this number, which may call instructions of these headers;
+/// no guarded and no looped one may stand there. `Program` (status 5) with the first fault of the text, or
+/// `Memory` (12) for want of memory alone.
+pub fn program_alone_of_text(
+    alloc: Global,
+    number: FileNumber,
+    text: &[u8],
+    headers: &[Header],
+) -> Result<Program, Ending>
+    ensures told { Tells IsPlain result (program_or_refusal number (read headers.now text.now)) }
+    ensures refusal { IfErr result (IsOfProgram number) }
+    ensures rules { IfOk result (KeepsRules headers.now) }
+{
+    match parse_program(alloc, text, headers) {
+        Ok(program) => Ok(program),
+        Err(ProgramFault::Memory(_)) => Err(Ending::Memory),
+        Err(fault) => Err(Ending::Program(number, fault)),
+    }
+}
+
 /// The program of a text.
 fn plain_of_text(
     alloc: Global,
@@ -60,10 +82,9 @@ fn plain_of_text(
     ensures refusal { IfErr result (IsOfProgram number) }
     ensures rules { IfOk result (λ p. KeepsAll headers.now (program_seen p)) }
 {
-    match parse_program(alloc, text, headers) {
+    match program_alone_of_text(alloc, number, text, headers) {
         Ok(program) => Ok(ProgramFile::Plain(program)),
-        Err(ProgramFault::Memory(_)) => Err(Ending::Memory),
-        Err(fault) => Err(Ending::Program(number, fault)),
+        Err(ending) => Err(ending),
     }
 }
 

@@ -30,10 +30,12 @@ pub enum Status {
     TooLarge,
     /// There was no memory, or a bound of the code was reached (docs/limits.md).
     NoMemory,
+    /// The program differs from the kernel.
+    Differs,
 }
 
 impl Status {
-    /// The exit status: 0 for `Ok`, and 2 to 12 for the others in their order.
+    /// The exit status: 0 for `Ok`, and 2 to 13 for the others in their order.
     pub fn code(&self) -> u8
         ensures { result ≡ code_of self.now }
     {
@@ -50,6 +52,7 @@ impl Status {
             Status::Trap => 10,
             Status::TooLarge => 11,
             Status::NoMemory => 12,
+            Status::Differs => 13,
         }
     }
 }

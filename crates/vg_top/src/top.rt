@@ -13,6 +13,7 @@ ghost use Rattle.vg_top.specs.Verdict.{asked_outcome, verdict, IsAnswered, statu
 ghost use Rattle.vg_top.specs.Line.{Says};
 ghost use Rattle.vg_top.specs.Works.{Works, Reads, ending_of};
 
+use crate::check::check;
 use crate::ending::Ending;
 use crate::eval::eval;
 use crate::lift::lift;
@@ -81,6 +82,13 @@ fn answer<S: Shelf>(
                 number,
             },
         ) => trial(alloc, shelf, instructions, number),
+        Some(
+            Request::Check {
+                instructions,
+                kernel,
+                program,
+            },
+        ) => check(alloc, shelf, instructions, kernel, program),
         None => Err(Ending::Usage),
     }
 }
@@ -104,6 +112,8 @@ fn answer<S: Shelf>(
 /// `trial INSTRUCTIONS N` writes a line on the trial of N, a number below 2^32: how many statements
 /// its kernel has, what the kernel costs and what the program costs that is compiled for it with all
 /// entries in the file, and the sum of the bytes that both leave of its memory.
+/// `check INSTRUCTIONS KERNEL PROGRAM` writes `same` where the program, from anywhere, has no difference to the
+/// kernel: then it means the kernel. Else its status is `Differs`, and the line tells the first difference.
 ///
 /// The words are read with `clap`, which takes memory; words that it is not given are refused
 /// without. All files are read before the one write. What goes wrong is told by the status and by one

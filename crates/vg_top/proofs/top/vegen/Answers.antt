@@ -67,13 +67,16 @@ returns-clause-told g c =
     subst (λ (s : Status). s ≢ status.NoMemory → s ≢ status.ReadFault → s ≢ status.WriteFault → IfSome holds (λ held. s ≡ status_told (asked_outcome held (request_of c.args.words.now)))) (sym c.status.ensures)
     (told_by holds (request_of c.args.words.now) ending (subst (λ (a : Option Asked). ended holds a ending) c.in-Ok.ensures.asked told))
 
+unwritten_is_no_read : status_of WriteFault ≢ status.ReadFault
+unwritten_is_no_read = λ is. absurd (cc)
+
 -- counts that stayed tell that nothing went wrong outside
 pub returns-clause-complete : goal.returns-clause-complete
 returns-clause-complete g c = λ shelf_same shelf_below out_same out_below memory.
     let asked = option_map asked_of c.in-Ok.request in
     let faults = g.O.Sink.faults in
     let read : status_of c.match-answer.ending ≢ status.ReadFault = elim c.match-answer.branch [
-      | in-Ok-answer+in-Err-write w ↦ subst (λ (e : Ending). status_of e ≢ status.ReadFault) (sym w.ending-is) (λ is. absurd (cc))
+      | in-Ok-answer+in-Err-write w ↦ subst (λ (e : Ending). status_of e ≢ status.ReadFault) (sym w.ending-is) unwritten_is_no_read
       | in-Err w ↦ subst (λ (e : Ending). status_of e ≢ status.ReadFault) (sym w.ending-is) (not_read_fault w.in-Err.ending _ _ w.in-Err.ensures.shelf.fault shelf_same shelf_below)
     ] in
     let write : status_of c.match-answer.ending ≢ status.WriteFault = elim c.match-answer.branch [

@@ -1,0 +1,9 @@
+//! The plain plan of a kernel: it ends because nothing is left to try.
+//!
+//! `specs/Walk.antt` says how the plain plan grows to its end, however long that takes, and
+//! `specs/Laws.antt` that the turns which it is given are never used up.
+#![tactic(auto)]
+
+mod law;
+
+pub use law::plain_plans_leave_nothing;

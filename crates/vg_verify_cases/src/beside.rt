@@ -1,0 +1,76 @@
+//! A kernel and a program from texts, and what a comparison of them ends with.
+
+use std::alloc::Global;
+use std::test::Fail;
+use vg_catalog::parse_file;
+use vg_kernel::parse_kernel;
+use vg_listing::files_have_lanes;
+use vg_program::parse_program;
+use vg_ssa::number_values;
+use vg_verify::{Difference, Verdict, verify};
+
+/// What a row expects, without the terms of a value.
+#[derive(Clone, Copy, PartialEq, Debug)]
+pub enum Expected {
+    Same,
+    Params,
+    Opaque {
+        line: usize,
+    },
+    Access {
+        writes: bool,
+        pointer: u32,
+        offset: i64,
+        kernel: usize,
+        program: usize,
+    },
+    Order {
+        first: usize,
+        second: usize,
+    },
+    Value {
+        unit: usize,
+    },
+}
+
+fn expected_of(verdict: &Verdict) -> Expected {
+    match verdict {
+        Verdict::Same => Expected::Same,
+        Verdict::Differs(difference) => expected_in(difference),
+    }
+}
+
+fn expected_in(difference: &Difference) -> Expected {
+    match difference {
+        Difference::Params => Expected::Params,
+        Difference::Opaque { line } => Expected::Opaque { line: *line },
+        Difference::Access(uneven) => Expected::Access {
+            writes: uneven.label.writes,
+            pointer: uneven.label.pointer,
+            offset: uneven.label.offset,
+            kernel: uneven.in_kernel,
+            program: uneven.in_program,
+        },
+        Difference::Order(turned) => Expected::Order {
+            first: turned.first,
+            second: turned.second,
+        },
+        Difference::Value { unit, .. } => Expected::Value { unit: *unit },
+    }
+}
+
+/// What the comparison of a kernel's text with a program's text ends with, over the entries of a file's text.
+pub fn compared(
+    alloc: Global,
+    entries: &[u8],
+    kernel: &[u8],
+    program: &[u8],
+) -> Result<Expected, Fail> {
+    files_have_lanes();
+    let catalog = parse_file(alloc, entries)?;
+    let kernel = parse_kernel(alloc, kernel)?;
+    let program = parse_program(alloc, program, catalog.headers())?;
+    let ssa = number_values(alloc, &kernel)?;
+    let verdict = verify(alloc, &catalog, &ssa, &program)?;
+    Ok(expected_of(&verdict))
+}
