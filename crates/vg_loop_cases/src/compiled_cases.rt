@@ -92,39 +92,72 @@ fn bytes(alloc: Global, count: u32) -> Result<Vec<u8>, Fail> {
 const SUMS: &str = "loop add(d: noalias ptr, a: ptr, b: ptr, n: i32) times n step d 4, a 4, b 4
 { store32(d, load32(a) + load32(b)); }";
 
-#[test]
-fn a_block_of_sixteen_sums_calls_instructions(rt: HostRuntime) -> Result<(), Fail> {
-    let alloc = rt.alloc();
-    let case = case_of(alloc, ADD, SUMS)?;
-    assert!(rt; case.looped.turns == 16 && case.looped.times == 0);
-    assert!(rt; case.looped.steps.as_slice() == [4, 4, 4].as_slice());
-    assert!(rt; case.looped.block.scalar == 64 && case.looped.rest.scalar == 4);
-    assert!(rt; case.looped.block.cost < 64 && case.looped.rest.cost <= 4);
-    let memory = bytes(alloc, 480)?;
-    for count in [0, 1, 15, 16, 17, 40, 41] {
+/// Asserts how a block of sixteen sums and a rest of one are compiled.
+fn expect_sixteen_sums(rt: &impl Abort, looped: &Looped) {
+    assert!(rt; looped.turns == 16 && looped.times == 0);
+    assert!(rt; looped.steps.as_slice() == [4, 4, 4].as_slice());
+    assert!(rt; looped.block.scalar == 64 && looped.rest.scalar == 4);
+    assert!(rt; looped.block.cost < 64 && looped.rest.cost <= 4);
+}
+
+/// Asserts that the loop and its looped text leave the same of a memory, for each of these numbers of
+/// turns.
+fn expect_same_turns(
+    rt: &impl Abort,
+    alloc: Global,
+    case: &Compiled,
+    places: &[u64],
+    memory: &[u8],
+    counts: &[u64],
+) -> Result<(), Fail>
+    requires written { AllWritten (entries_in case.now.catalog) }
+    requires rules { IsLooped (headers_of (entries_in case.now.catalog)) case.now.looped }
+{
+    for count in counts {
         let inputs = Inputs {
-            places: &[0, 160, 320],
-            args: &[count],
+            places,
+            args: &[*count],
         };
-        expect_same(&rt, alloc, &case, inputs, memory.as_slice())?;
+        expect_same(rt, alloc, case, inputs, memory)?;
     }
     Ok(())
 }
 
 #[test]
-fn a_looped_text_that_is_compiled_is_printed_and_read_again(rt: HostRuntime) -> Result<(), Fail> {
+fn a_block_of_sixteen_sums_calls_instructions(rt: HostRuntime) -> Result<(), Fail> {
     let alloc = rt.alloc();
+    let memory = bytes(alloc, 480)?;
     let case = case_of(alloc, ADD, SUMS)?;
+    expect_sixteen_sums(&rt, &case.looped);
+    let counts = [0, 1, 15, 16, 17, 40, 41];
+    expect_same_turns(
+        &rt,
+        alloc,
+        &case,
+        &[0, 160, 320],
+        memory.as_slice(),
+        &counts,
+    )
+}
+
+/// Asserts that a looped text which is compiled is printed, and read again as what is printed so.
+fn expect_printed(rt: &impl Abort, alloc: Global, case: &Compiled) -> Result<(), Fail> {
     assert!(rt; case.looped.steps.as_slice().len() <= 16);
     let text = print_looped(alloc, &case.looped)?;
+    let first = "looped add(d: ptr, a: ptr, b: ptr, n: i32) times n step d 4, a 4, b 4 block 16\n";
+    assert!(rt; text.as_slice().starts_with(first.as_bytes()));
     let Ok(again) = parse_looped(alloc, text.as_slice(), case.catalog.headers()) else {
         return Err("what is printed is refused".into());
     };
     assert!(rt; again.steps.as_slice().len() <= 16);
     assert!(rt; print_looped(alloc, &again)?.as_slice() == text.as_slice());
-    let first = "looped add(d: ptr, a: ptr, b: ptr, n: i32) times n step d 4, a 4, b 4 block 16\n";
-    assert!(rt; text.as_slice().starts_with(first.as_bytes()));
     Ok(())
+}
+
+#[test]
+fn a_looped_text_that_is_compiled_is_printed_and_read_again(rt: HostRuntime) -> Result<(), Fail> {
+    let case = case_of(rt.alloc(), ADD, SUMS)?;
+    expect_printed(&rt, rt.alloc(), &case)
 }
 
 #[test]
@@ -132,16 +165,10 @@ fn turns_that_depend_on_each_other_stay_in_order(rt: HostRuntime) -> Result<(), 
     let alloc = rt.alloc();
     let text = "loop sums(p: ptr, q: ptr, n: i8) times n step p 1
         { store8(p + 1, load8(p) + load8(p + 1)); store8(q, load8(p + 1)); }";
-    let case = case_of(alloc, b"", text)?;
     let memory = bytes(alloc, 24)?;
-    for count in [0, 3, 16, 19, 23, 24] {
-        for place in [0, 3, 23] {
-            let inputs = Inputs {
-                places: &[0, place],
-                args: &[count],
-            };
-            expect_same(&rt, alloc, &case, inputs, memory.as_slice())?;
-        }
-    }
-    Ok(())
+    let case = case_of(alloc, b"", text)?;
+    let counts = [0, 3, 16, 19, 23, 24];
+    expect_same_turns(&rt, alloc, &case, &[0, 0], memory.as_slice(), &counts)?;
+    expect_same_turns(&rt, alloc, &case, &[0, 3], memory.as_slice(), &counts)?;
+    expect_same_turns(&rt, alloc, &case, &[0, 23], memory.as_slice(), &counts)
 }

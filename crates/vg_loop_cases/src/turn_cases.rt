@@ -9,7 +9,7 @@ use crate::running::{Inputs, left_by_loop, left_by_looped, read};
 use std::alloc::Global;
 use std::process::Abort;
 use std::test::Fail;
-use vg_kernel::KStmt;
+use vg_kernel::{KStmt, Kernel};
 use vg_keval::{KState, run_kernel};
 use vg_looped::{Looped, parse_looped};
 use vg_loops::{Loop, Outcome, turns_of, unroll};
@@ -210,34 +210,46 @@ fn a_block_has_as_many_turns_as_keep_the_limits(rt: HostRuntime) -> Result<(), F
     )
 }
 
-#[test]
-fn the_kernel_of_a_block_leaves_what_its_turns_leave(rt: HostRuntime) -> Result<(), Fail> {
-    let alloc = rt.alloc();
-    let text = "loop l(p: ptr, q: ptr, n: i8) times n step p 2
-        { x = load8(p + 1); store8(p, x + load8(q)); store8(q, x); }";
-    let source = read(alloc, text)?;
-    let turns = turns_of(&source);
-    let kernel = unroll(alloc, &source, turns)?;
-    assert!(rt; turns == 16);
+/// Asserts that the kernel of sixteen turns of a loop has these numbers of statements and stores, and
+/// leaves of a memory what the turns leave.
+fn expect_unrolled(
+    rt: &impl Abort,
+    alloc: Global,
+    source: &Loop,
+    kernel: &Kernel,
+    memory: &mut [u8],
+) -> Result<(), Fail> {
     assert!(rt; kernel.statements.as_slice().len() == 48);
     let stores = |s: &&KStmt| matches!(**s, KStmt::Store { .. });
     assert!(rt; kernel.statements.as_slice().iter().filter(stores).count() == 32);
-    let mut memory = Vec::new(alloc);
-    for byte in 0..33u8 {
-        memory.push(byte)?;
-    }
     let inputs = Inputs {
         places: &[1, 0],
         args: &[16],
     };
-    let Some(left) = left_by_loop(alloc, &source, inputs, memory.as_slice())? else {
+    let Some(left) = left_by_loop(alloc, source, inputs, memory)? else {
         return Err("a loop traps".into());
     };
-    let mut state = KState::new(alloc, &kernel)?;
-    let done = run_kernel(&kernel, &mut state, memory.as_mut_slice(), &[1, 0], &[16]);
+    let mut state = KState::new(alloc, kernel)?;
+    let done = run_kernel(kernel, &mut state, memory, &[1, 0], &[16]);
     assert!(rt; matches!(done, Outcome::Done));
-    assert!(rt; memory.as_slice() == left.as_slice());
+    assert!(rt; *memory == *left.as_slice());
     Ok(())
+}
+
+#[test]
+fn the_kernel_of_a_block_leaves_what_its_turns_leave(rt: HostRuntime) -> Result<(), Fail> {
+    let alloc = rt.alloc();
+    let mut memory = Vec::new(alloc);
+    for byte in 0..33u8 {
+        memory.push(byte)?;
+    }
+    let text = "loop l(p: ptr, q: ptr, n: i8) times n step p 2
+        { x = load8(p + 1); store8(p, x + load8(q)); store8(q, x); }";
+    let source = read(alloc, text)?;
+    let turns = turns_of(&source);
+    assert!(rt; turns == 16);
+    let kernel = unroll(alloc, &source, turns)?;
+    expect_unrolled(&rt, alloc, &source, &kernel, memory.as_mut_slice())
 }
 
 const MARKS: &str = "looped marks(p: ptr, n: i8) times n step p 1 block 3
