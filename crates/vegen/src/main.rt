@@ -27,7 +27,7 @@ impl From<AllocError> for NoWords {
     }
 }
 
-/// The words behind the name of the program.
+/// The words after the name of the program.
 fn words_of(rt: &HostRuntime, alloc: Global) -> Result<Words, NoWords> {
     let all = match env::args(rt) {
         Ok(all) => all,

@@ -82,7 +82,7 @@ mod tests {
         }
     }
 
-    /// Takes at most 65,536 bytes a call. Flushes fail behind so many good ones.
+    /// Takes at most 65,536 bytes a call. Flushes fail after so many good ones.
     #[derive(Drop)]
     struct Wide {
         bytes: Vec<u8>,

@@ -6,7 +6,7 @@ ghost use Rattle.vg_plans.specs.Levels.{kept_of};
 
 use std::alloc::AllocError;
 
-/// A plan that was kept with a pack behind it: the place of the plan in its level, the number of the
+/// A plan that was kept with a pack after it: the place of the plan in its level, the number of the
 /// pack, and what they cost together.
 #[derive(Clone, Copy)]
 pub(crate) struct Candidate {

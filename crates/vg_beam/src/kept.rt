@@ -18,7 +18,7 @@ use vg_cost::Running;
 use vg_packs::store_groups;
 
 /// A plan that may grow: the plan with its cost, the numbers of its packs, rising, and the numbers of
-/// the packs that are tried behind it.
+/// the packs that are tried after it.
 #[derive(Drop)]
 pub(crate) struct Kept {
     pub(crate) running: Running,
@@ -35,7 +35,7 @@ pub(crate) fn kept_at(level: &[Kept], place: usize) -> &Kept
     &level[place]
 }
 
-/// The empty plan, behind which the store groups are tried.
+/// The empty plan, after which the store groups are tried.
 pub(crate) fn empty_plan(
     alloc: Global,
     board: &mut Board,
@@ -59,7 +59,7 @@ pub(crate) fn empty_plan(
     })
 }
 
-/// Two lists, one behind the other.
+/// Two lists, one after the other.
 fn joined(alloc: Global, first: &[u32], second: &[u32]) -> Result<Items<u32>, AllocError>
     ensures { IfOk result (λ both. both ≡ first.now ++ second.now) }
 {

@@ -26,7 +26,7 @@ use std::alloc::{AllocError, Global};
 use vg_cost::Room;
 use vg_packs::PlanMarks;
 
-/// Meets a plan of a level with a pack behind it that is tried there, if it stays a plan and none of the
+/// Meets a plan of a level with a pack after it that is tried there, if it stays a plan and none of the
 /// same packs was met.
 fn meet(
     alloc: Global,
@@ -89,7 +89,7 @@ fn meet(
     Ok(())
 }
 
-/// Meets a plan of a level with each pack behind it that may follow it.
+/// Meets a plan of a level with each pack after it that may follow it.
 fn meet_all(
     alloc: Global,
     board: &Board,

@@ -70,7 +70,7 @@ fn words_that_are_no_request_read_nothing(rt: HostRuntime) -> Result<(), Fail> {
     Ok(())
 }
 
-/// Asserts what is said of a kernel that is refused, behind which nothing is read.
+/// Asserts what is said of a kernel that is refused, after which nothing is read.
 fn expect_refusal(rt: &impl Abort, alloc: Global, kernel: &[u8], said: &str) -> Result<(), Fail> {
     let line = format!(in alloc; "vegen: kernel: {said}\n")?;
     let mut desk = Desk::with_kernel(alloc, kernel)?;

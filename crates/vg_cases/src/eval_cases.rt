@@ -19,7 +19,7 @@ const LAP: &[u8] =
 
 const PUT: &[u8] = b"kernel put(d: ptr, k: i8) { store8(d + 0, k); }";
 
-/// The low byte of n + m or, where n is less than m, of their difference; and behind it m over
+/// The low byte of n + m or, where n is less than m, of their difference; and after it m over
 /// 16, rounded down.
 const MIX: &[u8] = b"kernel mix(d: ptr, n: i16) {
   m = load16(d + 0);

@@ -47,7 +47,7 @@ fn expect_run(
     desk.expect(rt, "run i p m", status, b"", said)
 }
 
-/// Both commands that read instructions read these two texts, one behind the other, as their file.
+/// Both commands that read instructions read these two texts, one after the other, as their file.
 fn expect_both(
     rt: &impl Abort,
     alloc: Global,
@@ -91,7 +91,7 @@ fn refused(
     )
 }
 
-/// A row is the operation behind the header, in which each `;` ends a line, an arrow, and what is said.
+/// A row is the operation after the header, in which each `;` ends a line, an arrow, and what is said.
 fn refuse_row(rt: &impl Abort, alloc: Global, row: &str) -> Result<(), Fail> {
     let Some((operation, said)) = row.trim().split_once(" => ") else {
         return Err("an arrow is missing".into());

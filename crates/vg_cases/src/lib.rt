@@ -20,6 +20,8 @@ mod loop_cases;
 #[cfg(test)]
 mod memories;
 #[cfg(test)]
+mod more_cases;
+#[cfg(test)]
 mod option_cases;
 #[cfg(test)]
 mod outside_cases;

@@ -15,7 +15,7 @@ pub fn bytes_of(alloc: Global, text: &str) -> Result<Vec<u8>, Fail> {
     Ok(bytes)
 }
 
-/// Puts so many of one byte behind others.
+/// Puts so many of one byte after others.
 pub fn fill(bytes: &mut Vec<u8>, count: u32, byte: u8) -> Result<(), Fail> {
     for _ in 0..count {
         bytes.push(byte)?;

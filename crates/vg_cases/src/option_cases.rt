@@ -50,7 +50,16 @@ fn options_that_are_no_request_read_nothing(rt: HostRuntime) -> Result<(), Fail>
         explain i
         lift --width 1 i
         eval --width 1 k m
-        run --with SSE2 i p m"
+        run --with SSE2 i p m
+        compile --more --more i k
+        compile --more=1 i k
+        compile --more= i k
+        explain --more i k --more
+        lift --more i
+        run --more i p m
+        eval k m --more
+        trial --more i 1
+        check --more i k p"
         .lines()
     {
         expect_usage(&rt, rt.alloc(), line)?;
@@ -63,7 +72,9 @@ fn options_stand_anywhere(rt: HostRuntime) -> Result<(), Fail> {
     for line in "compile i k
         compile --width=1 --with AVX2 --with=SSE2 i k
         compile i --width 0004096 k --with AVX512BW
-        compile i k --with SSE2 --with SSE2"
+        compile i k --with SSE2 --with SSE2
+        compile --more i k
+        compile --width=8 i k --more --with AVX2"
         .lines()
     {
         expect_answer(&rt, rt.alloc(), line, PROGRAM)?;
@@ -74,7 +85,8 @@ fn options_stand_anywhere(rt: HostRuntime) -> Result<(), Fail> {
 #[test]
 fn the_plan_of_two_words_is_explained(rt: HostRuntime) -> Result<(), Fail> {
     for line in "explain i k
-        explain --width 1 i --with=SSE4.1 k"
+        explain --width 1 i --with=SSE4.1 k
+        explain i --more k"
         .lines()
     {
         expect_answer(&rt, rt.alloc(), line, PLAN)?;

@@ -152,7 +152,7 @@ fn accesses_outside_the_memory_trap(rt: HostRuntime) -> Result<(), Fail> {
     expect_trap(&rt, alloc, SUM, &[0; 20], "run i p m d=0 k=0")
 }
 
-/// Asserts that bindings are refused, behind all three files.
+/// Asserts that bindings are refused, after all three files.
 fn refuse_bindings(rt: &impl Abort, alloc: Global, program: &[u8], line: &str) -> Result<(), Fail> {
     let mut desk = desk_with(alloc, program, &[0; 20])?;
     desk.expect(rt, line, Status::BindingsRefused, b"", b"vegen: bindings\n")?;
@@ -203,7 +203,7 @@ fn words_that_are_no_request_to_run(rt: HostRuntime) -> Result<(), Fail> {
     Ok(())
 }
 
-/// Asserts what is said of a program that is refused, behind which nothing is read.
+/// Asserts what is said of a program that is refused, after which nothing is read.
 fn refused(rt: &impl Abort, alloc: Global, program: &[u8], said: &str) -> Result<(), Fail> {
     let line = format!(in alloc; "vegen: program: {said}\n")?;
     let mut desk = desk_with(alloc, program, b"")?;

@@ -110,7 +110,7 @@ fn expect_literal(
     Ok(())
 }
 
-/// The literal is the node that is one too deep, behind the 36 bytes before it and 256 parentheses.
+/// The literal is the node that is one too deep, after the 36 bytes before it and 256 parentheses.
 #[test]
 fn a_literal_of_a_kernel_in_255_parentheses_is_the_deepest(rt: HostRuntime) -> Result<(), Fail> {
     expect_literal(&rt, rt.alloc(), 255, Status::Ok, b"")?;

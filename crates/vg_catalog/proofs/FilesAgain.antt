@@ -1,7 +1,6 @@
 -- Files that are in the language are read.
-use Rattle.std.proofs.Common.{◌≡◌, ℕ, zero, suc, ◌+◌, ◌≤◌, Bool, true, false, List, [], ◌∷◌, ◌++◌, length, Result, Ok, Err, refl, sym, ◌∙◌, ap, subst, append_assoc, append-nil, arith, true≢false}
+use Rattle.std.proofs.Common.{◌≡◌, ℕ, zero, suc, ◌+◌, ◌≤◌, true, false, List, [], ◌∷◌, ◌++◌, length, Result, Ok, Err, refl, sym, ◌∙◌, ap, subst, append_assoc, append-nil, arith, true≢false}
 use Rattle.std.specs.Prelude.{nat_lt, nat_le, is_ok, codes}
-use Rattle.vg_base.specs.Bind.{◌>>=◌}
 use Rattle.vg_base.proofs.Bind.{bind_ok, bind_to}
 use Rattle.vg_text.specs.declared.place.Place.{Place}
 use Rattle.vg_text.specs.Token.{Lexemes, token, finish, fault}
@@ -13,7 +12,7 @@ use Rattle.vg_range.specs.Acceptance.{checked}
 use Rattle.vg_catalog.specs.Words.{next_word, word_from, end_of_word}
 use Rattle.vg_catalog.specs.Headers.{header_at}
 use Rattle.vg_catalog.specs.Entries.{Entry, is_known, instances, instances_of}
-use Rattle.vg_catalog.specs.Files.{as_text, as_judged, counted, judged, end_from, entry_at, entries_from, file_of}
+use Rattle.vg_catalog.specs.Files.{as_text, counted, judged, end_from, entry_at, entries_from, file_of}
 use Rattle.vg_catalog.specs.Grammar.{IsEntryText, AreEntries, IsFile}
 use Rattle.vg_catalog.proofs.Standing.{Reads, next-again, le-true}
 use Rattle.vg_catalog.proofs.HeadersAgain.{header-again}

@@ -1,14 +1,12 @@
 -- What is read as a file is one.
-use Rattle.std.proofs.Common.{◌≡◌, ℕ, zero, suc, ◌+◌, ◌≤◌, ◌<◌, Bool, true, false, List, [], ◌∷◌, ◌++◌, length, Option, Some, None, Result, Ok, Err, refl, sym, ◌∙◌, ap, subst, inl, inr, append_assoc, append-nil, arith}
+use Rattle.std.proofs.Common.{◌≡◌, ℕ, zero, suc, ◌+◌, ◌≤◌, true, List, [], ◌∷◌, ◌++◌, length, Result, Ok, Err, refl, sym, ◌∙◌, ap, subst, inl, inr, append_assoc, append-nil, arith}
 use Rattle.std.specs.Prelude.{nat_lt, nat_le, is_ok}
 use Rattle.vg_base.proofs.Bind.{bind_ok, tested_ok, refused_ok, either_way}
 use Rattle.vg_text.specs.declared.place.Place.{Place}
 use Rattle.vg_text.specs.Token.{Lexemes, token, finish, fault}
 use Rattle.vg_text.specs.Words.{Reading, Spelled, reading_of}
 use Rattle.vg_pseudo.specs.declared.header.Header.{Header}
-use Rattle.vg_pseudo.specs.Tree.{Operation}
 use Rattle.vg_pseudo.specs.Operations.{operation_at}
-use Rattle.vg_pseudo.specs.Resolved.{Resolved}
 use Rattle.vg_pseudo.specs.declared.fault.PseudoFault.{PseudoFault}
 use Rattle.vg_pseudo.proofs.Taking.{ok_once}
 use Rattle.vg_pseudo_laws.proofs.OperationsFound.{operation-found}

@@ -1,5 +1,5 @@
 -- What is read as a header is one.
-use Rattle.std.proofs.Common.{◌≡◌, ℕ, zero, suc, ◌+◌, ◌≤◌, Bool, true, false, List, [], ◌∷◌, ◌++◌, length, Option, Some, None, Result, Ok, refl, sym, ◌∙◌, ap, subst, inl, inr, append_assoc, append-nil, arith}
+use Rattle.std.proofs.Common.{◌≡◌, ℕ, zero, suc, ◌≤◌, Bool, true, false, List, [], ◌∷◌, ◌++◌, length, Option, Some, None, Result, Ok, refl, sym, ◌∙◌, ap, subst, inl, inr, append_assoc, append-nil, arith}
 use Rattle.std.specs.Prelude.{codes, ◌&&◌, ◌==◌, if◌then◌else◌}
 use Rattle.std.specs.Str.{bytes_eq}
 use Rattle.vg_base.specs.Bind.{or_fault}
@@ -16,8 +16,8 @@ use Rattle.vg_catalog.specs.declared.lanes.Lanes.{Lanes}
 use Rattle.vg_catalog.specs.declared.header_reading.Closing.{Closing}
 use Rattle.vg_catalog.specs.Extensions.{extension_place}
 use Rattle.vg_catalog.specs.Words.{next_word, this_word, optional_word, number_word}
-use Rattle.vg_catalog.specs.Headers.{register_named, make_lanes, unsigned_lanes, signed_lanes, whole_lanes, first_of, lanes_named, register_at, etype_at, lanes_at, is_operand_name, operand_at, param_at, params_from, params_at, range_at, imm_at, result_at, extension_at, cost_at, closing_at, entry_name_at, header_at}
-use Rattle.vg_catalog.specs.Grammar.{AreLanes, IsOperand, IsNumber, IsParam, AreParams, IsRange, IsImm, IsClosing, IsHeader}
+use Rattle.vg_catalog.specs.Headers.{register_named, make_lanes, unsigned_lanes, signed_lanes, whole_lanes, first_of, lanes_named, register_at, lanes_at, is_operand_name, operand_at, param_at, params_from, params_at, range_at, imm_at, result_at, extension_at, cost_at, closing_at, entry_name_at, header_at}
+use Rattle.vg_catalog.specs.Grammar.{AreLanes, IsOperand, IsNumber, IsParam, AreParams, IsImm, IsClosing, IsHeader}
 use Rattle.vg_catalog.proofs.Standing.{some_of, true_fact, Reads, ◌▷◌, no-words, next-reads, FoundWord, expect-found, accept-found, number-found}
 
 -- what is found has this register

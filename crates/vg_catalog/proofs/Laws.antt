@@ -1,5 +1,5 @@
 -- What a reader that gives the entries of the definition promises of the language.
-use Rattle.std.proofs.Common.{◌≡◌, ℕ, List, Result, Ok, Err, subst}
+use Rattle.std.proofs.Common.{ℕ, List, Result, Ok, Err, subst}
 use Rattle.std.specs.Result.{IfOk}
 use Rattle.vg_catalog.specs.declared.catalog.Catalog.{Catalog}
 use Rattle.vg_catalog.specs.declared.fault.CatalogFault.{CatalogFault}

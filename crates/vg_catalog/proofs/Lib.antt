@@ -1,11 +1,12 @@
 pub mod EntryLists
+pub mod FileHeaders
 pub mod FileSteps
 pub mod FilesAgain
 pub mod FilesFound
 pub mod HeaderWords
 pub mod HeadersAgain
 pub mod HeadersFound
+pub mod Kept
 pub mod Laws
 pub mod ParamLists
 pub mod Standing
-pub mod WrittenEntries

@@ -4,6 +4,7 @@ pub mod Comments
 pub mod Entries
 pub mod Extensions
 pub mod Faults
+pub mod FileEntries
 pub mod Files
 pub mod Gives
 pub mod Grammar

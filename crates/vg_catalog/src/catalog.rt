@@ -2,14 +2,16 @@
 
 ghost use Rattle.std.specs.Prelude.{◌≡◌, ◌≤◌, map, vec_items};
 ghost use Rattle.vg_catalog.specs.Entries.{IsKept, entry_of, instances_of};
+ghost use Rattle.vg_catalog.specs.FileEntries.{AreFileEntries, file-entries-prop};
 
 use indexmap::IndexSet;
 use std::alloc::{AllocError, Global};
 use vg_pseudo::{Header, ImmRange};
 use vg_range::Checked;
 
-/// Entries in the order in which they stand, with names that differ. Contracts see the list of
-/// their headers and operations, `entries_in` of `specs/`.
+/// Entries in the order in which they stand, with names that differ, as files have them. Contracts
+/// see the list of their headers and operations, `entries_in` of `specs/`; proofs know of it what
+/// `specs/FileEntries.antt` says, by `catalog-entries` of `proofs/Kept.antt`.
 #[derive(Drop)]
 pub struct Catalog {
     entries: Vec<Checked>,
@@ -18,6 +20,7 @@ pub struct Catalog {
     instances: u32,
     ghost kept: { IsKept (map entry_of entries.items) headers.items
         (map vec_items names.keys) instances },
+    ghost read: { AreFileEntries (map entry_of entries.items) } by { file-entries-prop (map entry_of entries.items) },
 }
 
 /// How many instances an entry has: one for each immediate, or one.
@@ -35,6 +38,8 @@ impl Catalog {
     ghost use Rattle.std.specs.Prelude.{◌+◌, ◌++◌, ◌∷◌, [], false, nat_le, IfOk};
     ghost use Rattle.vg_catalog.specs.Catalogs.{entries_in};
     ghost use Rattle.vg_catalog.specs.Entries.{entry_place, is_known, instances, name_of};
+    ghost use Rattle.vg_catalog.specs.FileEntries.{IsFileEntry};
+    ghost use Rattle.vg_catalog.specs.Written.{AllWritten};
 
     /// No entry.
     pub(crate) fn new(alloc: Global) -> Catalog
@@ -48,9 +53,10 @@ impl Catalog {
         }
     }
 
-    /// The entries in the order in which they stand. Takes no memory.
+    /// The entries in the order in which they stand, each of which a text can say. Takes no memory.
     pub fn entries(&self) -> &[Checked]
         ensures entries { map entry_of result.now ≡ entries_in self.now }
+        ensures written { AllWritten (map entry_of result.now) }
     {
         self.entries.as_slice()
     }
@@ -85,6 +91,7 @@ impl Catalog {
 
     /// With one entry more.
     pub(crate) fn and(self, alloc: Global, checked: Checked) -> Result<Catalog, AllocError>
+        requires read { IsFileEntry (entry_of checked) }
         requires fresh { is_known (entries_in self) (name_of (entry_of checked)) ≡ false }
         requires room { instances (entries_in self)
             + instances_of (entry_of checked).header.imm ≤ 4096 }

@@ -12,7 +12,6 @@ ghost use Rattle.vg_catalog.specs.Files.{as_text, judged, entry_at, entries_from
 ghost use Rattle.vg_catalog.specs.Gives.{Gives, Reads};
 ghost use Rattle.vg_catalog.specs.Grammar.{IsFile};
 ghost use Rattle.vg_catalog.specs.Lexing.{left_of};
-ghost use Rattle.vg_catalog.specs.Written.{AllWritten};
 
 use crate::catalog::Catalog;
 use crate::comments::is_in_comment;
@@ -49,7 +48,7 @@ fn judge(alloc: Global, header: Header, operation: Operation) -> Result<Checked,
     Ok(checked)
 }
 
-/// An entry that begins at this place, behind those of the catalogue.
+/// An entry that begins at this place, after those of the catalogue.
 #[tactic(auto, unfolding(crate::specs::Files::entry_at))]
 fn entry(
     alloc: Global,
@@ -60,6 +59,8 @@ fn entry(
     ensures read { Reads entries_in (left_of reader.new) result
         (entry_at place (entries_in catalog) (left_of reader.old)) }
 {
+    operations_that_are_read_are_written();
+    narrow_headers_are_written();
     let header = read_header(alloc, &catalog, reader)?;
     if !catalog.has_room(&header.imm) {
         return Err(CatalogFault::TooMany { place });
@@ -150,10 +151,6 @@ pub fn parse_file(alloc: Global, text: &[u8]) -> Result<Catalog, CatalogFault>
     // A file of entries is read as these entries, unless memory ran out.
     ensures complete { (entries : List Entry) → IsFile text.now entries →
         Gives entries_in result (Ok entries) }
-    // What is read is what a text can say: its registers and numbers are no larger than those of texts.
-    ensures written { IfOk result (λ c. AllWritten (entries_in c)) }
 {
-    operations_that_are_read_are_written();
-    narrow_headers_are_written();
     read(alloc, text)
 }

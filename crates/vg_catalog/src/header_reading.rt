@@ -20,7 +20,7 @@ use vg_pseudo::{Header, ImmRange, Param, is_free};
 use vg_text::byte::is_text;
 use vg_text::lexer::Word;
 
-/// What stands behind the parameters and the immediate.
+/// What stands after the parameters and the immediate.
 #[derive(Clone, Copy)]
 pub(crate) struct Closing {
     pub(crate) lanes: Lanes,
@@ -67,7 +67,7 @@ fn is_param(params: &[Param], name: &[u8]) -> bool
     params.iter().any(|param| is_text(param.name.bytes(), name))
 }
 
-/// Whether an operand may have this name behind these parameters.
+/// Whether an operand may have this name after these parameters.
 fn is_operand_name(params: &[Param], name: &[u8]) -> bool
     ensures { result ≡ is_operand_name params.now name.now }
 {
@@ -87,7 +87,7 @@ fn operand<'a>(params: &[Param], reader: &mut Reader<'a>) -> Result<Word<'a>, Ca
     }
 }
 
-/// A parameter behind PARAM.
+/// A parameter after PARAM.
 #[tactic(auto, unfolding(crate::specs::Headers::param_at))]
 fn param(alloc: Global, before: &[Param], reader: &mut Reader<'_>) -> Result<Param, CatalogFault>
     ensures read { Reads (λ p. p) (left_of reader.new) result
@@ -103,7 +103,7 @@ fn param(alloc: Global, before: &[Param], reader: &mut Reader<'_>) -> Result<Par
     })
 }
 
-/// The parameters behind the first, four at most in all.
+/// The parameters after the first, four at most in all.
 fn more_params(
     alloc: Global,
     first: Param,
@@ -141,7 +141,7 @@ fn params(alloc: Global, reader: &mut Reader<'_>) -> Result<Vec<Param>, CatalogF
     more_params(alloc, first, reader)
 }
 
-/// An immediate behind IMM.
+/// An immediate after IMM.
 #[tactic(auto, unfolding(crate::specs::Headers::range_at))]
 fn range(alloc: Global, params: &[Param], reader: &mut Reader<'_>) -> Result<ImmRange, CatalogFault>
     ensures read { Reads (λ i. i) (left_of reader.new) result
@@ -218,7 +218,7 @@ fn cost(reader: &mut Reader<'_>) -> Result<u32, CatalogFault>
     reader.number(1, 1000)
 }
 
-/// What stands behind the parameters and the immediate, up to OPERATION.
+/// What stands after the parameters and the immediate, up to OPERATION.
 #[tactic(auto, unfolding(crate::specs::Headers::closing_at))]
 fn closing_words(reader: &mut Reader<'_>) -> Result<Closing, CatalogFault>
     ensures read { Reads (λ c. c) (left_of reader.new) result (closing_at (left_of reader.old)) }

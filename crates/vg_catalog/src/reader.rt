@@ -55,7 +55,7 @@ impl<'a> Reader<'a> {
         }
     }
 
-    /// Where the word ends that goes on up to the byte `end`, behind which the reader stands.
+    /// Where the word ends that goes on up to the byte `end`, after which the reader stands.
     fn end_of_word(&mut self, end: usize) -> Result<usize, CatalogFault>
         requires { end ≤ length self.old.text.now }
         ensures read { Gives (λ e. (e, left self.new.lexer)) result

@@ -15,12 +15,12 @@ const CALLS: &str = concat!(
     "DEFINE h(p[255:0]) { RETURN g(p) } DEFINE i(p[127:0]) { RETURN f(p) }\n",
 );
 
-/// Asserts that each line, statements behind the DEFINEs, is refused with this number.
+/// Asserts that each line, statements after the DEFINEs, is refused with this number.
 fn refuse_calls(rt: &impl Abort, alloc: Global, number: u32, texts: &str) -> Result<(), Fail> {
     refuse_framed(rt, alloc, number, CALLS, texts, " END")
 }
 
-/// Asserts that each line, statements behind the DEFINEs, is accepted.
+/// Asserts that each line, statements after the DEFINEs, is accepted.
 fn accept_calls(rt: &impl Abort, alloc: Global, texts: &str) -> Result<(), Fail> {
     accept_framed(rt, alloc, CALLS, texts, " END")
 }

@@ -7,7 +7,7 @@ use std::process::Abort;
 use std::test::Fail;
 use vg_catalog::parse_file;
 
-/// How operands nest: what stands before one and behind it, and how often.
+/// How operands nest: what stands before one and after it, and how often.
 #[derive(Clone, Copy)]
 struct Nest {
     before: &'static str,

@@ -94,7 +94,7 @@ pub fn refuse_framed(
     Ok(())
 }
 
-/// Asserts that a text is a header between a front and an end: the first fault is the `)` behind
+/// Asserts that a text is a header between a front and an end: the first fault is the `)` after
 /// it.
 pub fn read_header(
     rt: &impl Abort,

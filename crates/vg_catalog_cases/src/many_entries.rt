@@ -13,7 +13,7 @@ const INSTANCES: &str = concat!(
     " dst[0] := k[0] END\n",
 );
 
-/// Entries with names of their own, each with the same words behind its name.
+/// Entries with names of their own, each with the same words after its name.
 fn entries(alloc: Global, count: u32, behind: &str) -> Result<Vec<u8>, Fail> {
     let mut text = Vec::new(alloc);
     for number in 0..count {

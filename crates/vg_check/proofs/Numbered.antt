@@ -18,14 +18,14 @@ use Rattle.vg_check.specs.Told.{difference_text}
 use Rattle.vg_check.proofs.Heads.{heads}
 
 -- it does not look at the terms
-without-terms : (entries : List Entry) (ssa : Ssa) (p : Program) → difference entries ssa p ≡ difference entries (record ssa { terms = [] }) p
+without-terms : (entries : List Entry) (ssa : Ssa) (p : Program) → difference entries ssa p ≡ difference entries (record ssa { terms = []; cuts = [] }) p
 unfolding difference
 without-terms entries ssa p = refl
 
 pub numbered-difference : (entries : List Entry) (k : Tree) (ssa : Ssa) (p : Program) → IsNumbering k ssa → difference entries ssa p ≡ difference entries (values_of k) p
 numbered-difference entries k ssa p is =
     without-terms entries ssa p
-    ∙ (λ i. difference entries (record { name = is.name i; params = is.params i; units = is.units i; terms = [] }) p)
+    ∙ (λ i. difference entries (record { name = is.name i; params = is.params i; units = is.units i; terms = []; cuts = [] }) p)
 
 -- what is told of it
 pub told_numbered : (entries : List Entry) (k : Tree) (ssa : Ssa) (p : Program) (found : Option Difference) → IsNumbering k ssa → found ≡ difference entries ssa p

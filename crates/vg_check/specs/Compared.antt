@@ -14,7 +14,7 @@ use Rattle.vg_check.specs.Told.{difference_text}
 -- the numbered values of a kernel, without the terms that packs are found by: no difference looks at them
 abbrev pub values_of : Tree → Ssa
 values_of k =
-    record { name = k.name; params = map param_of k.params; units = units_of k; terms = [] }
+    record { name = k.name; params = map param_of k.params; units = units_of k; terms = []; cuts = [] }
 
 -- the text of the first difference, if there is one, where the program may call these entries
 unfoldable pub told_difference : List Entry → Tree → Program → Option (List ℕ)

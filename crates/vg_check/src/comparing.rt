@@ -3,12 +3,10 @@
 ghost use Rattle.std.specs.Prelude.{◌≡◌, IfOk};
 ghost use Rattle.vg_catalog.specs.Called.{called_by, headers_of};
 ghost use Rattle.vg_catalog.specs.Catalogs.{entries_in};
-ghost use Rattle.vg_catalog.specs.Written.{AllWritten};
 ghost use Rattle.vg_check.specs.Compared.{text_in, told_difference};
 ghost use Rattle.vg_compile.specs.Means.{Means};
 ghost use Rattle.vg_kernel.specs.Tree.{tree_of};
 ghost use Rattle.vg_kernel.specs.WellFormed.{IsWellFormed};
-ghost use Rattle.vg_listing.specs.Listed.{HaveLanes};
 ghost use Rattle.vg_program.specs.Valid.{KeepsRules};
 
 use crate::difference_text::print_difference;
@@ -44,8 +42,6 @@ pub fn compare(
 ) -> Result<Comparison, AllocError>
     requires kernel { IsWellFormed (tree_of kernel.now) }
     requires rules { KeepsRules (headers_of (entries_in catalog.now)) program.now }
-    requires written { AllWritten (entries_in catalog.now) }
-    requires lanes { HaveLanes (entries_in catalog.now) }
     ensures exact { IfOk result (λ c. text_in c
         ≡ told_difference (entries_in catalog.now) (tree_of kernel.now) program.now) }
     ensures means { IfOk result (λ c. c ≡ Comparison.Same

@@ -1,6 +1,7 @@
 -- What the program of a plan is for a kernel.
-use Rattle.std.proofs.Common.{◌≡◌, ◌↔◌, ℕ, ◌<◌, ◌^◌, List, [], ◌∷◌, refl, sym, subst, arith}
+use Rattle.std.proofs.Common.{◌≡◌, ◌∙◌, ◌↔◌, ℕ, ◌<◌, ◌^◌, List, [], ◌∷◌, refl, sym, ap, subst, arith}
 use Rattle.vg_program.specs.declared.program.Program.{Program}
+use Rattle.vg_program.specs.Cost as program
 use Rattle.vg_shapes.specs.declared.match_table.Match.{Match}
 use Rattle.vg_shapes.specs.declared.order.Node.{Node}
 use Rattle.vg_shapes.specs.declared.pack.Pack.{Pack as Packed}
@@ -24,9 +25,9 @@ use Rattle.vg_plan_laws.proofs.Programs.{programs-call, programs-cost, programs-
 use Rattle.vg_plan_relations.specs.Plans.{IsPlanByNodes}
 use Rattle.vg_plan_relations.proofs.Planning.{plans-by-nodes}
 use Rattle.vg_compile.specs.Chosen.{IsChosenPlan, IsCrowded}
-use Rattle.vg_compile.specs.Emitted.{IsEmitted, IsProgramFor}
+use Rattle.vg_compile.specs.Emitted.{IsEmitted, IsProgramFor, IsProgramOf}
 use Rattle.vg_compile.specs.Planned.{IsPlanned}
-use Rattle.vg_compile.proofs.Sizes.{empty-cost}
+use Rattle.vg_compile.proofs.EmptyPlan.{empty-cost}
 
 -- what is chosen of the plans of a kernel, by a list of all dependences
 pub record IsPicked (ds : List Description) (matches : List Match) (ssa : Ssa) (width : ℕ) (packs : List Packed) : Type 0 where
@@ -116,6 +117,15 @@ pub emitted-is : (ds : List Description) (matches : List Match) (ssa : Ssa) (wid
     → IsProgramFor ds ssa width p
 emitted-is ds matches ssa width packs p known chosen (order, is, e) =
     subst (IsProgramFor ds ssa width) (sym e) (is-program ds matches ssa width packs order known chosen is)
+
+-- what it costs
+pub emitted-costs : (ds : List Description) (matches : List Match) (ssa : Ssa) (width : ℕ) (packs : List Packed) (p : Program)
+    → AreKnown ds matches ssa → IsChosenPlan ds matches ssa width packs → IsEmitted ds matches ssa packs p
+    → IsProgramOf ds (record { ssa = ssa; matches = matches; packs = packs }) p
+emitted-costs ds matches ssa width packs p known chosen (order, is, e) = record {
+  emitted = (order, is, e);
+  cost = ap program.cost_of e ∙ programs-cost ds matches ssa (dependences ssa) packs order known ((by-nodes ds matches ssa known packs).1 chosen.plan) is;
+}
 
 -- what is told of the plan
 pub planned-is : (ds : List Description) (matches : List Match) (ssa : Ssa) (width : ℕ) (packs : List Packed) (cost plain : ℕ)

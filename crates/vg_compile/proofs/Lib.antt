@@ -1,7 +1,8 @@
 pub mod Carried
 pub mod Choices
+pub mod EmptyPlan
 pub mod Joined
-pub mod Near
+pub mod More
+pub mod MorePrograms
 pub mod Ordered
-pub mod Sizes
 pub mod Whole

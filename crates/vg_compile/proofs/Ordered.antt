@@ -24,9 +24,9 @@ use Rattle.vg_gather.specs.Recipes.{planned_program}
 use Rattle.vg_plan_laws.specs.Laws.{AreKnown}
 use Rattle.vg_plan_laws.proofs.Planned.{packs-are-right}
 use Rattle.vg_plan_orders.proofs.Cycles.{plans-have-no-cycle}
+use Rattle.vg_emit_laws.proofs.Near.{packs-are-short}
 use Rattle.vg_compile.specs.Emitted.{IsEmitted}
 use Rattle.vg_compile.proofs.Choices.{plain_is_plan}
-use Rattle.vg_compile.proofs.Near.{plan-short}
 
 pub names_units : (ssa : Ssa) (deps : List (ℕ × ℕ)) → deps ≡ dependences ssa → NameUnits ssa deps
 names_units ssa deps e = subst (NameUnits ssa) (sym e) (dependences-name_units ssa).0
@@ -59,11 +59,11 @@ pub known : (ds : List Description) (matches : List Match) (ssa : Ssa) → IsSou
 known ds matches ssa sound callable matched = record { sound = sound; described = callable; matched = matched }
 
 pub short_packs : (ds : List Description) (matches : List Match) (ssa : Ssa) (deps : List (ℕ × ℕ)) → AreKnown ds matches ssa → HaveShortPacks ds matches ssa deps
-short_packs ds matches ssa deps k plan is = plan-short ds matches ssa deps plan k is
+short_packs ds matches ssa deps k plan is = packs-are-short ds matches ssa deps plan k is
 
 pub plain_short : (ds : List Description) (matches : List Match) (ssa : Ssa) (deps : List (ℕ × ℕ)) (plan : List Packed) → AreKnown ds matches ssa
     → plan ≡ plain_of ds matches ssa deps → AllByRecursion IsShort plan
-plain_short ds matches ssa deps plan k e = plan-short ds matches ssa deps plan k (plain_is_plan ds matches ssa deps plan e)
+plain_short ds matches ssa deps plan k e = packs-are-short ds matches ssa deps plan k (plain_is_plan ds matches ssa deps plan e)
 
 -- what the plain plan costs, by the list of all dependences
 pub plain-cost : (ds : List Description) (matches : List Match) (ssa : Ssa) (deps : List (ℕ × ℕ)) (plan : List Packed) (cost : ℕ)

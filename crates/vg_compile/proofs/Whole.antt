@@ -1,15 +1,13 @@
 -- What the program of a kernel's numbered values is for the kernel.
-use Rattle.std.proofs.Common.{◌≡◌, ℕ, List, [], ◌∷◌, length, map, ap, ◌∙◌, subst, arith}
+use Rattle.std.proofs.Common.{◌≡◌, ℕ, Bool, false, List, [], ◌∷◌, length, map, ap, ◌∙◌, subst, arith}
 use Rattle.std.specs.List.{AllByRecursion}
 use Rattle.vg_catalog.specs.Called.{called_by, headers_of}
 use Rattle.vg_catalog.specs.Entries.{Entry}
 use Rattle.vg_kernel.specs.Cost.{scalar_cost}
 use Rattle.vg_kernel.specs.Tree.{Tree}
-use Rattle.vg_program.specs.declared.param.Param.{Param}
 use Rattle.vg_program.specs.declared.program.Program.{Program}
 use Rattle.vg_program.specs.Sizes.{TakeFew}
 use Rattle.vg_program.proofs.TextSizes.{short_fits}
-use Rattle.vg_plan_text.specs.declared.costs.Costs.{Costs}
 use Rattle.vg_plan_text.specs.PlanText.{plan_text}
 use Rattle.vg_shapes.specs.declared.match_table.Match.{Match}
 use Rattle.vg_shapes.specs.declared.pack.Pack.{Pack as Packed}
@@ -23,14 +21,17 @@ use Rattle.vg_emission.specs.Fit.{CallsDescribed, HasHeader}
 use Rattle.vg_emission.specs.Truth.{IsCallable}
 use Rattle.vg_plan_laws.specs.Laws.{AreTrue}
 use Rattle.vg_plan_laws.proofs.Chosen.{kernels-are-small}
+use Rattle.vg_emit_laws.specs.Laws.{CostSome}
+use Rattle.vg_emit_laws.proofs.Lines.{program-lines}
 use Rattle.vg_instances.specs.Descriptions.{AreOf, descriptions}
 use Rattle.vg_instances.specs.Proper.{AreProper, IsProper}
+use Rattle.vg_compile.specs.Chosen.{KernelPlan, AreWhole, IsChosenFor}
 use Rattle.vg_compile.specs.Compiled.{IsCompiled}
-use Rattle.vg_compile.specs.Emitted.{IsChosenProgram, IsProgramFor}
+use Rattle.vg_compile.specs.Emitted.{IsProgramFor, IsProgramOf}
 use Rattle.vg_compile.specs.Means.{param_of}
-use Rattle.vg_compile.specs.Planned.{IsExplained, IsPlanOf, IsPlanned}
+use Rattle.vg_compile.specs.Planned.{IsExplained, IsPlanOf, IsPlanned, IsPlannedFor, costs_told}
 use Rattle.vg_compile.proofs.Joined.{units-mean-kernels}
-use Rattle.vg_compile.proofs.Sizes.{CostSome, program-lines}
+use Rattle.vg_compile.proofs.More.{whole-is}
 
 -- ---- descriptions
 
@@ -58,10 +59,10 @@ cost-some (e ∷ es) all = (all.0.cost, cost-some es all.1)
 
 -- ---- the whole
 
-pub compiled : (entries : List Entry) (set : ℕ) (k : Tree) (width : ℕ) (ssa : Ssa) (ds : List Description) (p : Program)
+pub compiled : (entries : List Entry) (set : ℕ) (k : Tree) (width : ℕ) (more : Bool) (ssa : Ssa) (ds : List Description) (p : Program) (plan : KernelPlan)
     → IsNumbering k ssa → StandsFor k ssa → IsSound ssa → ds ≡ descriptions set entries → AreOf entries ds → AreProper entries
-    → IsProgramFor ds ssa width p → IsCompiled entries set k width p
-compiled entries set k width ssa ds p is stands sound same are proper program =
+    → IsProgramFor ds ssa width p → IsChosenFor more ds k width plan → IsProgramOf ds plan p → IsCompiled entries set k width more p
+compiled entries set k width more ssa ds p plan is stands sound same are proper program chosen of_plan =
     let headers = headers_of entries in
     let rules = program.rules headers (all-headers entries ds are) in
     let lines = program-lines headers p (cost-some entries proper.headers) rules in
@@ -73,39 +74,51 @@ compiled entries set k width ssa ds p is stands sound same are proper program =
       calls = subst (λ xs. CallsDescribed xs p.lines) same (program.calls headers (all-headers entries ds are));
       scalar = program.scalar ∙ units;
       cost = omega (arith, program.cost, units);
-      chosen = (ssa, is, subst (λ xs. IsChosenProgram xs ssa width p) same program.chosen);
+      plan = plan;
+      chosen = subst (λ xs. IsChosenFor more xs k width plan) same chosen;
+      program = subst (λ xs. IsProgramOf xs plan p) same of_plan;
     }
 
--- the same by the descriptions of a catalogue's entries
-pub compiled-by : (entries all : List Entry) (set : ℕ) (k : Tree) (width : ℕ) (ssa : Ssa) (ds xs : List Description) (p : Program)
-    → entries ≡ all → xs ≡ ds → IsNumbering k ssa → StandsFor k ssa → IsSound ssa → ds ≡ descriptions set entries → AreOf entries ds
-    → AreProper all → IsProgramFor xs ssa width p → IsCompiled all set k width p
-compiled-by entries all set k width ssa ds xs p same slice is stands sound listed are proper program =
-    compiled all set k width ssa ds p is stands sound (listed ∙ ap (descriptions set) same) (subst (λ es. AreOf es ds) same are) proper
-    (subst (λ d. IsProgramFor d ssa width p) slice program)
+-- the same by the descriptions that the code has
+pub compiled-by : (entries : List Entry) (set : ℕ) (k : Tree) (width : ℕ) (more : Bool) (ssa : Ssa) (ds xs : List Description) (p : Program) (plan : KernelPlan)
+    → xs ≡ ds → IsNumbering k ssa → StandsFor k ssa → IsSound ssa → ds ≡ descriptions set entries → AreOf entries ds
+    → AreProper entries → IsProgramFor xs ssa width p → IsChosenFor more xs k width plan → IsProgramOf xs plan p → IsCompiled entries set k width more p
+compiled-by entries set k width more ssa ds xs p plan slice is stands sound listed are proper program chosen of_plan =
+    compiled entries set k width more ssa ds p plan is stands sound listed are proper
+    (subst (λ d. IsProgramFor d ssa width p) slice program) (subst (λ d. IsChosenFor more d k width plan) slice chosen) (subst (λ d. IsProgramOf d plan p) slice of_plan)
+
+-- without more plans
+pub compiled-whole : (entries : List Entry) (set : ℕ) (k : Tree) (width : ℕ) (ssa : Ssa) (ds xs : List Description) (p : Program)
+    → xs ≡ ds → AreWhole k ssa → StandsFor k ssa → IsSound ssa → ds ≡ descriptions set entries → AreOf entries ds
+    → AreProper entries → IsProgramFor xs ssa width p → IsCompiled entries set k width false p
+compiled-whole entries set k width ssa ds xs p slice values stands sound listed are proper program =
+    compiled-by entries set k width false ssa ds xs p (record { ssa = ssa; matches = program.chosen.matches; packs = program.chosen.packs })
+    slice values.0 stands sound listed are proper program
+    (record { values = values; chosen = program.chosen.chosen }) (record { emitted = program.chosen.emitted; cost = program.chosen.cost })
 
 -- ---- what is told of the plan
 
--- by the descriptions of a catalogue's entries
-pub planned-by : (entries all : List Entry) (set : ℕ) (k : Tree) (width : ℕ) (ssa : Ssa) (ds xs : List Description) (matches : List Match) (packs : List Packed) (cost plain : ℕ)
-    → entries ≡ all → xs ≡ ds → IsNumbering k ssa → ds ≡ descriptions set entries → IsPlanned xs matches ssa width packs cost plain
-    → IsPlanOf all set k width packs cost plain
-planned-by entries all set k width ssa ds xs matches packs cost plain same slice is listed planned =
-    (ssa, matches, is, subst (λ d. IsPlanned d matches ssa width packs cost plain) (slice ∙ listed ∙ ap (descriptions set) same) planned)
+-- by the descriptions that the code has
+pub planned-by : (entries : List Entry) (set : ℕ) (k : Tree) (width : ℕ) (ssa : Ssa) (ds xs : List Description) (matches : List Match) (packs : List Packed) (cost plain : ℕ)
+    → xs ≡ ds → IsNumbering k ssa → ssa.cuts ≡ [] → ds ≡ descriptions set entries → IsPlanned xs matches ssa width packs cost plain
+    → IsPlanOf entries set k width packs cost plain
+planned-by entries set k width ssa ds xs matches packs cost plain slice is uncut listed planned = (
+  ssa,
+  matches,
+  whole-is (descriptions set entries) k width ssa matches packs cost plain (is, uncut)
+      (subst (λ d. IsPlanned d matches ssa width packs cost plain) (slice ∙ listed) planned),
+)
 
-pub explained-by : (entries all : List Entry) (set : ℕ) (k : Tree) (width : ℕ) (ssa : Ssa) (ds xs : List Description) (matches : List Match) (packs : List Packed) (costs : Costs) (params : List Param) (text : List ℕ)
-    → entries ≡ all → xs ≡ ds → IsNumbering k ssa → ds ≡ descriptions set entries → IsPlanned xs matches ssa width packs costs.plan costs.plain
-    → costs.scalar ≡ scalar_cost k → params ≡ map param_of k.params → text ≡ plan_text params xs ssa packs costs
-    → IsExplained all set k width text
-explained-by entries all set k width ssa ds xs matches packs costs params text same slice is listed planned scalar named e =
-    let about : xs ≡ descriptions set all = slice ∙ listed ∙ ap (descriptions set) same in
+pub explained-by : (entries : List Entry) (set : ℕ) (k : Tree) (width : ℕ) (more : Bool) (ds xs : List Description) (plan : KernelPlan) (cost plain : ℕ) (text : List ℕ)
+    → xs ≡ ds → ds ≡ descriptions set entries → IsPlannedFor more xs k width plan cost plain
+    → text ≡ plan_text (map param_of k.params) xs plan.ssa plan.packs (costs_told k cost plain)
+    → IsExplained entries set k width more text
+explained-by entries set k width more ds xs plan cost plain text slice listed planned e =
+    let about : xs ≡ descriptions set entries = slice ∙ listed in
     record {
-      ssa = ssa;
-      matches = matches;
-      numbering = is;
-      packs = packs;
-      costs = costs;
-      planned = subst (λ d. IsPlanned d matches ssa width packs costs.plan costs.plain) about planned;
-      scalar = scalar;
-      lines = e ∙ ap (λ ps. plan_text ps xs ssa packs costs) named ∙ ap (λ d. plan_text (map param_of k.params) d ssa packs costs) about;
+      plan = plan;
+      cost = cost;
+      plain = plain;
+      planned = subst (λ d. IsPlannedFor more d k width plan cost plain) about planned;
+      lines = e ∙ ap (λ d. plan_text (map param_of k.params) d plan.ssa plan.packs (costs_told k cost plain)) about;
     }

@@ -1,5 +1,9 @@
--- The chosen plan of the numbered values of a kernel, and when its cost is optimal.
-use Rattle.std.specs.Prelude.{◌≡◌, ◌≤◌, ◌<◌, ℕ, List, length}
+-- The chosen plan of the numbered values of a kernel, when its cost is optimal, and the plans that are
+-- chosen of a kernel.
+use Rattle.std.specs.Prelude.{◌≡◌, ◌≤◌, ◌<◌, ℕ, Bool, true, false, List, [], length, nat_le, if◌then◌else◌}
+use Rattle.vg_kernel.specs.Tree.{Tree}
+use Rattle.vg_ssa.specs.Cuts.{HasCuts}
+use Rattle.vg_ssa.specs.Numbering.{IsNumbering}
 use Rattle.vg_shapes.specs.declared.match_table.Match.{Match}
 use Rattle.vg_shapes.specs.declared.pack.Pack.{Pack as Packed}
 use Rattle.vg_shapes.specs.declared.ssa.Ssa.{Ssa}
@@ -54,3 +58,56 @@ pub record IsChosenPlan
   pub below_plain : cost_of ds matches ssa packs ≤ cost_of ds matches ssa (plain_of_units ds matches ssa)
   pub below_scalar : cost_of ds matches ssa packs ≤ length ssa.units
   pub optimal : IsOptimalCost ds matches ssa width (cost_of ds matches ssa packs)
+
+-- ---- of a kernel
+
+-- a plan of a kernel: the values that are numbered, the matches over which it is a plan, and its packs
+pub record KernelPlan : Type 0 where
+  pub ssa : Ssa
+  pub matches : List Match
+  pub packs : List Packed
+
+-- what it costs
+abbrev pub price_of : List Description → KernelPlan → ℕ
+price_of ds plan = cost_of ds plan.matches plan.ssa plan.packs
+
+-- the values of a kernel, which lanes fit whole alone
+abbrev pub AreWhole : Tree → Ssa → Type 0
+AreWhole k ssa = IsNumbering k ssa × (ssa.cuts ≡ [])
+
+-- the values of a kernel with their cut terms, which lanes fit whole, cut or turned
+abbrev pub AreWide : Tree → Ssa → Type 0
+AreWide k ssa = IsNumbering k ssa × HasCuts k ssa
+
+-- The chosen plan over the values of a kernel as they are numbered, where the search keeps so many plans
+-- of each size.
+pub record IsChosenOver
+    (numbered : Tree → Ssa → Type 0) (ds : List Description) (k : Tree) (width : ℕ) (plan : KernelPlan)
+    : Type 0 where
+  pub values : numbered k plan.ssa
+  pub chosen : IsChosenPlan ds plan.matches plan.ssa width plan.packs
+
+-- the chosen plan of a kernel
+abbrev pub IsChosenWhole : List Description → Tree → ℕ → KernelPlan → Type 0
+IsChosenWhole ds k width plan = IsChosenOver AreWhole ds k width plan
+
+-- the chosen wide plan
+abbrev pub IsChosenWide : List Description → Tree → ℕ → KernelPlan → Type 0
+IsChosenWide ds k width plan = IsChosenOver AreWide ds k width plan
+
+-- of two plans the first where it costs no more, else the second
+abbrev pub cheaper : List Description → KernelPlan → KernelPlan → KernelPlan
+cheaper ds first second = if nat_le (price_of ds first) (price_of ds second) then first else second
+
+-- The chosen plan where it costs no more than the chosen wide plan, else that.
+pub record IsChosenMore (ds : List Description) (k : Tree) (width : ℕ) (plan : KernelPlan) : Type 0 where
+  pub whole : KernelPlan
+  pub wide : KernelPlan
+  pub whole_chosen : IsChosenWhole ds k width whole
+  pub wide_chosen : IsChosenWide ds k width wide
+  pub is : plan ≡ cheaper ds whole wide
+
+-- the plan that is chosen of a kernel, with more plans or without
+abbrev pub IsChosenFor : Bool → List Description → Tree → ℕ → KernelPlan → Type 0
+IsChosenFor false ds k width plan = IsChosenWhole ds k width plan
+IsChosenFor true ds k width plan = IsChosenMore ds k width plan

@@ -18,13 +18,18 @@ use Rattle.vg_emission.specs.Program.{param_of}
 use Rattle.vg_gather.specs.Recipes.{planned_program}
 use Rattle.vg_plan_laws.specs.Laws.{AreTrue}
 use Rattle.vg_compile.specs.Chosen as plans
-use Rattle.vg_compile.specs.Chosen.{IsChosenPlan}
+use Rattle.vg_compile.specs.Chosen.{IsChosenPlan, KernelPlan, price_of}
 
 -- the program of a plan in one of its legal orders
 abbrev pub IsEmitted : List Description → List Match → Ssa → List Packed → Program → Type 0
 IsEmitted ds matches ssa packs p =
     (order : List Node) × IsOrder ssa matches packs order
     × (p ≡ planned_program ds matches ssa packs order)
+
+-- the program of a plan of a kernel, in one of its legal orders, and what it costs
+pub record IsProgramOf (ds : List Description) (plan : KernelPlan) (p : Program) : Type 0 where
+  pub emitted : IsEmitted ds plan.matches plan.ssa plan.packs p
+  pub cost : cost_of p ≡ price_of ds plan
 
 -- The program of the chosen plan, which is the one that is told of a kernel, in one of its legal orders; and
 -- what it costs.

@@ -1,13 +1,19 @@
 -- What programs of kernels promise.
-use Rattle.std.specs.Prelude.{◌≡◌, map}
+use Rattle.std.specs.Prelude.{◌≡◌, ◌≤◌, ℕ, true, List, map}
+use Rattle.vg_catalog.specs.Entries.{Entry}
+use Rattle.vg_instances.specs.Descriptions.{descriptions}
 use Rattle.vg_kernel.specs.Tree.{Tree}
 use Rattle.vg_program.specs.declared.program.Program.{Program}
+use Rattle.vg_program.specs.Cost.{cost_of}
 use Rattle.vg_program.specs.Meaning.{Instructions}
 use Rattle.vg_shapes.specs.declared.ssa.Ssa.{Ssa}
 use Rattle.vg_ssa.specs.Numbering.{IsNumbering}
 use Rattle.vg_ssa.specs.StandsFor.{StandsFor}
 use Rattle.vg_emission.specs.Laws.{MeansUnits}
 use Rattle.vg_emission.specs.Program.{param_of}
+use Rattle.vg_compile.specs.Chosen.{KernelPlan, price_of, plain_of_units, IsChosenWhole, IsChosenWide, IsOptimalCost}
+use Rattle.vg_compile.specs.Chosen as plans
+use Rattle.vg_compile.specs.Compiled.{IsCompiled}
 use Rattle.vg_compile.specs.Means.{Means}
 
 -- a program that means the units of the numbered values of a kernel, and has their name and parameters,
@@ -18,3 +24,28 @@ UnitsMeanKernels =
     IsNumbering k ssa → StandsFor k ssa →
     p.name ≡ ssa.name → p.params ≡ map param_of ssa.params → MeansUnits called p ssa →
     Means called p k
+
+-- What a program of more plans costs, beside a chosen plan and a chosen wide plan of its kernel: at most
+-- what either costs, and what the plain plan costs. In a kernel of at most 256 units no plan and no wide
+-- plan costs less where no lesser size is crowded.
+pub record CostsNoMore
+    (entries : List Entry) (set : ℕ) (k : Tree) (width : ℕ) (p : Program)
+    : Type 0 where
+  pub whole : KernelPlan
+  pub wide : KernelPlan
+  pub whole_chosen : IsChosenWhole (descriptions set entries) k width whole
+  pub wide_chosen : IsChosenWide (descriptions set entries) k width wide
+  pub below_whole : cost_of p ≤ price_of (descriptions set entries) whole
+  pub below_wide : cost_of p ≤ price_of (descriptions set entries) wide
+  pub below_plain :
+      cost_of p
+      ≤ plans.cost_of (descriptions set entries) whole.matches whole.ssa
+      (plain_of_units (descriptions set entries) whole.matches whole.ssa)
+  pub optimal : IsOptimalCost (descriptions set entries) whole.matches whole.ssa width (cost_of p)
+  pub optimal_wide : IsOptimalCost (descriptions set entries) wide.matches wide.ssa width (cost_of p)
+
+-- more plans cost no more
+abbrev pub MorePlansCostNoMore : Type 0
+MorePlansCostNoMore =
+    (entries : List Entry) (set : ℕ) (k : Tree) (width : ℕ) (p : Program) →
+    IsCompiled entries set k width true p → CostsNoMore entries set k width p

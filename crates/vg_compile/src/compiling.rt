@@ -1,15 +1,14 @@
 //! The program of a kernel.
 
-ghost use Rattle.std.specs.Prelude.{IfOk};
+ghost use Rattle.std.specs.Prelude.{true, false, IfOk};
 ghost use Rattle.vg_catalog.specs.Catalogs.{entries_in};
 ghost use Rattle.vg_catalog.specs.Extensions.{bits_in};
-ghost use Rattle.vg_catalog.specs.Written.{AllWritten};
 ghost use Rattle.vg_compile.specs.Compiled.{IsCompiled};
-ghost use Rattle.vg_instances.specs.Proper.{AreProper};
 ghost use Rattle.vg_kernel.specs.Tree.{tree_of};
 ghost use Rattle.vg_kernel.specs.WellFormed.{IsWellFormed};
-ghost use Rattle.vg_listing.specs.Listed.{HaveLanes};
 
+use crate::emitting::emit_plan;
+use crate::more_plans::plan_more;
 use crate::units::compile_units;
 use std::alloc::{AllocError, Global};
 use vg_catalog::{Catalog, Extensions};
@@ -35,13 +34,61 @@ pub fn compile(
     width: u32,
 ) -> Result<Program, AllocError>
     requires kernel { IsWellFormed (tree_of kernel.now) }
-    requires written { AllWritten (entries_in catalog.now) }
-    requires lanes { HaveLanes (entries_in catalog.now) }
-    requires proper { AreProper (entries_in catalog.now) }
     ensures { IfOk result
-        (IsCompiled (entries_in catalog.now) (bits_in allowed) (tree_of kernel.now) width) }
+        (IsCompiled (entries_in catalog.now) (bits_in allowed) (tree_of kernel.now) width false) }
 {
     let ssa = number_values(alloc, kernel)?;
-    let descriptions = descriptions_of(alloc, catalog.entries(), allowed)?;
+    let descriptions = descriptions_of(alloc, catalog, allowed)?;
     compile_units(alloc, descriptions.as_slice(), &ssa, width)
+}
+
+/// The same with more plans: the program of the plan that `compile` chooses, or of the wide plan that it would
+/// choose if lanes fitted cut terms too, whichever costs less. Each of the two searches keeps `width` plans of
+/// each size. So the program costs at most what `compile` gives for the same.
+///
+/// Fails for want of memory, also at the bounds of `compile`.
+pub fn compile_more(
+    alloc: Global,
+    catalog: &Catalog,
+    allowed: Extensions,
+    kernel: &Kernel,
+    width: u32,
+) -> Result<Program, AllocError>
+    requires kernel { IsWellFormed (tree_of kernel.now) }
+    ensures { IfOk result
+        (IsCompiled (entries_in catalog.now) (bits_in allowed) (tree_of kernel.now) width true) }
+{
+    let descriptions = descriptions_of(alloc, catalog, allowed)?;
+    let described = descriptions.as_slice();
+    let planned = plan_more(alloc, described, kernel, width)?;
+    let values = &planned.values;
+    let chosen = &values.planned.chosen;
+    emit_plan(
+        alloc,
+        described,
+        &chosen.plan,
+        &chosen.table,
+        &values.ssa,
+        &chosen.deps,
+    )
+}
+
+/// What `compile_more` gives where more plans are asked for, else what `compile` gives.
+pub fn compile_by(
+    alloc: Global,
+    catalog: &Catalog,
+    allowed: Extensions,
+    kernel: &Kernel,
+    width: u32,
+    more: bool,
+) -> Result<Program, AllocError>
+    requires kernel { IsWellFormed (tree_of kernel.now) }
+    ensures { IfOk result
+        (IsCompiled (entries_in catalog.now) (bits_in allowed) (tree_of kernel.now) width more) }
+{
+    if more {
+        compile_more(alloc, catalog, allowed, kernel, width)
+    } else {
+        compile(alloc, catalog, allowed, kernel, width)
+    }
 }

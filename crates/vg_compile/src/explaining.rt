@@ -1,23 +1,55 @@
 //! What is told of the plan of a kernel.
 
-ghost use Rattle.std.specs.Prelude.{IfOk};
+ghost use Rattle.std.specs.Prelude.{◌≡◌, true, false, IfOk, map};
 ghost use Rattle.vg_catalog.specs.Catalogs.{entries_in};
 ghost use Rattle.vg_catalog.specs.Extensions.{bits_in};
-ghost use Rattle.vg_catalog.specs.Written.{AllWritten};
-ghost use Rattle.vg_compile.specs.Planned.{IsExplained};
-ghost use Rattle.vg_instances.specs.Proper.{AreProper};
+ghost use Rattle.vg_compile.specs.Means.{param_of};
+ghost use Rattle.vg_compile.specs.Planned.{IsExplained, costs_told};
 ghost use Rattle.vg_kernel.specs.Tree.{tree_of};
 ghost use Rattle.vg_kernel.specs.WellFormed.{IsWellFormed};
-ghost use Rattle.vg_listing.specs.Listed.{HaveLanes};
+ghost use Rattle.vg_plan_text.specs.PlanText.{plan_text};
+ghost use Rattle.vg_shapes.specs.Description.{description_of};
 
+use crate::more_plans::plan_more;
 use crate::params::params_of;
-use crate::planning::plan_units;
+use crate::planning::{Planned, plan_units};
 use std::alloc::{AllocError, Global};
 use vg_catalog::{Catalog, Extensions};
 use vg_instances::descriptions_of;
 use vg_kernel::{Kernel, scalar_cost};
 use vg_plan_text::{Costs, print_plan};
+use vg_shapes::{Description, Ssa};
 use vg_ssa::number_values;
+
+/// The lines on the plan of a kernel, where the plain plan costs so much.
+fn lines_on(
+    alloc: Global,
+    kernel: &Kernel,
+    descriptions: &[Description],
+    ssa: &Ssa,
+    planned: &Planned,
+    plain: u64,
+) -> Result<Vec<u8>, AllocError>
+    requires { IsWellFormed (tree_of kernel.now) }
+    ensures { IfOk result (λ text. text.items ≡ plan_text (map param_of (tree_of kernel.now).params)
+        (map description_of descriptions.now) ssa.now planned.now.chosen.plan
+        (costs_told (tree_of kernel.now) planned.now.cost plain)) }
+{
+    let params = params_of(alloc, kernel.params.as_slice())?;
+    let costs = Costs {
+        plan: planned.cost,
+        plain,
+        scalar: u64::from(scalar_cost(kernel)),
+    };
+    print_plan(
+        alloc,
+        params.as_slice(),
+        descriptions,
+        ssa,
+        &planned.chosen.plan,
+        costs,
+    )
+}
 
 /// The lines on the chosen plan of a kernel, where the search keeps `width` plans of each size, as for
 /// `compile`: a line for each pack, in the order of the plan, and one on what the plan, the plain plan and the
@@ -31,28 +63,59 @@ pub fn explain(
     width: u32,
 ) -> Result<Vec<u8>, AllocError>
     requires kernel { IsWellFormed (tree_of kernel.now) }
-    requires written { AllWritten (entries_in catalog.now) }
-    requires lanes { HaveLanes (entries_in catalog.now) }
-    requires proper { AreProper (entries_in catalog.now) }
     ensures { IfOk result (λ text. IsExplained (entries_in catalog.now) (bits_in allowed)
-        (tree_of kernel.now) width text.items) }
+        (tree_of kernel.now) width false text.items) }
 {
     let ssa = number_values(alloc, kernel)?;
-    let descriptions = descriptions_of(alloc, catalog.entries(), allowed)?;
-    let descriptions = descriptions.as_slice();
-    let planned = plan_units(alloc, descriptions, &ssa, width)?;
-    let params = params_of(alloc, kernel.params.as_slice())?;
-    let costs = Costs {
-        plan: planned.cost,
-        plain: planned.plain,
-        scalar: u64::from(scalar_cost(kernel)),
-    };
-    print_plan(
+    let descriptions = descriptions_of(alloc, catalog, allowed)?;
+    let described = descriptions.as_slice();
+    let planned = plan_units(alloc, described, &ssa, width)?;
+    lines_on(alloc, kernel, described, &ssa, &planned, planned.plain)
+}
+
+/// The lines on the plan of a kernel that `compile_more` emits: the cost of the plain plan is that which
+/// `explain` tells. Fails for want of memory, also at the bounds of `compile`.
+pub fn explain_more(
+    alloc: Global,
+    catalog: &Catalog,
+    allowed: Extensions,
+    kernel: &Kernel,
+    width: u32,
+) -> Result<Vec<u8>, AllocError>
+    requires kernel { IsWellFormed (tree_of kernel.now) }
+    ensures { IfOk result (λ text. IsExplained (entries_in catalog.now) (bits_in allowed)
+        (tree_of kernel.now) width true text.items) }
+{
+    let descriptions = descriptions_of(alloc, catalog, allowed)?;
+    let described = descriptions.as_slice();
+    let more = plan_more(alloc, described, kernel, width)?;
+    let values = &more.values;
+    lines_on(
         alloc,
-        params.as_slice(),
-        descriptions,
-        &ssa,
-        &planned.chosen.plan,
-        costs,
+        kernel,
+        described,
+        &values.ssa,
+        &values.planned,
+        more.plain,
     )
+}
+
+/// What `explain_more` gives where more plans are asked for, else what `explain` gives.
+pub fn explain_by(
+    alloc: Global,
+    catalog: &Catalog,
+    allowed: Extensions,
+    kernel: &Kernel,
+    width: u32,
+    more: bool,
+) -> Result<Vec<u8>, AllocError>
+    requires kernel { IsWellFormed (tree_of kernel.now) }
+    ensures { IfOk result (λ text. IsExplained (entries_in catalog.now) (bits_in allowed)
+        (tree_of kernel.now) width more text.items) }
+{
+    if more {
+        explain_more(alloc, catalog, allowed, kernel, width)
+    } else {
+        explain(alloc, catalog, allowed, kernel, width)
+    }
 }

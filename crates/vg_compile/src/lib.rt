@@ -1,8 +1,9 @@
 //! The compiler over values: from the entries of a catalogue and a kernel to the program that calls them.
 //!
 //! `specs/Compiled.antt` says what is compiled of a kernel, `specs/Means.antt` when a program means it,
-//! `specs/Chosen.antt` which plan is chosen for its numbered values, `specs/Emitted.antt` what is emitted for
-//! it by the descriptions of instances, and `specs/Planned.antt` what is told of it.
+//! `specs/Chosen.antt` which plan is chosen for its numbered values, and which of a kernel with more
+//! plans, `specs/Emitted.antt` what is emitted for it by the descriptions of instances, and
+//! `specs/Planned.antt` what is told of it.
 #![tactic(auto)]
 
 mod choosing;
@@ -10,13 +11,14 @@ mod compiling;
 mod emitting;
 mod explaining;
 mod law;
+mod more_plans;
 mod params;
 mod planning;
 mod units;
 
-pub use compiling::compile;
-pub use explaining::explain;
-pub use law::units_mean_kernels;
+pub use compiling::{compile, compile_by, compile_more};
+pub use explaining::{explain, explain_by, explain_more};
+pub use law::{more_plans_cost_no_more, units_mean_kernels};
 pub use params::params_of;
 pub use planning::{Chosen, plan_of};
 pub use units::compile_units;

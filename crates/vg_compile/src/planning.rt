@@ -4,15 +4,13 @@ ghost use Rattle.std.specs.Prelude.{◌≡◌, IfOk, map};
 ghost use Rattle.std.specs.List.{AllByRecursion};
 ghost use Rattle.vg_catalog.specs.Catalogs.{entries_in};
 ghost use Rattle.vg_catalog.specs.Extensions.{bits_in};
-ghost use Rattle.vg_catalog.specs.Written.{AllWritten};
 ghost use Rattle.vg_compile.specs.Planned.{IsPlanOf, IsPlanned};
 ghost use Rattle.vg_emission.specs.Truth.{IsCallable};
 ghost use Rattle.vg_instances.specs.Descriptions.{AreOf, descriptions};
-ghost use Rattle.vg_instances.specs.Proper.{AreProper};
 ghost use Rattle.vg_kernel.specs.Cost.{scalar_cost};
 ghost use Rattle.vg_kernel.specs.Tree.{tree_of};
 ghost use Rattle.vg_kernel.specs.WellFormed.{IsWellFormed};
-ghost use Rattle.vg_listing.specs.Listed.{HaveLanes};
+ghost use Rattle.vg_shapes.specs.Depends.{dependences};
 ghost use Rattle.vg_shapes.specs.Description.{description_of};
 ghost use Rattle.vg_shapes.specs.Sound.{IsSound};
 
@@ -44,8 +42,9 @@ pub(crate) fn plan_units(
 ) -> Result<Planned, AllocError>
     requires sound { IsSound ssa.now }
     requires callable { AllByRecursion IsCallable (map description_of descriptions.now) }
-    ensures { IfOk result (λ p. IsPlanned (map description_of descriptions.now) p.chosen.table
+    ensures planned { IfOk result (λ p. IsPlanned (map description_of descriptions.now) p.chosen.table
         ssa.now width p.chosen.plan p.cost p.plain) }
+    ensures deps { IfOk result (λ p. p.chosen.deps ≡ dependences ssa.now) }
 {
     let chosen = choose_plan(alloc, descriptions, ssa, width)?;
     let plain = plain_plan(alloc, descriptions, &chosen.table, ssa, &chosen.deps)?;
@@ -88,9 +87,6 @@ pub fn plan_of(
     width: u32,
 ) -> Result<Chosen, AllocError>
     requires kernel { IsWellFormed (tree_of kernel.now) }
-    requires written { AllWritten (entries_in catalog.now) }
-    requires lanes { HaveLanes (entries_in catalog.now) }
-    requires proper { AreProper (entries_in catalog.now) }
     ensures plan { IfOk result (λ c. IsPlanOf (entries_in catalog.now) (bits_in allowed)
         (tree_of kernel.now) width c.plan c.cost c.plain) }
     ensures descriptions { IfOk result (λ c. map description_of c.descriptions.items
@@ -100,12 +96,13 @@ pub fn plan_of(
     ensures scalar { IfOk result (λ c. c.scalar ≡ scalar_cost (tree_of kernel.now)) }
 {
     let ssa = number_values(alloc, kernel)?;
-    let descriptions = descriptions_of(alloc, catalog.entries(), allowed)?;
+    let descriptions = descriptions_of(alloc, catalog, allowed)?;
+    let planned = plan_units(alloc, descriptions.as_slice(), &ssa, width)?;
     let Planned {
         chosen,
         cost,
         plain,
-    } = plan_units(alloc, descriptions.as_slice(), &ssa, width)?;
+    } = planned;
     let ChosenPlan {
         table: _,
         deps: _,

@@ -3,7 +3,6 @@
 ghost use Rattle.std.specs.Prelude.{IfOk};
 ghost use Rattle.vg_catalog.specs.Called.{headers_of};
 ghost use Rattle.vg_catalog.specs.Catalogs.{entries_in};
-ghost use Rattle.vg_catalog.specs.Written.{AllWritten};
 ghost use Rattle.vg_program.specs.Valid.{KeepsRules};
 
 use bitflags::Flags;
@@ -11,11 +10,9 @@ use std::alloc::Global;
 use std::process::Abort;
 use std::test::Fail;
 use vg_catalog::{Catalog, Extensions, parse_file};
-use vg_compile::{compile, explain};
-use vg_instances::files_are_proper;
+use vg_compile::{compile_by, explain_by};
 use vg_kernel::{Kernel, parse_kernel};
 use vg_keval::{KState, run_kernel};
-use vg_listing::files_have_lanes;
 use vg_machine::{Machine, Outcome};
 use vg_program::{Program, print_program};
 
@@ -42,17 +39,28 @@ impl Beside {
         allowed: u16,
         kernel: &[u8],
     ) -> Result<Beside, Fail>
-        ensures written { IfOk result (λ b. AllWritten (entries_in b.catalog)) }
         ensures rules { IfOk result (λ b.
             KeepsRules (headers_of (entries_in b.catalog)) b.program) }
     {
-        files_have_lanes();
-        files_are_proper();
+        Beside::made(alloc, instructions, allowed, kernel, false)
+    }
+
+    /// The same, with more plans or without.
+    fn made(
+        alloc: Global,
+        instructions: &[u8],
+        allowed: u16,
+        kernel: &[u8],
+        more: bool,
+    ) -> Result<Beside, Fail>
+        ensures rules { IfOk result (λ b.
+            KeepsRules (headers_of (entries_in b.catalog)) b.program) }
+    {
         let catalog = parse_file(alloc, instructions)?;
         let kernel = parse_kernel(alloc, kernel)?;
         let set = Extensions::from_bits_retain(allowed);
-        let program = compile(alloc, &catalog, set, &kernel, WIDTH)?;
-        let plan = explain(alloc, &catalog, set, &kernel, WIDTH)?;
+        let program = compile_by(alloc, &catalog, set, &kernel, WIDTH, more)?;
+        let plan = explain_by(alloc, &catalog, set, &kernel, WIDTH, more)?;
         Ok(Beside {
             catalog,
             kernel,
@@ -69,7 +77,6 @@ impl Beside {
         places: &[u64],
         args: &[u64],
     ) -> Result<Option<Vec<u8>>, Fail>
-        requires written { AllWritten (entries_in self.now.catalog) }
         requires rules { KeepsRules (headers_of (entries_in self.now.catalog)) self.now.program }
     {
         let mut machine = Machine::new(alloc, self.catalog.entries(), &self.program)?;
@@ -110,7 +117,6 @@ impl Beside {
         memory: &[u8],
         left: &[u8],
     ) -> Result<bool, Fail>
-        requires written { AllWritten (entries_in self.now.catalog) }
         requires rules { KeepsRules (headers_of (entries_in self.now.catalog)) self.now.program }
     {
         let by_kernel = self.left_by_kernel(alloc, memory, places, &[])?;
@@ -120,7 +126,6 @@ impl Beside {
 
     /// Whether both trap.
     fn traps(&self, alloc: Global, places: &[u64], memory: &[u8]) -> Result<bool, Fail>
-        requires written { AllWritten (entries_in self.now.catalog) }
         requires rules { KeepsRules (headers_of (entries_in self.now.catalog)) self.now.program }
     {
         let by_kernel = self.left_by_kernel(alloc, memory, places, &[])?;
@@ -177,6 +182,39 @@ pub fn expect_left(
     let memory = memory_of(alloc, case.unit, memory)?;
     let left = memory_of(alloc, case.unit, left)?;
     let made = Beside::within(alloc, case.instructions, case.allowed, case.kernel)?;
+    assert!(rt; made.program.cost == case.cost && made.program.scalar == case.scalar);
+    let leaves = made.leaves(alloc, places.as_slice(), memory.as_slice(), left.as_slice())?;
+    assert!(rt; leaves);
+    Ok(())
+}
+
+/// Asserts what a program of more plans costs, and the last line on its plan.
+pub fn expect_more_told(
+    rt: &impl Abort,
+    alloc: Global,
+    case: &Case,
+    line: &[u8],
+) -> Result<(), Fail> {
+    let made = Beside::made(alloc, case.instructions, case.allowed, case.kernel, true)?;
+    assert!(rt; made.program.cost == case.cost && made.program.scalar == case.scalar);
+    assert!(rt; made.plan.as_slice().ends_with(line));
+    Ok(())
+}
+
+/// Asserts what a program of more plans and its kernel cost, and what they leave of a memory, with
+/// pointers at these places.
+pub fn expect_more_left(
+    rt: &impl Abort,
+    alloc: Global,
+    case: &Case,
+    places: &str,
+    memory: &str,
+    left: &str,
+) -> Result<(), Fail> {
+    let places = places_of(alloc, places)?;
+    let memory = memory_of(alloc, case.unit, memory)?;
+    let left = memory_of(alloc, case.unit, left)?;
+    let made = Beside::made(alloc, case.instructions, case.allowed, case.kernel, true)?;
     assert!(rt; made.program.cost == case.cost && made.program.scalar == case.scalar);
     let leaves = made.leaves(alloc, places.as_slice(), memory.as_slice(), left.as_slice())?;
     assert!(rt; leaves);

@@ -97,3 +97,47 @@ ENDFOR
 dst[MAX:128] := 0
 END
 ";
+
+/// Sums, and sums of two products of words.
+pub const ADD_AND_MADD: &[u8] = b"INSTRUCTION _mm_add_epi32 PARAM a 128 SI32 PARAM b 128 SI32
+RESULT dst 128 SI32 EXTENSION SSE2 COST 1 OPERATION
+FOR j := 0 to 3
+ i := j*32
+ dst[i+31:i] := a[i+31:i] + b[i+31:i]
+ENDFOR
+dst[MAX:128] := 0
+END
+INSTRUCTION _mm_madd_epi16 PARAM a 128 SI16 PARAM b 128 SI16
+RESULT dst 128 SI32 EXTENSION SSE2 COST 1 OPERATION
+FOR j := 0 to 3
+ i := j*32
+ dst[i+31:i] := SignExtend32(a[i+31:i+16]*b[i+31:i+16]) + SignExtend32(a[i+15:i]*b[i+15:i])
+ENDFOR
+dst[MAX:128] := 0
+END
+";
+
+/// Comparisons of double words, and words made double words.
+pub const GREATER_AND_WIDEN: &[u8] = b"INSTRUCTION _mm_cmpgt_epi32 PARAM a 128 SI32 PARAM b 128 SI32
+RESULT dst 128 UI32 EXTENSION SSE2 COST 1 OPERATION
+FOR j := 0 to 3
+ i := j*32
+ dst[i+31:i] := (a[i+31:i] > b[i+31:i]) ? 0xFFFFFFFF : 0
+ENDFOR
+END
+INSTRUCTION _mm_cvtepi16_epi32 PARAM a 128 SI16
+RESULT dst 128 SI32 EXTENSION SSE4.1 COST 1 OPERATION
+FOR j := 0 to 3
+ dst.dword[j] := SignExtend32(a.word[j])
+ENDFOR
+END
+";
+
+pub const SUB: &[u8] = b"INSTRUCTION _mm_sub_epi32 PARAM a 128 SI32 PARAM b 128 SI32
+RESULT dst 128 SI32 EXTENSION SSE2 COST 1 OPERATION
+FOR j := 0 to 3
+ i := j*32
+ dst[i+31:i] := a[i+31:i] - b[i+31:i]
+ENDFOR
+END
+";

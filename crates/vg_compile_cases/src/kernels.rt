@@ -98,7 +98,7 @@ pub const WIDE_SUMS: &[u8] = b"kernel sums(d: noalias ptr, p: ptr, q: ptr) {
 }
 ";
 
-/// Four double words, and behind them the same the other way round.
+/// Four double words, and after them the same the other way round.
 pub const REVERSED: &[u8] = b"kernel reversed(d: ptr, e: ptr, p: ptr) {
   a = load32(p + 0);
   b = load32(p + 4);
@@ -135,7 +135,7 @@ pub const DEAD: &[u8] = b"kernel dead(p: ptr) {
 }
 ";
 
-/// Bytes 1 to 4, and over the last two of them and behind bytes 5 to 8.
+/// Bytes 1 to 4, and over the last two of them and after bytes 5 to 8.
 pub const OVERLAPPING: &[u8] = b"kernel over(d: ptr) {
   store32(d + 0, 67305985i32);
   store32(d + 2, 134678021i32);
@@ -189,5 +189,53 @@ pub const TAPS: &[u8] = b"kernel taps(d: noalias ptr, x: ptr) {
   store32(d + 28, load32(x + 28) * 3i32 + load32(x + 32) * 5i32
     + load32(x + 36) * 7i32 + load32(x + 40) * 9i32 + load32(x + 44) * 11i32
     + load32(x + 48) * 13i32 + load32(x + 52) * 15i32 + load32(x + 56) * 17i32);
+}
+";
+
+/// Four sums of four double words.
+pub const SUMS_OF_SUMS: &[u8] = b"kernel sums(d: noalias ptr, p: ptr) {
+  store32(d + 0, (load32(p + 0) + load32(p + 16)) + (load32(p + 32) + load32(p + 48)));
+  store32(d + 4, (load32(p + 4) + load32(p + 20)) + (load32(p + 36) + load32(p + 52)));
+  store32(d + 8, (load32(p + 8) + load32(p + 24)) + (load32(p + 40) + load32(p + 56)));
+  store32(d + 12, (load32(p + 12) + load32(p + 28)) + (load32(p + 44) + load32(p + 60)));
+}
+";
+
+/// Four sums of two double words and of two products of words.
+pub const SUMS_AND_PRODUCTS: &[u8] = b"kernel both(d: noalias ptr, p: ptr, q: ptr) {
+  store32(d + 0, (load32(d + 0) + load32(d + 16))
+    + (sext32(load16(p + 0)) * sext32(load16(q + 0))
+    + sext32(load16(p + 2)) * sext32(load16(q + 2))));
+  store32(d + 4, (load32(d + 4) + load32(d + 20))
+    + (sext32(load16(p + 4)) * sext32(load16(q + 4))
+    + sext32(load16(p + 6)) * sext32(load16(q + 6))));
+  store32(d + 8, (load32(d + 8) + load32(d + 24))
+    + (sext32(load16(p + 8)) * sext32(load16(q + 8))
+    + sext32(load16(p + 10)) * sext32(load16(q + 10))));
+  store32(d + 12, (load32(d + 12) + load32(d + 28))
+    + (sext32(load16(p + 12)) * sext32(load16(q + 12))
+    + sext32(load16(p + 14)) * sext32(load16(q + 14))));
+}
+";
+
+/// Four masks of words that are less than others.
+pub const MASKS: &[u8] = b"kernel masks(d: noalias ptr, p: ptr, q: ptr) {
+  store32(d + 0, select(slt(sext32(load16(p + 0)), sext32(load16(q + 0))),
+    4294967295i32, 0i32));
+  store32(d + 4, select(slt(sext32(load16(p + 2)), sext32(load16(q + 2))),
+    4294967295i32, 0i32));
+  store32(d + 8, select(slt(sext32(load16(p + 4)), sext32(load16(q + 4))),
+    4294967295i32, 0i32));
+  store32(d + 12, select(slt(sext32(load16(p + 6)), sext32(load16(q + 6))),
+    4294967295i32, 0i32));
+}
+";
+
+/// Seven less four double words.
+pub const SEVEN_LESS: &[u8] = b"kernel less(d: noalias ptr, p: ptr) {
+  store32(d + 0, 7i32 - load32(p + 0));
+  store32(d + 4, 7i32 - load32(p + 4));
+  store32(d + 8, 7i32 - load32(p + 8));
+  store32(d + 12, 7i32 - load32(p + 12));
 }
 ";

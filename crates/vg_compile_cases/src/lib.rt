@@ -11,6 +11,8 @@ mod entries;
 #[cfg(test)]
 mod kernels;
 #[cfg(test)]
+mod more_plans;
+#[cfg(test)]
 mod moves;
 #[cfg(test)]
 mod plans;

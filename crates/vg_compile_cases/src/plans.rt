@@ -8,7 +8,7 @@ use crate::kernels::{
 use std::test::Fail;
 
 /// A kernel with entries of all extensions, and what its program costs.
-fn case_of<'a>(instructions: &'a [u8], kernel: &'a [u8], cost: u32, scalar: u32) -> Case<'a> {
+pub fn case_of<'a>(instructions: &'a [u8], kernel: &'a [u8], cost: u32, scalar: u32) -> Case<'a> {
     Case {
         instructions,
         allowed: ALL,

@@ -31,7 +31,7 @@ fn copy_packs(alloc: Global, packs: &[Pack]) -> Result<Vec<Pack>, AllocError>
     Ok(copies)
 }
 
-/// The same packs a second time, with one behind them. Fails only for want of memory.
+/// The same packs a second time, with one after them. Fails only for want of memory.
 pub(crate) fn longer(alloc: Global, packs: &[Pack], pack: &Pack) -> Result<Vec<Pack>, AllocError>
     ensures { IfOk result (λ copies. copies.items ≡ packs.now ++ pack.now ∷ []) }
 {

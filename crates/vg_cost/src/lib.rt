@@ -8,7 +8,7 @@
 //! packs take (`specs/Taken.antt`), and which descriptions are shuffles (`specs/Shuffling.antt`). By
 //! marks of the units of packs most operands need not be looked at again (`specs/Touch.antt`), and by
 //! the places where packs have values (`specs/Places.antt`) most shuffles need not. What is known of a
-//! plan with a pack behind it stands together (`specs/LongerPlan.antt`); such a pack is priced in room
+//! plan with a pack after it stands together (`specs/LongerPlan.antt`); such a pack is priced in room
 //! that is made once for the plan (`specs/Room.antt`).
 //!
 //! An `AllocError` is want of memory; nothing else is.

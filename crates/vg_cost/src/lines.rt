@@ -116,7 +116,7 @@ pub(crate) fn lines_below(
     Ok(lines)
 }
 
-/// The first number behind those of all units, or want of memory where it has more than 32 bits.
+/// The first number after those of all units, or want of memory where it has more than 32 bits.
 pub(crate) fn end_of_units(ssa: &Ssa) -> Result<u32, AllocError>
     ensures { IfOk result (λ end. end ≡ arguments ssa.now + length ssa.now.units) }
 {

@@ -34,7 +34,7 @@ fn is_inserted(values: usize, shuffles: usize) -> bool
     values > 0 && shuffles == 0
 }
 
-/// What the shuffles that make an operand and can be had cost, by a plan with a pack behind it.
+/// What the shuffles that make an operand and can be had cost, by a plan with a pack after it.
 fn costs_behind(alloc: Global, plan: &LongerPlan, operand: &Operand) -> Result<Vec<u32>, AllocError>
     requires { IsKnown plan.now }
     ensures { IfOk result (λ costs. costs.items ≡ costs_had (described plan.now)
@@ -121,7 +121,7 @@ fn unmet_cost(operand: &Operand) -> Result<RecipeCost, AllocError>
     })
 }
 
-/// What the recipe of an operand costs, by a plan with a pack behind it, of which the units are
+/// What the recipe of an operand costs, by a plan with a pack after it, of which the units are
 /// marked. Descriptions are looked at only if packs may have all of the operand's values and none
 /// holds it.
 pub(crate) fn recipe_cost(

@@ -1,4 +1,4 @@
-//! Room for packs that are tried behind a plan.
+//! Room for packs that are tried after a plan.
 
 ghost use Rattle.std.specs.Prelude.{IfOk};
 ghost use Rattle.vg_cost.specs.Room.{IsRoomFor};
@@ -10,7 +10,7 @@ use std::alloc::{AllocError, Global};
 use std::marker::Model;
 use vg_shapes::{Pack, Ssa};
 
-/// Room in which packs are tried behind a plan, one after the other. Contracts see the marks of the
+/// Room in which packs are tried after a plan, one after the other. Contracts see the marks of the
 /// units of the plan; what a pack that was tried leaves beside them tells nothing.
 #[derive(Drop)]
 pub struct Room {
@@ -32,7 +32,7 @@ impl Model for Room {
 }
 
 impl Room {
-    /// Room for packs behind a plan. Fails for want of memory, and where a unit's number has too many
+    /// Room for packs after a plan. Fails for want of memory, and where a unit's number has too many
     /// bits to be counted.
     pub fn new(alloc: Global, ssa: &Ssa, plan: &[Pack]) -> Result<Room, AllocError>
         ensures { IfOk result (IsRoomFor ssa.now plan.now) }

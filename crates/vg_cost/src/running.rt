@@ -82,7 +82,7 @@ impl Running {
         })
     }
 
-    /// The plan with a pack behind it. Fails for want of memory, and where the cost has too many
+    /// The plan with a pack after it. Fails for want of memory, and where the cost has too many
     /// bits to be counted.
     pub fn with(
         &self,
@@ -131,7 +131,7 @@ impl Running {
         })
     }
 
-    /// What the plan with a pack behind it costs. Fails for want of memory, and where the cost has too
+    /// What the plan with a pack after it costs. Fails for want of memory, and where the cost has too
     /// many bits to be counted. Leaves the room as it was.
     pub fn cost_with(
         &self,
@@ -160,7 +160,7 @@ impl Running {
         Ok(cost)
     }
 
-    /// What the plan with a pack behind it costs, by the marks of the units of the plan.
+    /// What the plan with a pack after it costs, by the marks of the units of the plan.
     fn cost_tried<'a>(
         &'a self,
         alloc: Global,
@@ -204,7 +204,7 @@ impl Running {
         Ok(cost)
     }
 
-    /// The operands of the plan with a pack behind it.
+    /// The operands of the plan with a pack after it.
     fn taken_with(
         &self,
         alloc: Global,
@@ -226,7 +226,7 @@ impl Running {
         Ok(taken)
     }
 
-    /// What the recipes of the operands of the plan with a pack behind it cost. Marks the values that
+    /// What the recipes of the operands of the plan with a pack after it cost. Marks the values that
     /// their inserts take.
     fn recipes_with(
         &self,
@@ -262,7 +262,7 @@ impl Running {
         self.cost
     }
 
-    /// The packs of the plan, as they were put behind it.
+    /// The packs of the plan, as they were put after it.
     pub fn packs(&self) -> &[Pack]
         ensures { result.now ≡ self.now.packs.items }
     {

@@ -27,7 +27,7 @@ pub(crate) struct Taken {
 }
 
 /// What the recipe of an operand of a plan costs in a longer one. It is looked at again only if the
-/// pack behind the plan may have one of the operand's values.
+/// pack after the plan may have one of the operand's values.
 fn kept_recipe(alloc: Global, plan: &LongerPlan, taken: &Taken) -> Result<RecipeCost, AllocError>
     requires plan { IsKnown plan.now }
     requires known { IsKnownBy (described plan.now) plan.now.ssa.now (all_packs plan.now)

@@ -1,4 +1,4 @@
-//! Marks of a pack that is tried behind a plan.
+//! Marks of a pack that is tried after a plan.
 
 ghost use Rattle.std.specs.Prelude.{◌≡◌, false, length, replicate};
 ghost use Rattle.vg_cost.specs.Marks.{Has, Marked};
@@ -7,7 +7,7 @@ ghost use Rattle.vg_shapes.specs.Pack.{units_of};
 use crate::marks::{clear, mark_pack};
 use vg_shapes::Pack;
 
-/// Marks of the pack that is tried behind a plan, for as many numbers each.
+/// Marks of the pack that is tried after a plan, for as many numbers each.
 #[derive(Drop)]
 pub(crate) struct Tried {
     /// Those of the units of the plan and of the pack.
@@ -19,7 +19,7 @@ pub(crate) struct Tried {
 }
 
 impl Tried {
-    /// Marks a pack as the one that is tried behind the plan whose units are marked. No value is
+    /// Marks a pack as the one that is tried after the plan whose units are marked. No value is
     /// needed yet.
     pub(crate) fn enter(&mut self, plan: &[bool], pack: &Pack)
         requires { length self.old.longer.items ≡ length plan.now }

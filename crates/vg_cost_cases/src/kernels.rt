@@ -76,6 +76,7 @@ pub fn kernel(alloc: Global, units: &[Unit], terms: Vec<Term>) -> Result<Ssa, Al
         params: Items::from_vec(params),
         units: Items::from_vec(units.to_vec(alloc)?),
         terms: Items::from_vec(terms),
+        cuts: Items::from_vec(Vec::new(alloc)),
     })
 }
 
@@ -84,7 +85,7 @@ pub fn unmatched(alloc: Global, units: &[Unit]) -> Result<Ssa, AllocError> {
     kernel(alloc, units, Vec::new(alloc))
 }
 
-/// Two loads beside each other, 2 and 4, each stored behind it.
+/// Two loads beside each other, 2 and 4, each stored after it.
 pub fn copied(alloc: Global) -> Result<Ssa, AllocError> {
     let units = [load(1, 0), store_value(0, 2), load(1, 4), store_value(4, 4)];
     unmatched(alloc, &units)

@@ -65,7 +65,7 @@ fn shown(alloc: Global, recipe: &Recipe) -> Result<String, AllocError> {
     }
 }
 
-/// The recipe of an operand, as text, where a plan has the stores first and the loads behind them.
+/// The recipe of an operand, as text, where a plan has the stores first and the loads after them.
 fn recipe(
     alloc: Global,
     descriptions: &[Description],

@@ -15,7 +15,7 @@ use vg_cost::Running;
 use vg_packs::compatible;
 use vg_shapes::{DepList, MatchTable, Ssa};
 
-/// A plan of loads and stores with a pack behind it, which must be one that may follow it.
+/// A plan of loads and stores with a pack after it, which must be one that may follow it.
 fn grown(
     alloc: Global,
     plan: &Running,

@@ -83,7 +83,7 @@ fn row(
     Ok(Items::from_vec(row))
 }
 
-// Puts a number behind the others where this holds.
+// Puts a number after the others where this holds.
 fn push_where(numbers: &mut Vec<u32>, number: u32, holds: bool) -> Result<(), AllocError>
     ensures { OnOk result (numbers.new.items ≡ numbers.old.items ++ (if holds then number ∷ [] else [])) }
 {

@@ -103,7 +103,7 @@ fn begins_inside(begin: i128, end: i128) -> bool
     begin < end
 }
 
-// The place behind the last byte of an access.
+// The place after the last byte of an access.
 fn end_of(places: &[u64], x: Access) -> i128
     ensures { result ≡ place_of places.now x.address +ℤ pos x.size }
 {

@@ -163,6 +163,7 @@ two_words-sound = record {
   argument_terms = refl;
   unit_terms = (refl, (refl, (refl, (refl, refl))));
   meaning = terms-mean;
+  cuts = inl refl;
 }
 
 no-more : (v m : ℕ) → m < v → one_if (v == m) ≡ 0

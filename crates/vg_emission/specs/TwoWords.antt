@@ -43,6 +43,7 @@ two_words = record {
       ∷ Const 8 0
       ∷ Const 8 0
       ∷ [];
+  cuts = [];
 }
 
 abbrev pub two_packs : List Packed

@@ -92,7 +92,7 @@ fn first_of(registers: &[u32]) -> u32
     }
 }
 
-/// Adds the line of a pack on the registers of its operands, and behind it what is taken out of its
+/// Adds the line of a pack on the registers of its operands, and after it what is taken out of its
 /// register.
 fn put_own(
     alloc: Global,

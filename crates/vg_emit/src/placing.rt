@@ -236,7 +236,7 @@ fn build(alloc: Global, job: &Job, draft: &mut Draft, number: usize) -> Result<u
     }
 }
 
-/// Brings operands into registers, one behind the other, and gives the registers.
+/// Brings operands into registers, one after the other, and gives the registers.
 pub(crate) fn build_all(
     alloc: Global,
     job: &Job,

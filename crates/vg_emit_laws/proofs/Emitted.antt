@@ -18,7 +18,7 @@ use Rattle.vg_plan_laws.specs.Laws.{AreKnown}
 use Rattle.vg_plan_laws.proofs.Chosen.{kernels-are-small}
 use Rattle.vg_plan_laws.proofs.Keeping.{plans-keep}
 use Rattle.vg_plan_laws.proofs.Planned.{plans-are-planned}
-use Rattle.vg_plan_laws.proofs.Programs.{programs-call, programs-cost, programs-keep-rules, programs-mean}
+use Rattle.vg_plan_laws.proofs.Programs.{plans-are-fit, programs-call, programs-cost, programs-keep-rules, programs-mean}
 use Rattle.vg_plan_relations.specs.Plans.{IsPlanByNodes}
 use Rattle.vg_plan_relations.proofs.Planning.{plans-by-nodes}
 use Rattle.vg_emit_laws.specs.Laws.{EmittedProgramsAreRight, PlansCanBeEmitted}
@@ -32,7 +32,8 @@ packable (d ∷ ds) all = (all.0.packable, packable ds all.1)
 -- it grows from the empty plan, by the list of all dependences
 grows : (ds : List Description) (matches : List Match) (ssa : Ssa) (plan : List Packed) → AreKnown ds matches ssa
     → IsPlanByNodes ds matches ssa plan → IsPlanFor ds matches ssa (dependences ssa) plan
-grows ds matches ssa plan known is = (plans-by-nodes ds matches ssa plan (packable ds known.described) known.matched).1 is
+grows ds matches ssa plan known is = (plans-by-nodes ds matches ssa plan (packable ds known.described)
+    known.matched).1 is
 
 pub plans-can-be-emitted : PlansCanBeEmitted
 plans-can-be-emitted ds matches ssa plan known is =
@@ -44,6 +45,7 @@ plans-can-be-emitted ds matches ssa plan known is =
       near = matches-are-near ds matches ssa known;
       planned = plans-are-planned ds matches ssa deps plan known grown;
       keeps = λ called true. plans-keep called ds matches ssa deps plan known true grown;
+      fit = λ headers have. plans-are-fit headers ds matches ssa deps plan known have grown;
     }
 
 pub emitted-programs-are-right : EmittedProgramsAreRight
@@ -52,7 +54,8 @@ emitted-programs-are-right ds matches ssa plan order known is legal =
     let p = planned_program ds matches ssa plan order in
     let grown = grows ds matches ssa plan known is in
     let costs = programs-cost ds matches ssa deps plan order known grown legal in
-    let rules : (headers : List Header) → AllByRecursion (HasHeader headers) ds → cost_of p < 2 ^ 32 → KeepsRules headers p =
+    let rules : (headers : List Header) → AllByRecursion (HasHeader headers) ds → cost_of p < 2 ^ 32
+    → KeepsRules headers p =
     λ headers have small. programs-keep-rules headers ds matches ssa deps plan order known have grown legal
     (subst (λ n. n < 2 ^ 32) costs small) in
     record {

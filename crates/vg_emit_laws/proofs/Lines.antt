@@ -16,17 +16,20 @@ use Rattle.vg_program.specs.Text.{defined}
 use Rattle.vg_program.specs.Valid.{AreLines, IsCallOf, IsLine, KeepsRules, header_of}
 use Rattle.vg_emit_laws.specs.Laws.{CostSome}
 
-found-cost : (headers : List Header) (name : List ℕ) (h : Header) → CostSome headers → header_of headers name ≡ Some h → 1 ≤ h.cost
+found-cost : (headers : List Header) (name : List ℕ) (h : Header) → CostSome headers
+    → header_of headers name ≡ Some h → 1 ≤ h.cost
 found-cost [] name h some e = absurd (cc)
 found-cost (x ∷ headers) name h some e = elim (cases_Bool (bytes_eq x.name name)) [
   | inl t ↦ (let same : x ≡ h = (let g = rw t at e in cc) in subst (λ y. 1 ≤ y.cost) same some.0)
   | inr f ↦ found-cost headers name h some.1 (rw f at e)
 ]
 
-called-cost : (b : Before) (vs : List ℕ) (imm : Option ℕ) (bits cost : ℕ) (name : List ℕ) (o : Option Header) → CostSome b.headers
+called-cost : (b : Before) (vs : List ℕ) (imm : Option ℕ) (bits cost : ℕ) (name : List ℕ) (o : Option Header)
+    → CostSome b.headers
     → header_of b.headers name ≡ o → IsSomeAnd o (λ h. IsCallOf b h vs imm bits cost) → 1 ≤ cost
 called-cost b vs imm bits cost name None some e is = absurd is
-called-cost b vs imm bits cost name (Some h) some e is = subst (λ n. 1 ≤ n) (sym is.charge) (found-cost b.headers name h some e)
+called-cost b vs imm bits cost name (Some h) some e is = subst (λ n. 1 ≤ n) (sym is.charge)
+    (found-cost b.headers name h some e)
 
 line-some : (b : Before) (l : Line) → CostSome b.headers → IsLine b l → 1 ≤ line_cost l
 line-some b (Load w a) some is = omega arith
@@ -41,7 +44,8 @@ line-some b (VectorStore z a v) some is = omega arith
 line-some b (Constant bs) some is = omega arith
 line-some b (Insert v bits n w x) some is = omega arith
 line-some b (Extract v n w) some is = omega arith
-line-some b (Call name vs imm bits cost) some is = called-cost b vs imm bits cost name (header_of b.headers name) some refl is.1
+line-some b (Call name vs imm bits cost) some is = called-cost b vs imm bits cost name (header_of b.headers name)
+    some refl is.1
 
 same-headers : (b : Before) (d : Defined) → (with_defined b d).headers ≡ b.headers
 same-headers b defines.Nothing = refl
@@ -57,5 +61,6 @@ lines-some b (l ∷ ls) some are =
     omega (arith, one, rest, sum_by-cons line_cost l ls)
 
 -- a program that keeps the rules has at most as many lines as it costs
-pub program-lines : (headers : List Header) (p : Program) → CostSome headers → KeepsRules headers p → length p.lines ≤ cost_of p
+pub program-lines : (headers : List Header) (p : Program) → CostSome headers → KeepsRules headers p
+    → length p.lines ≤ cost_of p
 program-lines headers p some rules = lines-some (nothing_before headers p.params) p.lines some rules.lines

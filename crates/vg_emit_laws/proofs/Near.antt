@@ -20,6 +20,7 @@ use Rattle.vg_shapes.specs.Fits.{has_leaf}
 use Rattle.vg_shapes.specs.Leaves.{bit_number}
 use Rattle.vg_shapes.specs.Matches.{IsMatch, lane_at}
 use Rattle.vg_shapes.specs.Pack.{is_pack_size}
+use Rattle.vg_match.proofs.Laws.{wide-alone}
 use Rattle.vg_packing.specs.Taken.{AreNear, IsShort, MatchesNear}
 use Rattle.vg_emission.specs.Truth.{IsCallable, IsRegisterWidth}
 use Rattle.vg_plan_laws.specs.Made.{IsMade}
@@ -37,10 +38,12 @@ record InDescription (ds : List Description) (d lane : ℕ) (t : Tree) : Type 0 
   pub there : slice_get ds d ≡ Some entry
   pub term : slice_get entry.lanes lane ≡ Some t
 
-in-description : (ds : List Description) (d lane : ℕ) (t : Tree) → lane_at ds d lane ≡ Some t → InDescription ds d lane t
+in-description : (ds : List Description) (d lane : ℕ) (t : Tree) → lane_at ds d lane ≡ Some t
+    → InDescription ds d lane t
 in-description ds d lane t e = by (slice_get ds d) refl e
   where
-    by : (o : Option Description) → slice_get ds d ≡ o → (o >>= λ x. slice_get x.lanes lane) ≡ Some t → InDescription ds d lane t
+    by : (o : Option Description) → slice_get ds d ≡ o → (o >>= λ x. slice_get x.lanes lane) ≡ Some t
+        → InDescription ds d lane t
     by None o e = absurd (cc)
     by (Some x) o e = record { entry = x; there = o; term = e }
 
@@ -61,7 +64,8 @@ params-few [] k all = omega arith
 params-few (p ∷ ps) zero all = register-few p all.0
 params-few (p ∷ ps) (suc k) all = params-few ps k all.1
 
-bound-near : (d : Description) (t : Tree) (b : Bound) → IsCallable d → IsLane d.params d.lane_width t → has_leaf b.width b.key t ≡ true
+bound-near : (d : Description) (t : Tree) (b : Bound) → IsCallable d → IsLane d.params d.lane_width t
+    → has_leaf b.width b.key t ≡ true
     → bit_number b.key.second < 2 ^ 32
 bound-near d t b callable lane e =
     let inside = leaf-holds (IsInside d.params) t b.width b.key (each-inside d.params t lane.inside) e in
@@ -71,16 +75,23 @@ bound-near d t b callable lane e =
 all-near : (d : Description) (t : Tree) (bounds : List Bound) → IsCallable d → IsLane d.params d.lane_width t
     → AllByRecursion (λ b. has_leaf b.width b.key t ≡ true) bounds → AreNear bounds
 all-near d t [] callable lane alone = tt
-all-near d t (b ∷ bounds) callable lane alone = (bound-near d t b callable lane alone.0, all-near d t bounds callable lane alone.1)
+all-near d t (b ∷ bounds) callable lane alone = (
+  bound-near d t b callable lane alone.0,
+  all-near d t bounds
+      callable lane alone.1,
+)
 
-match-near : (ds : List Description) (ssa : Ssa) (m : Match) → AllByRecursion IsCallable ds → IsMatch ds ssa m → AreNear m.bound
+match-near : (ds : List Description) (ssa : Ssa) (m : Match) → AllByRecursion IsCallable ds → IsMatch ds ssa m
+    → AreNear m.bound
 match-near ds ssa m all is =
     let i = in-description ds m.description m.lane is.term is.lane in
     let callable = all-get IsCallable ds m.description i.entry all i.there in
-    let lane = all-get (IsLane i.entry.params i.entry.lane_width) i.entry.lanes m.lane is.term callable.packable.lanes i.term in
-    all-near i.entry is.term m.bound callable lane is.fits.alone
+    let lane = all-get (IsLane i.entry.params i.entry.lane_width) i.entry.lanes m.lane is.term
+    callable.packable.lanes i.term in
+    all-near i.entry is.term m.bound callable lane (wide-alone ssa is.term m.value m.bound is.fits)
 
-each-near : (ds : List Description) (ssa : Ssa) (ms : List Match) → AllByRecursion IsCallable ds → AllByRecursion (IsMatch ds ssa) ms → MatchesNear ms
+each-near : (ds : List Description) (ssa : Ssa) (ms : List Match) → AllByRecursion IsCallable ds
+    → AllByRecursion (IsMatch ds ssa) ms → MatchesNear ms
 each-near ds ssa [] all are = tt
 each-near ds ssa (m ∷ ms) all are = (match-near ds ssa m all are.0, each-near ds ssa ms all are.1)
 
@@ -119,19 +130,26 @@ units-few n w is = grind (arith, size-few (n * size_of w) is, some-size w)
 quotient-few : (n w : ℕ) → n ≤ 512 → n / w ≤ 512
 quotient-few n w few = let most = div-le_self n w in omega (arith, few, most)
 
-made-short : (ds : List Description) (matches : List Match) (ssa : Ssa) (p : Packed) → AllByRecursion IsCallable ds → IsMade ds matches ssa p → IsShort p
+made-short : (ds : List Description) (matches : List Match) (ssa : Ssa) (p : Packed) → AllByRecursion IsCallable ds
+    → IsMade ds matches ssa p → IsShort p
 made-short ds matches ssa (Stores us) all is = units-few (length us) is.0 is.7
 made-short ds matches ssa (Loads us) all is = units-few (length us) is.0 is.4
 made-short ds matches ssa (Call d lanes) all is =
     let few = register-few is.entry.register (all-get IsCallable ds d is.entry all is.there).register in
     omega (arith, is.long, quotient-few is.entry.register is.entry.lane_width few)
 
-all-short : (ds : List Description) (matches : List Match) (ssa : Ssa) (plan : List Packed) → AllByRecursion IsCallable ds → AllByRecursion (IsMade ds matches ssa) plan → AllByRecursion IsShort plan
+all-short : (ds : List Description) (matches : List Match) (ssa : Ssa) (plan : List Packed)
+    → AllByRecursion IsCallable ds → AllByRecursion (IsMade ds matches ssa) plan → AllByRecursion IsShort plan
 all-short ds matches ssa [] all are = tt
-all-short ds matches ssa (p ∷ plan) all are = (made-short ds matches ssa p all are.0, all-short ds matches ssa plan all are.1)
+all-short ds matches ssa (p ∷ plan) all are = (
+  made-short ds matches ssa p all are.0,
+  all-short ds matches ssa plan
+      all are.1,
+)
 
 pub packs-are-short : PacksAreShort
-packs-are-short ds matches ssa deps plan known is = all-short ds matches ssa plan known.described (plans-are-made ds matches ssa deps plan is)
+packs-are-short ds matches ssa deps plan known is = all-short ds matches ssa plan known.described
+    (plans-are-made ds matches ssa deps plan is)
 
 pub matches-are-of-units : MatchesAreOfUnits
 matches-are-of-units ds matches ssa known = match-units ds matches ssa known.sound known.matched

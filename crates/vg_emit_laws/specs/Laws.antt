@@ -19,7 +19,7 @@ use Rattle.vg_shapes.specs.Sound.{IsSound}
 use Rattle.vg_packing.specs.Laws.{IsPlanFor, MatchUnits}
 use Rattle.vg_packing.specs.Packing.{packing}
 use Rattle.vg_packing.specs.Taken.{IsShort, MatchesNear}
-use Rattle.vg_emission.specs.Fit.{CallsDescribed, HasHeader}
+use Rattle.vg_emission.specs.Fit.{AreFit, CallsDescribed, HasHeader}
 use Rattle.vg_emission.specs.Laws.{AlwaysKeep, MeansUnits}
 use Rattle.vg_emission.specs.Planned.{IsPlanned}
 use Rattle.vg_gather.specs.Recipes.{planned_job, planned_program}
@@ -59,6 +59,8 @@ pub record CanBeEmitted
   pub planned : IsPlanned (planned_job ds matches ssa plan)
   pub keeps : (called : Instructions) → AreTrue called ds
       → AlwaysKeep (planned_job ds matches ssa plan) called
+  pub fit : (headers : List Header) → AllByRecursion (HasHeader headers) ds
+      → AreFit (planned_job ds matches ssa plan) headers
 
 -- so of each plan by its packs, units and nodes
 abbrev pub PlansCanBeEmitted : Type 0

@@ -8,7 +8,7 @@ use crate::run::Run;
 use std::alloc::{AllocError, Global};
 use vg_terms::{Term, TwoOp, make_const, make_two};
 
-// Appends a run and those behind it, as few as there can be.
+// Appends a run and those after it, as few as there can be.
 fn push_merged(to: &mut Vec<Run>, run: Run, rest: &[Run]) -> Result<(), AllocError>
     ensures { OnOk result (to.new.items ≡ to.old.items ++ merged_on run rest.now) }
 {
@@ -51,7 +51,7 @@ pub(crate) fn merged(alloc: Global, runs: &[Run]) -> Result<Vec<Run>, AllocError
     }
 }
 
-// The term of a run with those behind it above.
+// The term of a run with those after it above.
 fn stacked_on(alloc: Global, run: &Run, rest: &[Run]) -> Result<Term, AllocError>
     ensures { IfOk result (λ t. tree t ≡ stacked_on run.now rest.now) }
 {
@@ -78,7 +78,7 @@ pub(crate) fn stacked(alloc: Global, runs: &[Run]) -> Result<Term, AllocError>
     }
 }
 
-// The number of nodes of the term of a run with those behind it above.
+// The number of nodes of the term of a run with those after it above.
 fn stacked_on_size(run: &Run, rest: &[Run]) -> u64
     ensures { result ≡ min (node_count (stacked_on run.now rest.now)) (2 ^ 64 - 1) }
 {

@@ -11,7 +11,7 @@ use vg_scalar::{Comparison, Resize, Shift, TwoOp};
 use vg_shapes::Operator;
 use vg_terms::{OneOp, Term, TwoOp as TermOp, make_const, make_one, make_sel, make_two};
 
-/// The term of an operation of a width and an amount on three terms; those behind the operands that it has
+/// The term of an operation of a width and an amount on three terms; those after the operands that it has
 /// count for nothing. Fails for want of memory, also where an amount is 128 or more, which no shift has.
 pub(crate) fn operation_term(
     alloc: Global,

@@ -16,7 +16,7 @@ struct Rest {
     shift: u32,
 }
 
-/// A byte with what is to be added to it, and what is left for the bytes behind it, where the
+/// A byte with what is to be added to it, and what is left for the bytes after it, where the
 /// number begins in one of these.
 fn skip_byte(byte: u8, rest: Rest) -> (u8, Rest)
     requires carry { rest.carry < 256 }
@@ -52,7 +52,7 @@ fn fill_byte(byte: u8, rest: Rest) -> (u8, Rest)
     ((total % 256) as u8, behind)
 }
 
-/// A byte with what is to be added to it, and what is left for the bytes behind it.
+/// A byte with what is to be added to it, and what is left for the bytes after it.
 fn add_to_byte(byte: u8, rest: Rest) -> (u8, Rest)
     requires { rest.carry < 256 }
     ensures byte { result.0 ≡ (byte + amount rest) % 256 }

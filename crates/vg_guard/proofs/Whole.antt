@@ -7,7 +7,7 @@ use Rattle.vg_catalog.specs.Called.{called_by, headers_of}
 use Rattle.vg_catalog.specs.Entries.{Entry}
 use Rattle.vg_compile.specs.Compiled.{IsCompiled}
 use Rattle.vg_compile.specs.Means.{kind_of, param_of, integer_bits, widths, IsInput, Means}
-use Rattle.vg_compile.proofs.Sizes.{program-lines}
+use Rattle.vg_emit_laws.proofs.Lines.{program-lines}
 use Rattle.vg_instances.specs.Proper.{AreProper, IsProper}
 use Rattle.vg_kernel.specs.Cost.{scalar_cost, statement_cost, uses_of}
 use Rattle.vg_kernel.specs.declared.parameter.KParam.{KParam}
@@ -114,9 +114,9 @@ one-signature called g k fast slow =
     let same : g.slow.params ≡ g.fast.params = slow.params ∙ sym (params-kept k.params) ∙ sym fast.params in
     (λ i. record { name = names i; params = same i })
 
-pub compiled-guarded : (entries : List Entry) (set : ℕ) (k : Tree) (width : ℕ) (g : Guarded) → IsWellFormed k → AreProper entries → g.checks ≡ checks_of k
-    → IsCompiled entries set (all_noalias k) width g.fast → IsCompiled entries set k width g.slow → IsCompiledGuarded entries set k width g
-compiled-guarded entries set k width g is proper same fast slow =
+pub compiled-guarded : (entries : List Entry) (set : ℕ) (k : Tree) (width : ℕ) (more : Bool) (g : Guarded) → IsWellFormed k → AreProper entries → g.checks ≡ checks_of k
+    → IsCompiled entries set (all_noalias k) width more g.fast → IsCompiled entries set k width more g.slow → IsCompiledGuarded entries set k width more g
+compiled-guarded entries set k width more g is proper same fast slow =
     let headers = headers_of entries in
     let some = all-headers (λ h. 1 ≤ h.cost) (λ h is. is.cost) entries proper.headers in
     let few_taken = all-headers (λ h. length h.params ≤ 4) (λ h is. is.few) entries proper.headers in

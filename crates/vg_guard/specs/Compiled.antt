@@ -1,5 +1,5 @@
 -- What is compiled of a kernel with guards.
-use Rattle.std.specs.Prelude.{◌≡◌, ◌≤◌, ℕ, List}
+use Rattle.std.specs.Prelude.{◌≡◌, ◌≤◌, ℕ, Bool, List}
 use Rattle.vg_catalog.specs.Called.{called_by, headers_of}
 use Rattle.vg_catalog.specs.Entries.{Entry}
 use Rattle.vg_compile.specs.Compiled.{IsCompiled}
@@ -24,10 +24,12 @@ GuardedMeans called g k =
 -- The checks are exactly those of the kernel, and the whole means the kernel and has a text that
 -- keeps the rules. The fast side is compiled of the kernel with every pointer `noalias`, the slow
 -- one of the kernel: each is valid, calls instances of the entries in a set of extensions alone,
--- states the scalar cost, costs at most that, and is the program of its chosen plan.
-pub record IsCompiledGuarded (entries : List Entry) (set : ℕ) (k : Tree) (width : ℕ) (g : Guarded) : Type 0 where
+-- states the scalar cost, costs at most that, and is the program of the plan that is chosen of its
+-- kernel, with more plans or without.
+pub record IsCompiledGuarded
+    (entries : List Entry) (set : ℕ) (k : Tree) (width : ℕ) (more : Bool) (g : Guarded) : Type 0 where
   pub checks : g.checks ≡ checks_of k
   pub means : GuardedMeans (called_by entries) g k
   pub rules : IsGuarded (headers_of entries) g
-  pub fast : IsCompiled entries set (all_noalias k) width g.fast
-  pub slow : IsCompiled entries set k width g.slow
+  pub fast : IsCompiled entries set (all_noalias k) width more g.fast
+  pub slow : IsCompiled entries set k width more g.slow

@@ -3,7 +3,7 @@
 ghost use Rattle.std.specs.Prelude.{◌≡◌, ◌+ℤ◌, pos, int_le, slice_index};
 ghost use Rattle.vg_guard.specs.Checks.{begin_of, holds, all_hold};
 
-/// Two ranges of bytes behind two pointers that have to be apart.
+/// Two ranges of bytes after two pointers that have to be apart.
 #[derive(Clone, Copy)]
 pub struct Check {
     /// The number of a pointer among the pointers, from 0.
@@ -12,7 +12,7 @@ pub struct Check {
     pub first_low: i64,
     /// How many bytes its range has, 1 to 4,294,967,303.
     pub first_len: u64,
-    /// The number of a pointer behind the first.
+    /// The number of a pointer after the first.
     pub second: u32,
     /// The same two of the second.
     pub second_low: i64,

@@ -3,12 +3,9 @@
 ghost use Rattle.std.specs.Prelude.{IfOk};
 ghost use Rattle.vg_catalog.specs.Catalogs.{entries_in};
 ghost use Rattle.vg_catalog.specs.Extensions.{bits_in};
-ghost use Rattle.vg_catalog.specs.Written.{AllWritten};
 ghost use Rattle.vg_guard.specs.Compiled.{IsCompiledGuarded};
-ghost use Rattle.vg_instances.specs.Proper.{AreProper};
 ghost use Rattle.vg_kernel.specs.Tree.{tree_of};
 ghost use Rattle.vg_kernel.specs.WellFormed.{IsWellFormed};
-ghost use Rattle.vg_listing.specs.Listed.{HaveLanes};
 
 use crate::guarded::Guarded;
 use crate::kernel_checks::checks_of;
@@ -16,12 +13,12 @@ use crate::noalias::all_noalias;
 use std::alloc::{AllocError, Global};
 use vg_base::Items;
 use vg_catalog::{Catalog, Extensions};
-use vg_compile::compile;
+use vg_compile::compile_by;
 use vg_kernel::Kernel;
 
 /// The guarded program of a kernel: its checks, what `compile` gives for it with every pointer
 /// noalias, and what `compile` gives for it, whose sides may call the instructions of a catalogue
-/// whose extension is in the set.
+/// whose extension is in the set. With `more` each side is what `compile_more` gives.
 ///
 /// It leaves the memory that the kernel leaves and traps where the kernel traps, in each layout
 /// that respects the kernel's own noalias, each call giving what the text of its entry means. Each
@@ -35,18 +32,17 @@ pub fn compile_guarded(
     allowed: Extensions,
     kernel: &Kernel,
     width: u32,
+    more: bool,
 ) -> Result<Guarded, AllocError>
     requires kernel { IsWellFormed (tree_of kernel.now) }
-    requires written { AllWritten (entries_in catalog.now) }
-    requires lanes { HaveLanes (entries_in catalog.now) }
-    requires proper { AreProper (entries_in catalog.now) }
     ensures { IfOk result
-        (IsCompiledGuarded (entries_in catalog.now) (bits_in allowed) (tree_of kernel.now) width) }
+        (IsCompiledGuarded (entries_in catalog.now) (bits_in allowed) (tree_of kernel.now) width
+        more) }
 {
     let checks = checks_of(alloc, kernel)?;
     let noalias = all_noalias(alloc, kernel)?;
-    let fast = compile(alloc, catalog, allowed, &noalias, width)?;
-    let slow = compile(alloc, catalog, allowed, kernel, width)?;
+    let fast = compile_by(alloc, catalog, allowed, &noalias, width, more)?;
+    let slow = compile_by(alloc, catalog, allowed, kernel, width, more)?;
     Ok(Guarded {
         checks: Items::from_vec(checks),
         fast,

@@ -79,7 +79,7 @@ fn check_of(kernel: &Kernel, first: u32, second: u32) -> Option<Check>
     }
 }
 
-/// Appends the checks of a pointer with each behind it, where there are so many pointers.
+/// Appends the checks of a pointer with each after it, where there are so many pointers.
 #[tactic(auto, using(crate::proofs::Numbers::with_one, crate::proofs::Numbers::with_none, crate::proofs::Numbers::with_end))]
 fn put_checks(
     to: &mut Vec<Check>,

@@ -66,7 +66,7 @@ fn span_at<'a>(params: &[Param], least: u64, text: &'a [u8]) -> Result<(Span, &'
     reach_at(pointer, rest)
 }
 
-/// The least second pointer of a check with this first one behind a check of those two.
+/// The least second pointer of a check with this first one after a check of those two.
 fn least_second(last: (u32, u32), first: u32) -> u64
     ensures { result ≡ least_second last first }
 {

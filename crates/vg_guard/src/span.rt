@@ -1,6 +1,6 @@
-//! Ranges of bytes behind pointers.
+//! Ranges of bytes after pointers.
 
-/// Bytes behind a pointer.
+/// Bytes after a pointer.
 #[derive(Clone, Copy)]
 pub struct Span {
     /// The number of the pointer among the pointers, from 0.

@@ -36,7 +36,7 @@ fn spell(to: &mut String, checks: &[Check]) -> Result<(), Fail> {
     Ok(())
 }
 
-/// Asserts of each row, the checks of a kernel behind its parameters and its statements, a `|` between
+/// Asserts of each row, the checks of a kernel after its parameters and its statements, a `|` between
 /// them, that the kernel has these checks.
 fn expect_all(rt: &impl Abort, alloc: Global, rows: &str) -> Result<(), Fail> {
     for row in rows.trim().lines() {

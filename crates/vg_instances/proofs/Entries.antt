@@ -7,10 +7,10 @@ use Rattle.std.proofs.lemmas.Bool.{cases_Bool}
 use Rattle.vg_catalog.specs.Called.{entry_named, headers_of}
 use Rattle.vg_program.specs.Valid.{header_of}
 use Rattle.vg_catalog.specs.Entries.{Entry, name_of}
+use Rattle.vg_catalog.specs.FileEntries.{NamesDiffer}
 use Rattle.vg_program.proofs.Steps.{bytes_same}
 use Rattle.vg_shapes.specs.Description.{Description}
 use Rattle.vg_instances.specs.Descriptions.{StayOf}
-use Rattle.vg_instances.specs.Proper.{NamesDiffer}
 
 -- each is the entry of its name
 abbrev pub AreNamed : List Entry → List Entry → Type 0

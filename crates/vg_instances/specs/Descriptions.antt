@@ -8,7 +8,7 @@ use Rattle.vg_lift.specs.Instances.{instance_lanes}
 use Rattle.vg_lanes.specs.Described.{Described, packable, not_packable, described, immediate}
 use Rattle.vg_catalog.specs.Called.{called_by, entry_named, headers_of, imm_number}
 use Rattle.vg_catalog.specs.Entries.{Entry, name_of}
-use Rattle.vg_listing.specs.Listed.{immediates_of}
+use Rattle.vg_entry_lanes.specs.Immediates.{immediates_of}
 use Rattle.vg_emission.specs.Fit.{HasHeader}
 use Rattle.vg_emission.specs.Truth.{IsCallable, IsTrueOf}
 

@@ -1,10 +1,10 @@
--- What the entries of a file have.
-use Rattle.std.specs.Prelude.{◌≤◌, List, map, IfSome, IsTrue, length}
-use Rattle.std.specs.List.{AllByRecursion, IsDistinct}
-use Rattle.std.specs.Str.{bytes_eq}
+-- What the entries of a catalogue have, in the words of what is emitted.
+use Rattle.std.specs.Prelude.{◌≤◌, List, IfSome, IsTrue, length}
+use Rattle.std.specs.List.{AllByRecursion}
 use Rattle.vg_pseudo.specs.declared.header.Header.{Header}
 use Rattle.vg_text.specs.Byte.{is_name_text}
-use Rattle.vg_catalog.specs.Entries.{Entry, name_of}
+use Rattle.vg_catalog.specs.Entries.{Entry}
+use Rattle.vg_catalog.specs.FileEntries.{NamesDiffer}
 use Rattle.vg_emission.specs.Planned.{IsLaneWidth}
 use Rattle.vg_emission.specs.Truth.{IsRegisterWidth}
 
@@ -18,10 +18,6 @@ pub record IsProper (h : Header) : Type 0 where
   pub few : length h.params ≤ 4
   pub byte : IfSome h.imm (λ r. r.hi ≤ 255)
   pub cost : 1 ≤ h.cost
-
--- no two entries have one name
-abbrev pub NamesDiffer : List Entry → Type 0
-NamesDiffer entries = IsDistinct bytes_eq (map name_of entries)
 
 -- entries with proper headers and names that differ
 pub record AreProper (entries : List Entry) : Type 0 where

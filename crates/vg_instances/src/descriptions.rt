@@ -2,13 +2,14 @@
 
 ghost use Rattle.std.specs.Prelude.{◌≡◌, ◌++◌, ◌∷◌, [], ◌<◌, ◌≤◌, ◌-◌, ℕ, IfOk, OnOk, map};
 ghost use Rattle.std.specs.List.{flat_map};
+ghost use Rattle.vg_catalog.specs.Catalogs.{entries_in};
 ghost use Rattle.vg_catalog.specs.Entries.{entry_of};
 ghost use Rattle.vg_catalog.specs.Extensions.{bits_in};
 ghost use Rattle.vg_catalog.specs.Written.{AllWritten};
+ghost use Rattle.vg_entry_lanes.specs.Laws.{HaveLanes};
 ghost use Rattle.vg_instances.specs.Descriptions.{AreOf, IsNumbered, StayOf, descriptions, entry_descriptions, instance_description, is_in_set};
 ghost use Rattle.vg_instances.specs.Proper.{AreProper, IsProper};
 ghost use Rattle.vg_lift.specs.Instances.{HasInstance, HasLanes};
-ghost use Rattle.vg_listing.specs.Listed.{HaveLanes};
 ghost use Rattle.vg_names.specs.Written.{IsWritten};
 ghost use Rattle.vg_range.specs.Checks.{header_in, operation_in};
 ghost use Rattle.vg_shapes.specs.Description.{description_of};
@@ -16,7 +17,7 @@ ghost use Rattle.vg_shapes.specs.Order.{numbers_from};
 
 use bitflags::Flags;
 use std::alloc::{AllocError, Global};
-use vg_catalog::Extensions;
+use vg_catalog::{Catalog, Extensions};
 use vg_lanes::{Described, describe};
 use vg_lift::lanes_of;
 use vg_pool::Pool;
@@ -151,11 +152,8 @@ fn add_entry(alloc: Global, entry: &Checked, to: &mut Found) -> Result<(), Alloc
     }
 }
 
-/// The descriptions of the instances that packs may call, of entries whose extension is in the set: in
-/// the order of the entries, and by rising immediate. Each is true of what the text of its entry
-/// means. Fails for want of memory, also where the terms of all descriptions have more than 2^24
-/// nodes, or at the bounds of `vg_lift::lift_entry`, over one pool for each entry.
-pub fn descriptions_of(
+// The descriptions of the instances of entries whose extension is in a set.
+fn all_descriptions(
     alloc: Global,
     entries: &[Checked],
     allowed: Extensions,
@@ -180,4 +178,21 @@ pub fn descriptions_of(
         left = behind;
     }
     Ok(found.descriptions)
+}
+
+/// The descriptions of the instances that packs may call, of the entries of a catalogue whose extension
+/// is in the set: in the order of the entries, and by rising immediate. Each is true of what the text
+/// of its entry means. Fails for want of memory, also where the terms of all descriptions have more
+/// than 2^24 nodes, or at the bounds of `vg_lift::lift_entry`, over one pool for each entry.
+pub fn descriptions_of(
+    alloc: Global,
+    catalog: &Catalog,
+    allowed: Extensions,
+) -> Result<Vec<Description>, AllocError>
+    ensures is { IfOk result (λ ds. map description_of ds.items
+        ≡ descriptions (bits_in allowed) (entries_in catalog.now)) }
+    ensures are_of { IfOk result (λ ds.
+        AreOf (entries_in catalog.now) (map description_of ds.items)) }
+{
+    all_descriptions(alloc, catalog.entries(), allowed)
 }

@@ -2,11 +2,9 @@
 //! entry means.
 //!
 //! `specs/Descriptions.antt` says which they are, in which order, and what each is; `specs/Proper.antt` what
-//! the entries of files have. What a true description is says `vg_emission`'s `Truth`.
+//! the entries of catalogues have. What a true description is says `vg_emission`'s `Truth`.
 #![tactic(auto)]
 
 mod descriptions;
-mod law;
 
 pub use descriptions::descriptions_of;
-pub use law::files_are_proper;

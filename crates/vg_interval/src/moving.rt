@@ -16,7 +16,7 @@ use vg_script::{Low, WholeNumber, Word, make_held, make_two};
 use vg_terms::TwoOp;
 use vg_text::Place;
 
-// Whether so many times a size, and a width behind it, are at most all.
+// Whether so many times a size, and a width after it, are at most all.
 fn ends_inside(all: u128, width: u128, size: u128, number: u128) -> bool
     ensures { result ≡ nat_le (number * size + width) all }
 {
@@ -29,7 +29,7 @@ fn ends_inside(all: u128, width: u128, size: u128, number: u128) -> bool
     }
 }
 
-// Whether a width is at most all and so many times a size behind it.
+// Whether a width is at most all and so many times a size after it.
 fn starts_inside(all: u128, width: u128, size: u128, times: u128) -> bool
     ensures { result ≡ nat_le width (all + times * size) }
 {
@@ -142,7 +142,7 @@ pub fn constant_at(constants: &[Option<u128>], register: usize) -> Option<u128>
 }
 
 /// A slice by its two indices, in registers of these widths, of which some are constant: where the
-/// high one is the low one with `+ n` behind it, n being `spread`, the low one alone says where it
+/// high one is the low one with `+ n` after it, n being `spread`, the low one alone says where it
 /// is. IndexOutside where it may not lie inside, DynamicIndex where an index is not constant
 /// otherwise.
 pub fn slice_at(

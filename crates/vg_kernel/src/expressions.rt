@@ -31,7 +31,7 @@ use vg_text::{Lexer, Place};
 /// The level of a whole expression.
 const LOOSEST: u32 = 5;
 
-/// An operator that was read, and what is left behind it.
+/// An operator that was read, and what is left after it.
 #[derive(Clone, Copy)]
 pub(crate) struct Operator<'a> {
     op: TwoOp,
@@ -151,7 +151,7 @@ fn joined<'a>(
     }
 }
 
-/// An operator and its right operand behind what stands on its left.
+/// An operator and its right operand after what stands on its left.
 #[cycle(expressions)]
 #[inline(never)]
 #[tactic(auto, unfolding(crate::specs::Expressions::join_at))]
@@ -288,7 +288,7 @@ fn named<'a>(
     }
 }
 
-/// The two operands of a function behind its name and `(`.
+/// The two operands of a function after its name and `(`.
 #[cycle(expressions)]
 #[inline(never)]
 #[tactic(auto, unfolding(crate::specs::Expressions::pair_at))]
@@ -313,7 +313,7 @@ fn two<'a>(
     pair_end(alloc, function, place, left, right)
 }
 
-/// The operand of a shift, and by how many places, behind its name and `(`.
+/// The operand of a shift, and by how many places, after its name and `(`.
 #[cycle(expressions)]
 #[inline(never)]
 fn shift<'a>(
@@ -335,7 +335,7 @@ fn shift<'a>(
     shift_end(alloc, op, place, operand)
 }
 
-/// The operand of a resize behind its name and `(`.
+/// The operand of a resize after its name and `(`.
 #[cycle(expressions)]
 #[inline(never)]
 fn resize<'a>(
@@ -358,7 +358,7 @@ fn resize<'a>(
     resize_end(alloc, op, to, place, operand)
 }
 
-/// The three operands of a choice behind its name and `(`.
+/// The three operands of a choice after its name and `(`.
 #[cycle(expressions)]
 #[inline(never)]
 #[tactic(auto, unfolding(crate::specs::Expressions::select_at, crate::specs::Expressions::pair_at))]
@@ -384,7 +384,7 @@ fn select<'a>(
     select_end(alloc, place, condition, left, right)
 }
 
-/// A call behind the name of its function.
+/// A call after the name of its function.
 #[cycle(expressions)]
 #[inline(never)]
 #[tactic(auto, unfolding(crate::specs::Expressions::call_at))]

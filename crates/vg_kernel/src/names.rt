@@ -20,7 +20,7 @@ fn is_pointer(kind: KParamKind) -> bool
     }
 }
 
-/// What a parameter is behind so many pointers and so many integers.
+/// What a parameter is after so many pointers and so many integers.
 fn given_of(kind: KParamKind, pointers: u32, integers: u32) -> Given
     ensures { result ≡ given_of kind pointers integers }
 {

@@ -204,7 +204,7 @@ fn closed<'a>(node: KExpr, depth: u32, lexer: Lexer<'a>, used: u32) -> Result<Pa
     })
 }
 
-/// A function of two operands behind the second.
+/// A function of two operands after the second.
 #[inline(never)]
 #[tactic(auto, unfolding(crate::specs::Expressions::pair_end))]
 pub(crate) fn pair_end<'a>(
@@ -233,7 +233,7 @@ pub(crate) fn pair_end<'a>(
     closed(node, depth, scan.lexer, used)
 }
 
-/// A resize of an operand behind it.
+/// A resize of an operand after it.
 #[inline(never)]
 #[tactic(auto, unfolding(crate::specs::Expressions::resize_end))]
 pub(crate) fn resize_end<'a>(
@@ -270,7 +270,7 @@ fn amount<'a>(width: Width, lexer: Lexer<'a>) -> Result<(u32, Lexer<'a>), Kernel
     }
 }
 
-/// A shift of an operand behind it.
+/// A shift of an operand after it.
 #[inline(never)]
 #[tactic(auto, unfolding(crate::specs::Expressions::shift_end))]
 pub(crate) fn shift_end<'a>(
@@ -298,7 +298,7 @@ pub(crate) fn shift_end<'a>(
     closed(node, depth, rest, used)
 }
 
-/// A choice of three operands behind the last.
+/// A choice of three operands after the last.
 #[inline(never)]
 #[tactic(auto, unfolding(crate::specs::Expressions::select_end))]
 pub(crate) fn select_end<'a>(

@@ -49,7 +49,7 @@ pub(crate) fn value_of(given: Option<Given>, place: Place) -> Result<KExpr, Kern
     }
 }
 
-/// The width of the type that stands right behind these digits.
+/// The width of the type that stands right after these digits.
 fn type_behind(digits: &Word, word: &Word) -> Option<Width>
     ensures { result ≡ type_behind (spelled_of digits.now) (spelled_of word.now) }
 {
@@ -89,7 +89,7 @@ pub(crate) fn literal<'a>(
     }
 }
 
-/// A literal behind `-`.
+/// A literal after `-`.
 #[inline(never)]
 pub(crate) fn negative<'a>(
     first: Place,
@@ -103,7 +103,7 @@ pub(crate) fn negative<'a>(
     literal(true, first, digits, rest, used)
 }
 
-/// A load behind its name.
+/// A load after its name.
 #[inline(never)]
 #[tactic(auto, unfolding(crate::specs::Expressions::load_at))]
 pub(crate) fn load<'a>(

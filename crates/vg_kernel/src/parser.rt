@@ -82,7 +82,7 @@ fn one_too_many<'a>(lexer: Lexer<'a>) -> Result<(Vec<KParam>, Lexer<'a>), Kernel
     }
 }
 
-/// Whether a comma stands behind a parameter, and not the end of them.
+/// Whether a comma stands after a parameter, and not the end of them.
 fn comma<'a>(lexer: Lexer<'a>) -> Result<(bool, Lexer<'a>), KernelFault>
     ensures read { Gives (λ x. (x.0, reading x.1)) result (comma_at (reading lexer.entry)) }
 {
@@ -97,7 +97,7 @@ fn comma<'a>(lexer: Lexer<'a>) -> Result<(bool, Lexer<'a>), KernelFault>
     }
 }
 
-/// The parameters behind the first up to `)`, 16 at most in all.
+/// The parameters after the first up to `)`, 16 at most in all.
 fn parameters_behind<'a>(
     alloc: Global,
     first: Vec<KParam>,
@@ -175,7 +175,7 @@ fn head<'a>(alloc: Global, lexer: Lexer<'a>) -> Result<(Head, Lexer<'a>), Kernel
     Ok((Head { name, params }, rest))
 }
 
-/// `{ statements }` behind a head, and the place of the brace that closes them.
+/// `{ statements }` after a head, and the place of the brace that closes them.
 #[tactic(auto, unfolding(crate::specs::Statements::block_at))]
 fn block<'a>(
     alloc: Global,
@@ -196,7 +196,7 @@ fn block<'a>(
     Ok((kernel, brace, rest))
 }
 
-/// `{ statements }` behind a head, with nothing behind it.
+/// `{ statements }` after a head, with nothing after it.
 #[tactic(auto, unfolding(crate::specs::Statements::body_at))]
 fn body<'a>(alloc: Global, head: Head, lexer: Lexer<'a>) -> Result<(Kernel, Lexer<'a>), KernelFault>
     requires { length head.params ≤ 16 }
@@ -208,7 +208,7 @@ fn body<'a>(alloc: Global, head: Head, lexer: Lexer<'a>) -> Result<(Kernel, Lexe
     Ok((kernel, rest))
 }
 
-/// A whole kernel, with nothing behind it.
+/// A whole kernel, with nothing after it.
 #[tactic(auto, unfolding(crate::specs::Statements::kernel_at))]
 fn kernel<'a>(alloc: Global, lexer: Lexer<'a>) -> Result<Kernel, KernelFault>
     ensures read { Gives tree_of result (kernel_at (reading lexer.entry)) }
@@ -219,9 +219,9 @@ fn kernel<'a>(alloc: Global, lexer: Lexer<'a>) -> Result<Kernel, KernelFault>
     Ok(kernel)
 }
 
-/// Reads `name (parameters)`, as it stands in a kernel behind its first word.
+/// Reads `name (parameters)`, as it stands in a kernel after its first word.
 ///
-/// On `Ok` the lexer stands behind the `)`. An error is the first fault of this part, with the number
+/// On `Ok` the lexer stands after the `)`. An error is the first fault of this part, with the number
 /// and the place that it has in a kernel, or want of memory; then the lexer is as it was.
 pub fn parse_head(alloc: Global, lexer: &mut Lexer<'_>) -> Result<Head, KernelFault>
     ensures exact { Gives (λ h. (h, reading lexer.new)) result (head_at (reading lexer.old)) }
@@ -233,10 +233,10 @@ pub fn parse_head(alloc: Global, lexer: &mut Lexer<'_>) -> Result<Head, KernelFa
     Ok(head)
 }
 
-/// Reads `{ statements }` behind a head, and gives the kernel with the place of the brace that closes
+/// Reads `{ statements }` after a head, and gives the kernel with the place of the brace that closes
 /// it.
 ///
-/// On `Ok` the lexer stands behind that brace, and what stands there is not judged. An error is the
+/// On `Ok` the lexer stands after that brace, and what stands there is not judged. An error is the
 /// first fault of this part, or want of memory; then the lexer is as it was, and the head is dropped.
 pub fn parse_statements(
     alloc: Global,
@@ -254,7 +254,7 @@ pub fn parse_statements(
     Ok((kernel, brace))
 }
 
-/// Reads `{ statements }` behind a head, and the end of the text.
+/// Reads `{ statements }` after a head, and the end of the text.
 ///
 /// On `Ok` the lexer stands at the end. An error is the first fault of this part, or want of memory;
 /// then the lexer is as it was, and the head is dropped.

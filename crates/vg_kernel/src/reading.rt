@@ -75,7 +75,7 @@ fn pointer_of(given: Option<Given>, place: Place) -> Result<u32, KernelFault>
     }
 }
 
-/// The distance behind `+` or `-`.
+/// The distance after `+` or `-`.
 #[tactic(auto, unfolding(crate::specs::Reader::offset_at))]
 fn offset<'a>(
     negative: bool,

@@ -10,7 +10,7 @@ pub(crate) struct Scan<'a> {
     pub(crate) used: u32,
 }
 
-/// An expression that was read, how many nodes it has one below the other, and what is left behind
+/// An expression that was read, how many nodes it has one below the other, and what is left after
 /// it.
 #[derive(Drop)]
 pub(crate) struct Part<'a> {

@@ -37,7 +37,7 @@ fn outer<'a>(
     expression(alloc, names, 256, 5, Scan { lexer, used })
 }
 
-/// `= expression;` behind a name, which is given then.
+/// `= expression;` after a name, which is given then.
 #[tactic(auto, unfolding(crate::specs::Statements::assignment_at))]
 fn assignment<'a>(
     alloc: Global,
@@ -77,7 +77,7 @@ fn has_width(width: Width, value: &KExpr) -> bool
     }
 }
 
-/// `);` behind what is stored.
+/// `);` after what is stored.
 #[tactic(auto, unfolding(crate::specs::Statements::store_end))]
 fn store_end<'a>(
     width: Width,
@@ -101,7 +101,7 @@ fn store_end<'a>(
     Ok((statement, scan))
 }
 
-/// `storeW(place, expression);` behind its first word.
+/// `storeW(place, expression);` after its first word.
 #[tactic(auto, unfolding(crate::specs::Statements::store_at))]
 fn store<'a>(
     alloc: Global,
@@ -130,7 +130,7 @@ fn store<'a>(
     }
 }
 
-/// A statement that begins with this word. Where it gives a name, that is given behind it.
+/// A statement that begins with this word. Where it gives a name, that is given after it.
 #[tactic(auto, unfolding(crate::specs::Statements::statement_at))]
 fn statement<'a>(
     alloc: Global,

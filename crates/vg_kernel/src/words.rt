@@ -29,7 +29,7 @@ fn width_of(bytes: &[u8]) -> Option<Width>
     }
 }
 
-/// The width behind a stem, as that of `load32` behind `load`.
+/// The width after a stem, as that of `load32` after `load`.
 pub(crate) fn width_behind(stem: &[u8], bytes: &[u8]) -> Option<Width>
     ensures { result ≡ width_behind stem.now bytes.now }
 {
@@ -189,7 +189,7 @@ pub(crate) fn begins_statement(bytes: &[u8]) -> bool
     is_free(bytes) | has_stem(b"store", bytes)
 }
 
-/// Whether the second word stands right behind the first.
+/// Whether the second word stands right after the first.
 pub(crate) fn adjoins(first: &Word, second: &Word) -> bool
     ensures { result ≡ adjoins (spelled_of first.now) (spelled_of second.now) }
 {

@@ -48,7 +48,7 @@ fn texts_that_are_kernels(rt: HostRuntime) -> Result<(), Fail> {
 }
 
 /// A row is the number of a fault, a count, and a piece of `text`: the front of `text` that ends
-/// behind the first such piece is refused with this number, so many bytes from its end.
+/// after the first such piece is refused with this number, so many bytes from its end.
 fn refuse_front(rt: &impl Abort, alloc: Global, text: &str, row: &str) -> Result<(), Fail> {
     let Some((number, behind)) = row.split_once(' ') else {
         return Err("a number is missing".into());

@@ -1,4 +1,4 @@
-//! Heads, statements and bodies of kernels that are read by themselves: what is left behind them, and
+//! Heads, statements and bodies of kernels that are read by themselves: what is left after them, and
 //! where they are refused. An `@` marks a place, and is no part of the text.
 
 ghost use Rattle.std.specs.Prelude.{IfOk};
@@ -19,7 +19,7 @@ enum Part {
     Body,
 }
 
-/// The head behind which statements and bodies stand here.
+/// The head after which statements and bodies stand here.
 fn head(alloc: Global) -> Result<Head, Fail>
     ensures { IfOk result IsHead }
 {

@@ -71,7 +71,7 @@ pub fn refuse_at(
     Ok(())
 }
 
-/// Asserts of the texts that `head` and, behind it, a row stand for that their first fault
+/// Asserts of the texts that `head` and, after it, a row stand for that their first fault
 /// has this number, or that they are a kernel, where the number is 0.
 pub fn judge(
     rt: &impl Abort,

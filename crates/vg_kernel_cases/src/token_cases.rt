@@ -24,7 +24,7 @@ const TOO_LARGE: &[u8] = b" 170141183460469231731687303715884105728";
 /// 2^127 in hexadecimal digits.
 const TOO_LARGE_HEXADECIMAL: &[u8] = b"0x80000000000000000000000000000000";
 
-/// 10 behind many zeros.
+/// 10 after many zeros.
 const ZEROS_IN_FRONT: &[u8] = b"0x0000000000000000000000000000000000000a";
 
 /// 2^128 - 1.
@@ -86,7 +86,7 @@ fn tokens_stand_at_their_bytes_and_places(rt: HostRuntime) -> Result<(), Fail> {
     Ok(())
 }
 
-/// Asserts that the next word of a text is this sign, and goes behind it.
+/// Asserts that the next word of a text is this sign, and goes after it.
 fn expect_word(rt: &impl Abort, lexer: &mut Lexer, sign: &str) -> Result<(), Fail> {
     let Ok((word, rest)) = lexer.word() else {
         return Err("a word is missing".into());
@@ -130,7 +130,7 @@ fn expect_end(rt: &impl Abort, text: &[u8], line: u32, column: u32) {
     );
 }
 
-/// Whether the next word and the one behind it are the end, at this place.
+/// Whether the next word and the one after it are the end, at this place.
 fn ends_at(lexer: Lexer, place: Place) -> bool {
     let Ok((word, rest)) = lexer.word() else {
         return false;
@@ -151,7 +151,7 @@ fn the_end_stands_behind_the_last_byte_of_its_line(rt: HostRuntime) {
     expect_end(&rt, b"\n //", 2, 4);
 }
 
-/// The answer behind so many tokens, and the one behind that.
+/// The answer after so many tokens, and the one after that.
 fn answers_behind(
     rt: &impl Abort,
     text: &[u8],
@@ -165,7 +165,7 @@ fn answers_behind(
     (lexer.next(), lexer.next())
 }
 
-/// Asserts that behind so many tokens there is none at this place, however often it is asked.
+/// Asserts that after so many tokens there is none at this place, however often it is asked.
 fn expect_fault(rt: &impl Abort, text: &[u8], count: u32, line: u32, column: u32) {
     let place = Place { line, column };
     let (answer, again) = answers_behind(rt, text, count);
@@ -189,7 +189,7 @@ fn what_is_no_token_is_a_fault_for_ever(rt: HostRuntime) {
     expect_fault(&rt, TOO_LARGE_HEXADECIMAL, 0, 1, 1);
 }
 
-/// Whether a text begins with a token of a kind that ends behind so many bytes.
+/// Whether a text begins with a token of a kind that ends after so many bytes.
 fn begins_with(rt: &impl Abort, text: &[u8], kind: TokenKind, end: usize) -> bool {
     let token = Token {
         kind,

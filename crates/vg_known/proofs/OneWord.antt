@@ -67,6 +67,7 @@ one_word-sound = record {
   argument_terms = refl;
   unit_terms = (refl, refl);
   meaning = terms-mean;
+  cuts = inl refl;
 }
 
 two_bytes-keep : KeepsRules [] two_bytes

@@ -25,6 +25,7 @@ one_word = record {
   params = record { name = codes "d"; kind = Pointer false } ∷ [];
   units = Store (at 0) W16 (Constant 16 513) ∷ [];
   terms = Const 8 0 ∷ [];
+  cuts = [];
 }
 
 -- its upper byte is stored first, then the lower one

@@ -1,6 +1,6 @@
 //! What is known of the scalars and registers of a program without a run, and the first difference between a
 //! kernel and a program. Laws alone, as functions that cost nothing to call. `specs/Known.antt` tells what
-//! is known behind each line, `specs/Kernels.antt` what is of the values of a kernel, `specs/Cuts.antt` how
+//! is known after each line, `specs/Kernels.antt` what is of the values of a kernel, `specs/Cuts.antt` how
 //! terms are made and large ones cut, `specs/FirstLoads.antt` which loads read the same, and
 //! `specs/Difference.antt` what the first difference is.
 #![tactic(auto)]

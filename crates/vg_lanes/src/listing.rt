@@ -156,7 +156,7 @@ fn write_instance(
 }
 
 /// Appends the lines on an instance of this entry, whose immediate is `imm` if it has one, by its
-/// lanes as they were lifted: `instruction NAME`, with ` imm N` behind it; for each lane
+/// lanes as they were lifted: `instruction NAME`, with ` imm N` after it; for each lane
 /// `lane N TERM`, with the canonical form of its term, `lane N too large` or `lane N dynamic`; and
 /// `not packable CAUSE` where packs cannot call it. Each line ends with a line feed. Fails for want of
 /// memory alone, and then nothing is appended.

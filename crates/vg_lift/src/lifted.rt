@@ -44,7 +44,7 @@ fn parameters_given(_pool: &Pool, alloc: Global, parameters: u32) -> Result<Vec<
     Ok(all)
 }
 
-/// What the first registers of an instance are given: its parameters and behind them the immediate.
+/// What the first registers of an instance are given: its parameters and after them the immediate.
 #[tactic(auto, using(crate::proofs::Starting::first_of, crate::proofs::Starting::first_fit))]
 fn given_first(
     _pool: &Pool,

@@ -57,7 +57,7 @@ pub(crate) fn start_run(_pool: &Pool, bit: Bit) -> Run
     }
 }
 
-/// Whether a bit is the one behind so many from a bit on.
+/// Whether a bit is the one after so many from a bit on.
 fn is_behind(low: u32, count: u32, bit: u32) -> bool
     ensures { result ≡ nat_eq bit (low + count) }
 {

@@ -49,7 +49,7 @@ pub(crate) fn copy_bits(alloc: Global, bits: &[Bit]) -> Result<Items<Bit>, Alloc
     Ok(Items::from_vec(all))
 }
 
-/// The bits behind so many.
+/// The bits after so many.
 #[tactic(auto, using(crate::proofs::Puts::drop_most))]
 fn behind(bits: &[Bit], count: u128) -> &[Bit]
     ensures { result.now ≡ drop count bits.now }

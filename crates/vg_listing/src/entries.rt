@@ -2,22 +2,25 @@
 
 ghost use Rattle.std.specs.Prelude.{◌≡◌, ◌++◌, ◌<◌, ◌≤◌, ◌-◌, ℕ, IfOk, OnOk, map};
 ghost use Rattle.std.specs.List.{flat_map};
+ghost use Rattle.vg_catalog.specs.Catalogs.{entries_in};
 ghost use Rattle.vg_catalog.specs.Entries.{entry_of};
 ghost use Rattle.vg_catalog.specs.Written.{AllWritten};
+ghost use Rattle.vg_entry_lanes.specs.Laws.{HaveLanes};
 ghost use Rattle.vg_lift.specs.Instances.{HasInstance, HasLanes};
-ghost use Rattle.vg_listing.specs.Listed.{HaveLanes, entries_text, entry_text, lines_of};
+ghost use Rattle.vg_listing.specs.Listed.{entries_text, entry_text, lines_of};
 ghost use Rattle.vg_names.specs.Written.{IsWritten};
 ghost use Rattle.vg_range.specs.Checks.{header_in, operation_in};
 ghost use Rattle.vg_shapes.specs.Order.{numbers_from};
 
 use std::alloc::{AllocError, Global};
+use vg_catalog::Catalog;
 use vg_lanes::list_instance;
 use vg_lift::lanes_of;
 use vg_pool::Pool;
 use vg_range::Checked;
 
 /// Appends the lines on one instance of an entry.
-#[tactic(auto, using(crate::proofs::Lanes::are_lanes))]
+#[tactic(auto, using(vg_entry_lanes::proofs::Lanes::are_lanes))]
 fn list_lanes(
     pool: &mut Pool,
     alloc: Global,
@@ -75,15 +78,8 @@ fn list_entry(alloc: Global, entry: &Checked, to: &mut Vec<u8>) -> Result<(), Al
     }
 }
 
-/// The lines on all instances of entries, one entry behind the other. Each instance has the line
-/// `instruction NAME`, with ` imm N` behind it where it has an immediate; for each lane `lane N TERM`
-/// with its canonical term, `lane N too large` or `lane N dynamic`; and `not packable CAUSE` where
-/// packs cannot call it.
-///
-/// Fails for want of memory, also past 2^24 expressions kept while the script of an instance is
-/// written out, 2^24 nodes of the script of an instance or of the terms of an entry, or 2^21 bits of
-/// all registers of a body.
-pub fn list_entries(alloc: Global, entries: &[Checked]) -> Result<Vec<u8>, AllocError>
+// The lines on all instances of entries.
+fn list_all(alloc: Global, entries: &[Checked]) -> Result<Vec<u8>, AllocError>
     requires written { AllWritten (map entry_of entries.now) }
     requires lanes { HaveLanes (map entry_of entries.now) }
     ensures { IfOk result (λ bytes. bytes.items ≡ entries_text (map entry_of entries.now)) }
@@ -95,4 +91,18 @@ pub fn list_entries(alloc: Global, entries: &[Checked]) -> Result<Vec<u8>, Alloc
         left = behind;
     }
     Ok(to)
+}
+
+/// The lines on all instances of the entries of a catalogue, one entry after the other. Each instance
+/// has the line `instruction NAME`, with ` imm N` after it where it has an immediate; for each lane
+/// `lane N TERM` with its canonical term, `lane N too large` or `lane N dynamic`; and
+/// `not packable CAUSE` where packs cannot call it.
+///
+/// Fails for want of memory, also past 2^24 expressions kept while the script of an instance is
+/// written out, 2^24 nodes of the script of an instance or of the terms of an entry, or 2^21 bits of
+/// all registers of a body.
+pub fn list_entries(alloc: Global, catalog: &Catalog) -> Result<Vec<u8>, AllocError>
+    ensures { IfOk result (λ bytes. bytes.items ≡ entries_text (entries_in catalog.now)) }
+{
+    list_all(alloc, catalog.entries())
 }

@@ -6,7 +6,5 @@
 #![tactic(auto)]
 
 mod entries;
-mod law;
 
 pub use entries::list_entries;
-pub use law::files_have_lanes;

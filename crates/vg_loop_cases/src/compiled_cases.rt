@@ -3,7 +3,6 @@
 ghost use Rattle.std.specs.Prelude.{IfOk};
 ghost use Rattle.vg_catalog.specs.Called.{headers_of};
 ghost use Rattle.vg_catalog.specs.Catalogs.{entries_in};
-ghost use Rattle.vg_catalog.specs.Written.{AllWritten};
 ghost use Rattle.vg_looped.specs.Looped.{IsLooped};
 
 use crate::running::{Inputs, left_by_loop, left_by_looped, read};
@@ -12,8 +11,6 @@ use std::alloc::Global;
 use std::process::Abort;
 use std::test::Fail;
 use vg_catalog::{Catalog, Extensions, parse_file};
-use vg_instances::files_are_proper;
-use vg_listing::files_have_lanes;
 use vg_looped::{Looped, parse_looped, print_looped};
 use vg_loops::{Loop, compile_loop};
 
@@ -42,15 +39,12 @@ struct Compiled {
 }
 
 fn case_of(alloc: Global, instructions: &[u8], text: &str) -> Result<Compiled, Fail>
-    ensures written { IfOk result (λ c. AllWritten (entries_in c.catalog)) }
     ensures rules { IfOk result (λ c. IsLooped (headers_of (entries_in c.catalog)) c.looped) }
 {
-    files_have_lanes();
-    files_are_proper();
     let catalog = parse_file(alloc, instructions)?;
     let source = read(alloc, text)?;
     let set = Extensions::from_bits_retain(ALL);
-    let looped = compile_loop(alloc, &catalog, set, &source, WIDTH)?;
+    let looped = compile_loop(alloc, &catalog, set, &source, WIDTH, false)?;
     Ok(Compiled {
         catalog,
         source,
@@ -66,7 +60,6 @@ fn expect_same(
     inputs: Inputs<'_>,
     memory: &[u8],
 ) -> Result<(), Fail>
-    requires written { AllWritten (entries_in case.now.catalog) }
     requires rules { IsLooped (headers_of (entries_in case.now.catalog)) case.now.looped }
 {
     let entries = case.catalog.entries();

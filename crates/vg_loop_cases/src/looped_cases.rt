@@ -86,7 +86,7 @@ fn refuse_all(
     Ok(())
 }
 
-/// Asserts the same of rows that stand behind the parameters.
+/// Asserts the same of rows that stand after the parameters.
 fn refuse_first_lines(rt: &impl Abort, alloc: Global, rows: &str) -> Result<(), Fail> {
     let end = "|end cost 0 scalar 0|rest|end cost 0 scalar 0|end looped|";
     refuse_all(rt, alloc, "looped l(p: ptr, n: i8, q: ptr) ", rows, end)

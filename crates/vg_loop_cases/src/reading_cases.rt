@@ -8,7 +8,7 @@ use vg_loops::{loop_place, parse_loop};
 use vg_marked::unmarked;
 use vg_text::Place;
 
-/// Asserts of each row, a number and a text, that this text behind another is refused with this number
+/// Asserts of each row, a number and a text, that this text after another is refused with this number
 /// at its mark.
 fn refuse_all(rt: &impl Abort, alloc: Global, front: &str, rows: &str) -> Result<(), Fail> {
     for row in rows.trim().lines() {
@@ -30,7 +30,7 @@ fn refuse_all(rt: &impl Abort, alloc: Global, front: &str, rows: &str) -> Result
     Ok(())
 }
 
-/// Asserts the same of a loop over two pointers and a byte, the rows behind its parameters.
+/// Asserts the same of a loop over two pointers and a byte, the rows after its parameters.
 fn refuse_loops(rt: &impl Abort, alloc: Global, rows: &str) -> Result<(), Fail> {
     refuse_all(rt, alloc, "loop l(p: ptr, q: noalias ptr, n: i8) ", rows)
 }

@@ -43,7 +43,7 @@ fn put_pairs(
     Ok(())
 }
 
-/// What stands behind the name and the parameters in the first line.
+/// What stands after the name and the parameters in the first line.
 fn put_turns(
     alloc: Global,
     to: &mut Vec<u8>,

@@ -105,7 +105,7 @@ fn pairs_at<'a>(
     Err(ReadError::At(unfit(rest)))
 }
 
-/// What stands behind the name and the parameters in the first line.
+/// What stands after the name and the parameters in the first line.
 #[tactic(auto, unfolding(crate::specs::Grammar::turns_at))]
 fn turns_at<'a>(
     alloc: Global,
@@ -200,7 +200,7 @@ fn read(alloc: Global, text: &[u8], headers: &[Header]) -> Result<Looped, Progra
 ///
 /// An error is the first fault of the text, judged line by line from the top with the numbers of
 /// `ProgramFault`, or want of memory. In the first line a name that is no parameter is 4
-/// UnknownRegister, one of the other kind 5 WidthMismatch, a pointer that does not stand behind the
+/// UnknownRegister, one of the other kind 5 WidthMismatch, a pointer that does not stand after the
 /// one before it 2 Shape, and a step or a number of turns out of its range 8 Range.
 pub fn parse_looped(alloc: Global, text: &[u8], headers: &[Header]) -> Result<Looped, ProgramFault>
     // The result is the one that the definition names, unless memory ran out.

@@ -9,7 +9,7 @@ use Rattle.vg_catalog.specs.Called.{called_by, headers_of}
 use Rattle.vg_catalog.specs.Entries.{Entry}
 use Rattle.vg_compile.specs.Compiled.{IsCompiled}
 use Rattle.vg_compile.specs.Means.{kind_of, param_of}
-use Rattle.vg_compile.proofs.Sizes.{program-lines}
+use Rattle.vg_emit_laws.proofs.Lines.{program-lines}
 use Rattle.vg_instances.specs.Proper.{AreProper, IsProper}
 use Rattle.vg_kernel.specs.Cost.{scalar_cost, statement_cost, uses_of}
 use Rattle.vg_kernel.specs.declared.parameter.KParam.{KParam}
@@ -120,18 +120,18 @@ all-headers : (P : Header → Type 0) → ((h : Header) → IsProper h → P h) 
 all-headers P has [] all = tt
 all-headers P has (e ∷ es) all = (has e.header all.0, all-headers P has es all.1)
 
-lines-few : (entries : List Entry) (set : ℕ) (k : Tree) (width : ℕ) (p : Program) → AreProper entries → IsWellFormed k → IsCompiled entries set k width p → length p.lines ≤ 12288
-lines-few entries set k width p proper is compiled =
+lines-few : (entries : List Entry) (set : ℕ) (k : Tree) (width : ℕ) (more : Bool) (p : Program) → AreProper entries → IsWellFormed k → IsCompiled entries set k width more p → length p.lines ≤ 12288
+lines-few entries set k width more p proper is compiled =
     let some = all-headers (λ h. 1 ≤ h.cost) (λ h is. is.cost) entries proper.headers in
     omega (arith, program-lines (headers_of entries) p some compiled.valid.rules, compiled.cost, small k is)
 
 -- ---- the whole
 
-pub compiled-loop : (entries : List Entry) (set : ℕ) (l : Loop) (width : ℕ) (looped : Looped) → IsLoop l → AreProper entries
+pub compiled-loop : (entries : List Entry) (set : ℕ) (l : Loop) (width : ℕ) (more : Bool) (looped : Looped) → IsLoop l → AreProper entries
     → looped.turns ≡ turns_of l → looped.times ≡ l.times → looped.steps ≡ l.steps
-    → IsCompiled entries set (unrolled l (turns_of l)) width looped.block → IsCompiled entries set l.kernel width looped.rest
-    → IsCompiledLoop entries set l width looped
-compiled-loop entries set l width looped is proper turns times steps block rest =
+    → IsCompiled entries set (unrolled l (turns_of l)) width more looped.block → IsCompiled entries set l.kernel width more looped.rest
+    → IsCompiledLoop entries set l width more looped
+compiled-loop entries set l width more looped is proper turns times steps block rest =
     let most = turns-are-most l is.kernel in
     let ps = looped.block.params in
     let few_taken = all-headers (λ h. length h.params ≤ 4) (λ h is. is.few) entries proper.headers in
@@ -140,8 +140,8 @@ compiled-loop entries set l width looped is proper turns times steps block rest 
     ap length steps ∙ is.steps ∙ sym (pointers-same l.kernel.params) ∙ ap (λ qs. length (pointers qs)) (sym block.means.params) in
     let near = subst (AllByRecursion (λ s. s ≤ 65536)) (sym steps) is.small in
     let few : looped.turns ≤ 16 = subst (λ n. n ≤ 16) (sym turns) (few-turns l) in
-    let first = lines-few entries set (unrolled l (turns_of l)) width looped.block proper (unrolled-is-well_formed l (turns_of l) is.kernel most.keep) block in
-    let second = lines-few entries set l.kernel width looped.rest proper is.kernel rest in
+    let first = lines-few entries set (unrolled l (turns_of l)) width more looped.block proper (unrolled-is-well_formed l (turns_of l) is.kernel most.keep) block in
+    let second = lines-few entries set l.kernel width more looped.rest proper is.kernel rest in
     record {
       turns = turns;
       times = times;

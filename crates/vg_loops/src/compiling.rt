@@ -3,9 +3,6 @@
 ghost use Rattle.std.specs.Prelude.{◌≡◌, IfOk};
 ghost use Rattle.vg_catalog.specs.Catalogs.{entries_in};
 ghost use Rattle.vg_catalog.specs.Extensions.{bits_in};
-ghost use Rattle.vg_catalog.specs.Written.{AllWritten};
-ghost use Rattle.vg_instances.specs.Proper.{AreProper};
-ghost use Rattle.vg_listing.specs.Listed.{HaveLanes};
 ghost use Rattle.vg_loops.specs.CompiledLoop.{IsCompiledLoop};
 ghost use Rattle.vg_loops.specs.Formed.{IsLoop};
 ghost use Rattle.vg_loops.specs.View.{loop_of};
@@ -16,7 +13,7 @@ use crate::unrolling::unroll;
 use std::alloc::{AllocError, Global};
 use vg_base::Items;
 use vg_catalog::{Catalog, Extensions};
-use vg_compile::compile;
+use vg_compile::compile_by;
 use vg_looped::Looped;
 
 /// The looped text of a loop, whose programs may call the instructions of a catalogue whose
@@ -24,7 +21,7 @@ use vg_looped::Looped;
 ///
 /// It leaves the memory that the loop leaves and traps where a turn of the loop traps, in each layout
 /// in which the accesses of all turns respect noalias. Each of its programs is what `compile` gives
-/// for its kernel.
+/// for its kernel, or with `more` what `compile_more` gives.
 ///
 /// Fails for want of memory, also at the bounds of `compile`.
 pub fn compile_loop(
@@ -33,18 +30,16 @@ pub fn compile_loop(
     allowed: Extensions,
     source: &Loop,
     width: u32,
+    more: bool,
 ) -> Result<Looped, AllocError>
     requires source { IsLoop (loop_of source.now) }
-    requires written { AllWritten (entries_in catalog.now) }
-    requires lanes { HaveLanes (entries_in catalog.now) }
-    requires proper { AreProper (entries_in catalog.now) }
     ensures { IfOk result
-        (IsCompiledLoop (entries_in catalog.now) (bits_in allowed) (loop_of source.now) width) }
+        (IsCompiledLoop (entries_in catalog.now) (bits_in allowed) (loop_of source.now) width more) }
 {
     let turns = turns_of(source);
     let kernel = unroll(alloc, source, turns)?;
-    let block = compile(alloc, catalog, allowed, &kernel, width)?;
-    let rest = compile(alloc, catalog, allowed, &source.kernel, width)?;
+    let block = compile_by(alloc, catalog, allowed, &kernel, width, more)?;
+    let rest = compile_by(alloc, catalog, allowed, &source.kernel, width, more)?;
     let steps = Vec::from_slice(alloc, source.steps.as_slice())?;
     Ok(Looped {
         block,

@@ -3,7 +3,7 @@
 use vg_base::Items;
 use vg_kernel::Kernel;
 
-/// A loop: the kernel of a turn, run so many times, its pointers moved on behind each turn.
+/// A loop: the kernel of a turn, run so many times, its pointers moved on after each turn.
 #[derive(Drop)]
 pub struct Loop {
     pub kernel: Kernel,

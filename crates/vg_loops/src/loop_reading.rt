@@ -136,7 +136,7 @@ fn with_step(steps: Vec<u32>, pointer: u32, step: u32) -> Vec<u32>
     steps
 }
 
-/// Steps behind commas; there is room for one for each of these parameters.
+/// Steps after commas; there is room for one for each of these parameters.
 #[tactic(auto, unfolding(crate::specs::Reader::steps_behind))]
 fn steps_behind<'a>(
     room: &[KParam],
@@ -260,7 +260,7 @@ fn block<'a>(
     Ok((kernel, brace, lexer))
 }
 
-/// A whole loop, with nothing behind it.
+/// A whole loop, with nothing after it.
 #[tactic(auto, unfolding(crate::specs::Reader::loop_at))]
 fn looping<'a>(alloc: Global, lexer: Lexer<'a>) -> Result<Loop, KernelFault>
     ensures read { Gives loop_of result (loop_at (reading lexer.entry)) }
@@ -300,7 +300,7 @@ fn read(alloc: Global, text: &[u8]) -> Result<Loop, KernelFault>
 /// Where the text is none, the fault is the first that is met as it is read from left to right,
 /// with the place of its token; of two faults at one token the one with the greater number.
 /// `NoMovingStore` comes exactly where no store goes through a pointer with a step, at the brace
-/// that closes the statements, before what stands behind it. `TooLarge` comes exactly where the
+/// that closes the statements, before what stands after it. `TooLarge` comes exactly where the
 /// text has more than 262,144 bytes, and `LoopHere` never. `Memory` says nothing of the text.
 pub fn parse_loop(alloc: Global, text: &[u8]) -> Result<Loop, KernelFault>
     // What the reader answers, word by word: the loop, or the first fault and its place.

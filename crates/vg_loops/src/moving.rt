@@ -20,7 +20,7 @@ fn step_of(steps: &[u32], pointer: u32) -> u32
     }
 }
 
-/// The offset of an address behind so many turns, exactly.
+/// The offset of an address after so many turns, exactly.
 pub(crate) fn moved_offset(steps: &[u32], turn: u32, address: Address) -> i128
     ensures { result ≡ (moved_address steps.now turn address).offset }
 {
@@ -28,7 +28,7 @@ pub(crate) fn moved_offset(steps: &[u32], turn: u32, address: Address) -> i128
     address.offset as i128 + turn as i128 * step as i128
 }
 
-/// An address behind so many turns.
+/// An address after so many turns.
 fn moved_address(steps: &[u32], turn: u32, address: Address) -> Address
     requires { IsOffset (moved_address steps.now turn address).offset }
     ensures { result ≡ moved_address steps.now turn address }
@@ -39,7 +39,7 @@ fn moved_address(steps: &[u32], turn: u32, address: Address) -> Address
     }
 }
 
-/// An expression behind so many turns, which gave so many names.
+/// An expression after so many turns, which gave so many names.
 fn moved(
     alloc: Global,
     steps: &[u32],
@@ -154,7 +154,7 @@ fn moved(
     }
 }
 
-/// A statement behind so many turns, which gave so many names.
+/// A statement after so many turns, which gave so many names.
 pub(crate) fn moved_statement(
     alloc: Global,
     steps: &[u32],

@@ -16,7 +16,7 @@ pub fn turns_asked(times: u32, args: &[u64]) -> u64
     }
 }
 
-/// Whether there is a place for each step, below 2^64 behind so many turns too.
+/// Whether there is a place for each step, below 2^64 after so many turns too.
 fn stays(steps: &[u32], turns: u64, places: &[u64]) -> bool
     ensures { result ≡ stay_near steps.now turns places.now }
 {
@@ -36,7 +36,7 @@ fn stays(steps: &[u32], turns: u64, places: &[u64]) -> bool
 }
 
 /// Whether there is a place for each step, and the places that move by these steps stand below 2^64
-/// behind so many turns too, as a run of them wants it. Takes no memory.
+/// after so many turns too, as a run of them wants it. Takes no memory.
 pub fn stay_near(steps: &[u32], turns: u64, places: &[u64]) -> bool
     ensures exact { result ≡ stay_near steps.now turns places.now }
     ensures near { result ≡ true → StayNear steps.now turns places.now }

@@ -40,7 +40,7 @@ fn move_places(places: &mut [u64], steps: &[u32], count: u64)
     }
 }
 
-/// Runs so many blocks, each of so many turns, and moves the places on behind each. Behind a trap
+/// Runs so many blocks, each of so many turns, and moves the places on after each. After a trap
 /// places and memory may be any. Takes no memory.
 fn run_turns<T: Turn>(
     runner: &mut T,

@@ -31,7 +31,7 @@ fn names_given(statements: &[KStmt]) -> u32
     names
 }
 
-/// Appends the statements of the turn behind so many, which gave so many names.
+/// Appends the statements of the turn after so many, which gave so many names.
 fn put_turn(
     alloc: Global,
     to: &mut Vec<KStmt>,
@@ -72,7 +72,7 @@ fn unrolled_statements(alloc: Global, source: &Loop, turns: u32) -> Result<Vec<K
     Ok(unrolled)
 }
 
-/// The kernel of so many turns of a loop: its statements so many times, one turn behind the other,
+/// The kernel of so many turns of a loop: its statements so many times, one turn after the other,
 /// each with its offsets moved on by the turns before it and with names of its own.
 pub fn unroll(alloc: Global, source: &Loop, turns: u32) -> Result<Kernel, AllocError>
     requires well_formed { IsWellFormed (tree_of source.now.kernel) }

@@ -32,7 +32,7 @@ fn argument(vectors: &[Vector], registers: &[u32], at: usize) -> Reg<64>
     }
 }
 
-/// The arguments, and zeros behind them.
+/// The arguments, and zeros after them.
 #[tactic(auto, using(crate::proofs::Calls::four_are))]
 fn arguments(vectors: &[Vector], registers: &[u32]) -> [Reg<64>; 4]
     requires { length registers.now ≤ 4 }

@@ -9,9 +9,9 @@ use vg_text::place::{Place, place_after};
 /// A text without its mark.
 #[derive(Drop)]
 pub struct Marked {
-    /// The bytes in front of the mark, and those behind it.
+    /// The bytes in front of the mark, and those after it.
     pub text: Vec<u8>,
-    /// The place of what stands behind the mark.
+    /// The place of what stands after the mark.
     pub place: Place,
 }
 

@@ -3,8 +3,10 @@ pub mod Complete
 pub mod Lanes
 pub mod Laws
 pub mod Members
+pub mod Merging
 pub mod Right
 pub mod Roots
 pub mod Sorted
 pub mod Standing
 pub mod Tables
+pub mod Ways

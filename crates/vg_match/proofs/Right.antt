@@ -1,5 +1,5 @@
 -- What is found to fit does, with what is bound.
-use Rattle.std.proofs.Common.{◌≡◌, ℕ, Bool, true, false, List, [], ◌∷◌, ◌++◌, Option, Some, None, refl, sym, ap, subst, ◌∙◌, append_assoc, append-nil, get_or, inl}
+use Rattle.std.proofs.Common.{◌≡◌, ℕ, Bool, true, false, List, [], ◌++◌, Option, Some, None, refl, sym, ap, subst, ◌∙◌, append_assoc, append-nil, get_or, inl}
 use Rattle.std.specs.Prelude.{◌&&◌, ◌||◌, nat_eq, if◌then◌else◌}
 use Rattle.std.specs.List.{AllByRecursion, IsDistinct}
 use Rattle.std.specs.Option.{option_and_then}
@@ -11,14 +11,12 @@ use Rattle.vg_terms.specs.Term.{Tree, leaf, constant, one, two, sel, width_of}
 use Rattle.vg_terms.specs.Value.{same_key}
 use Rattle.vg_terms.proofs.Orders.{same_term, one_tag-same, two_tag-same}
 use Rattle.vg_shapes.specs.declared.match_table.Bound.{Bound}
-use Rattle.vg_shapes.specs.declared.ssa.Ssa.{Ssa}
 use Rattle.vg_shapes.specs.declared.wanted.Wanted.{Wanted}
 use Rattle.vg_shapes.specs.declared.wanted.Wanted.TheVariants.{Value, Constant, Nothing}
-use Rattle.vg_shapes.specs.Fits.{EachLeaf, Fits, has_leaf, is_compound, replaced, StandsFor, wanted_for}
-use Rattle.vg_shapes.specs.Sound.{term_at, terms_of}
+use Rattle.vg_shapes.specs.Fits.{EachLeaf, FitsBy, has_leaf, is_compound, replaced, StandsFor, wanted_for}
 use Rattle.vg_match.specs.Fit.{bind, fit, same_wanted, standing}
 use Rattle.vg_match.proofs.Binding.{bind-binds, Good, IsBound, leaf-itself}
-use Rattle.vg_match.proofs.Standing.{stands-is, stands-only, stands-something}
+use Rattle.vg_match.proofs.Standing.{Lists, stands-is, stands-only, stands-something}
 use Rattle.vg_match.proofs.Members.{all-append, all-weaker, some-same}
 use Rattle.vg_match.proofs.Complete.{fits, MayStand}
 
@@ -54,17 +52,17 @@ keeps-both a b c f g w k h =
 abbrev AreLeaves : Tree → List Bound → Type 0
 AreLeaves p bs = AllByRecursion (λ b. has_leaf b.width b.key p ≡ true) bs
 
-module _ (ssa : Ssa) (v : ℕ) where
-  stands-term : (t : Tree) (x : Wanted) → StandsFor ssa v t x → term_of (terms_of ssa) x ≡ t
-  stands-term t (Value u) h = get_or_from_slice_get (terms_of ssa) u t no_term h.2
+module _ (names : ℕ → Option Tree) (list : List Tree) (lists : Lists names list) (v : ℕ) where
+  stands-term : (t : Tree) (x : Wanted) → StandsFor names v t x → term_of list x ≡ t
+  stands-term t (Value u) h = get_or_from_slice_get list u t no_term ((lists u t h.0).1 h.2)
   stands-term t (Constant w n) h = sym h
   stands-term t Nothing h = absurd h
 
   -- with these bindings the term of a lane is the term of a value
   record Means (p t : Tree) (final : List Bound) : Type 0 where
-    pub whole : replaced (term_for (terms_of ssa) final) p ≡ t
-    pub widths : EachLeaf (λ w k. width_of (term_for (terms_of ssa) final w k) ≡ w) p
-    pub leaves : EachLeaf (λ w k. StandsFor ssa v (term_for (terms_of ssa) final w k) (wanted_for final w k)) p
+    pub whole : replaced (term_for list final) p ≡ t
+    pub widths : EachLeaf (λ w k. width_of (term_for list final w k) ≡ w) p
+    pub leaves : EachLeaf (λ w k. StandsFor names v (term_for list final w k) (wanted_for final w k)) p
 
   record Right (p t : Tree) (bound after : List Bound) : Type 0 where
     pub more : List Bound
@@ -74,11 +72,11 @@ module _ (ssa : Ssa) (v : ℕ) where
     pub keeps : Keeps bound after
     pub means : (final : List Bound) → Keeps after final → Means p t final
 
-  right-leaf : (w : ℕ) (k : LeafKey) (t : Tree) (bound after : List Bound) → Good bound → width_of t ≡ w → bind w k (standing (terms_of ssa) v t) bound ≡ Some after → Right (leaf w k) t bound after
+  right-leaf : (w : ℕ) (k : LeafKey) (t : Tree) (bound after : List Bound) → Good bound → width_of t ≡ w → bind w k (standing list v t) bound ≡ Some after → Right (leaf w k) t bound after
   right-leaf w k t bound after g wide e =
-      let x = standing (terms_of ssa) v t in
+      let x = standing list v t in
       let b = bind-binds w k x bound after g e in
-      let stands : StandsFor ssa v t x = stands-is ssa v t x refl b.something in
+      let stands : StandsFor names v t x = stands-is names list lists v t x refl b.something in
       let there : IsBound after w k = subst (λ y. same_wanted y Nothing ≡ false) (sym b.is) b.something in
       record {
         more = b.more;
@@ -90,21 +88,21 @@ module _ (ssa : Ssa) (v : ℕ) where
         keeps = b.keeps;
         means = λ final f.
             let is : wanted_for final w k ≡ x = f w k there ∙ b.is in
-            let same : term_for (terms_of ssa) final w k ≡ t = ap (term_of (terms_of ssa)) is ∙ stands-term t x stands in
+            let same : term_for list final w k ≡ t = ap (term_of list) is ∙ stands-term t x stands in
             record {
               whole = same;
               widths = ap width_of same ∙ wide;
-              leaves = subst (λ y. StandsFor ssa v y (wanted_for final w k)) (sym same) (subst (StandsFor ssa v t) (sym is) stands);
+              leaves = subst (λ y. StandsFor names v y (wanted_for final w k)) (sym same) (subst (StandsFor names v t) (sym is) stands);
             };
       }
 
   joined : (bound mid after m n : List Bound) → mid ≡ bound ++ m → after ≡ mid ++ n → after ≡ bound ++ (m ++ n)
   joined bound mid after m n e f = f ∙ ap (λ l. l ++ n) e ∙ append_assoc bound m n
 
-  right : (p t : Tree) (bound after : List Bound) → Good bound → fit (terms_of ssa) v p t bound ≡ Some after → Right p t bound after
+  right : (p t : Tree) (bound after : List Bound) → Good bound → fit list v p t bound ≡ Some after → Right p t bound after
   unfolding fit
   right (leaf w k) t bound after g e =
-      let c = if-some (nat_eq (width_of t) w) (bind w k (standing (terms_of ssa) v t) bound) after e in
+      let c = if-some (nat_eq (width_of t) w) (bind w k (standing list v t) bound) after e in
       right-leaf w k t bound after g (eqb-true (width_of t) w c.0) c.1
   right (constant w n) t bound after g e =
       let c = if-some (is_same_term (constant w n) t) (Some bound) after e in
@@ -118,7 +116,7 @@ module _ (ssa : Ssa) (v : ℕ) where
         means = λ final f. record { whole = same_term (constant w n) t c.0; widths = tt; leaves = tt };
       }
   right (one op w k x) (one o u j y) bound after g e =
-      let c = if-some (nat_eq (one_tag op) (one_tag o) && (nat_eq w u && nat_eq k j)) (fit (terms_of ssa) v x y bound) after e in
+      let c = if-some (nat_eq (one_tag op) (one_tag o) && (nat_eq w u && nat_eq k j)) (fit list v x y bound) after e in
       let a = and_parts (nat_eq (one_tag op) (one_tag o)) (nat_eq w u && nat_eq k j) c.0 in
       let d = and_parts (nat_eq w u) (nat_eq k j) a.1 in
       let s = right x y bound after g c.1 in
@@ -136,9 +134,9 @@ module _ (ssa : Ssa) (v : ℕ) where
             record { whole = λ i. one (eo i) (ew i) (ek i) (m.whole i); widths = m.widths; leaves = m.leaves };
       }
   right (two op w x y) (two o u p q) bound after g e =
-      let c = if-some (nat_eq (two_tag op) (two_tag o) && nat_eq w u) (option_and_then (fit (terms_of ssa) v y q) (fit (terms_of ssa) v x p bound)) after e in
+      let c = if-some (nat_eq (two_tag op) (two_tag o) && nat_eq w u) (option_and_then (fit list v y q) (fit list v x p bound)) after e in
       let a = and_parts (nat_eq (two_tag op) (two_tag o)) (nat_eq w u) c.0 in
-      let m = then-some (fit (terms_of ssa) v y q) (fit (terms_of ssa) v x p bound) after c.1 in
+      let m = then-some (fit list v y q) (fit list v x p bound) after c.1 in
       let s = right x p bound m.0 g m.1 in
       let z = right y q m.0 after s.good m.2 in
       let eo = two_tag-same op o (eqb-true (two_tag op) (two_tag o) a.0) in
@@ -157,9 +155,9 @@ module _ (ssa : Ssa) (v : ℕ) where
             record { whole = λ i. two (eo i) (ew i) (l.whole i) (r.whole i); widths = (l.widths, r.widths); leaves = (l.leaves, r.leaves) };
       }
   right (sel w c x y) (sel u d p q) bound after g e =
-      let a = if-some (nat_eq w u) (option_and_then (λ more. option_and_then (fit (terms_of ssa) v y q) (fit (terms_of ssa) v x p more)) (fit (terms_of ssa) v c d bound)) after e in
-      let m = then-some (λ more. option_and_then (fit (terms_of ssa) v y q) (fit (terms_of ssa) v x p more)) (fit (terms_of ssa) v c d bound) after a.1 in
-      let n = then-some (fit (terms_of ssa) v y q) (fit (terms_of ssa) v x p m.0) after m.2 in
+      let a = if-some (nat_eq w u) (option_and_then (λ more. option_and_then (fit list v y q) (fit list v x p more)) (fit list v c d bound)) after e in
+      let m = then-some (λ more. option_and_then (fit list v y q) (fit list v x p more)) (fit list v c d bound) after a.1 in
+      let n = then-some (fit list v y q) (fit list v x p m.0) after m.2 in
       let r = right c d bound m.0 g m.1 in
       let s = right x p m.0 n.0 r.good n.1 in
       let z = right y q n.0 after s.good n.2 in
@@ -190,12 +188,12 @@ module _ (ssa : Ssa) (v : ℕ) where
   nothing-bound = record { solid = tt; once = tt }
 
   -- what is found fits
-  pub found-fits : (p t : Tree) (bound : List Bound) → is_compound p ≡ true → term_at ssa v ≡ Some t → fit (terms_of ssa) v p t [] ≡ Some bound → Fits ssa p v bound
-  found-fits p t bound c at e =
+  pub found-fits : (terms : ℕ → Option Tree) (p t : Tree) (bound : List Bound) → is_compound p ≡ true → terms v ≡ Some t → fit list v p t [] ≡ Some bound → FitsBy terms names p v bound
+  found-fits terms p t bound c at e =
       let r = right p t [] bound nothing-bound e in
       let m = r.means bound (λ w k h. refl) in
       record {
-        by = term_for (terms_of ssa) bound;
+        by = term_for list bound;
         compound = c;
         widths = m.widths;
         whole = at ∙ ap Some (sym m.whole);
@@ -204,17 +202,17 @@ module _ (ssa : Ssa) (v : ℕ) where
         once = r.good.once;
       }
 
-  each-both : (by : ℕ → LeafKey → Tree) (bound : List Bound) (p : Tree) → EachLeaf (λ w k. width_of (by w k) ≡ w) p → EachLeaf (λ w k. StandsFor ssa v (by w k) (wanted_for bound w k)) p → EachLeaf (MayStand (terms_of ssa) v by) p
+  each-both : (by : ℕ → LeafKey → Tree) (bound : List Bound) (p : Tree) → EachLeaf (λ w k. width_of (by w k) ≡ w) p → EachLeaf (λ w k. StandsFor names v (by w k) (wanted_for bound w k)) p → EachLeaf (MayStand list v by) p
   each-both by bound (leaf w k) h g =
-      (h, subst (λ x. same_wanted x Nothing ≡ false) (sym (stands-only ssa v (by w k) (wanted_for bound w k) g)) (stands-something ssa v (by w k) (wanted_for bound w k) g))
+      (h, subst (λ x. same_wanted x Nothing ≡ false) (sym (stands-only names list lists v (by w k) (wanted_for bound w k) g)) (stands-something names v (by w k) (wanted_for bound w k) g))
   each-both by bound (constant w n) h g = tt
   each-both by bound (one op w k x) h g = each-both by bound x h g
   each-both by bound (two op w x y) h g = (each-both by bound x h.0 g.0, each-both by bound y h.1 g.1)
   each-both by bound (sel w c x y) h g = (each-both by bound c h.0 g.0, each-both by bound x h.1 g.1, each-both by bound y h.2 g.2)
 
   -- what fits is found
-  pub fit-found : (p t : Tree) (bound : List Bound) → term_at ssa v ≡ Some t → Fits ssa p v bound → (b : List Bound) × (fit (terms_of ssa) v p t [] ≡ Some b)
-  fit-found p t bound at f =
-      let r = fits (terms_of ssa) v f.by p [] (λ w k. inl refl) (each-both f.by bound p f.widths f.leaves) in
+  pub fit-found : (terms : ℕ → Option Tree) (p t : Tree) (bound : List Bound) → terms v ≡ Some t → FitsBy terms names p v bound → (b : List Bound) × (fit list v p t [] ≡ Some b)
+  fit-found terms p t bound at f =
+      let r = fits list v f.by p [] (λ w k. inl refl) (each-both f.by bound p f.widths f.leaves) in
       let same : replaced f.by p ≡ t = some-same _ _ (sym f.whole ∙ at) in
-      (r.after, subst (λ y. fit (terms_of ssa) v p y [] ≡ Some r.after) same r.is)
+      (r.after, subst (λ y. fit list v p y [] ≡ Some r.after) same r.is)

@@ -1,5 +1,5 @@
 -- What stands for a term below a value.
-use Rattle.std.proofs.Common.{◌≡◌, ℕ, zero, suc, ◌+◌, ◌<◌, ◌≤◌, [], ◌∷◌, Bool, true, false, List, Option, Some, None, get_or, refl, sym, ap, subst, ◌∙◌, inl, inr, arith}
+use Rattle.std.proofs.Common.{◌≡◌, ℕ, zero, suc, ◌+◌, ◌<◌, ◌≤◌, [], ◌∷◌, Bool, true, false, List, Option, Some, None, get_or, refl, sym, ap, subst, ◌∙◌, ◌↔◌, inl, inr, arith}
 use Rattle.std.specs.Prelude.{slice_get, nat_lt}
 use Rattle.std.specs.List.{position_from}
 use Rattle.std.proofs.lemmas.Iterator.Adapters.{position_from-zero}
@@ -10,11 +10,9 @@ use Rattle.vg_terms.specs.Order.{is_same_term}
 use Rattle.vg_terms.specs.Root.{is_constant}
 use Rattle.vg_terms.specs.Term.{Tree, leaf, constant, one, two, sel}
 use Rattle.vg_terms.proofs.Orders.{same_term, same_term-means}
-use Rattle.vg_shapes.specs.declared.ssa.Ssa.{Ssa}
 use Rattle.vg_shapes.specs.declared.wanted.Wanted.{Wanted}
 use Rattle.vg_shapes.specs.declared.wanted.Wanted.TheVariants.{Value, Constant, Nothing}
 use Rattle.vg_shapes.specs.Fits.{StandsFor}
-use Rattle.vg_shapes.specs.Sound.{terms_of}
 use Rattle.vg_match.specs.Least.{least_with}
 use Rattle.vg_match.specs.Fit.{same_wanted, standing, value_below}
 
@@ -65,39 +63,45 @@ least-only ts t u at least = by (least_with ts t) refl
         let same : i ≡ u = omega arith in
         e ∙ ap Some same
 
--- ---- in a kernel
+-- ---- by the names of values
 
-pub stands-something : (ssa : Ssa) (v : ℕ) (t : Tree) (x : Wanted) → StandsFor ssa v t x → same_wanted x Nothing ≡ false
-stands-something ssa v t (Value u) h = refl
-stands-something ssa v t (Constant w n) h = refl
-stands-something ssa v t Nothing h = absurd h
+-- a list has the names of values, but for constants
+abbrev pub Lists : (ℕ → Option Tree) → List Tree → Type 0
+Lists names list = (u : ℕ) (t : Tree) → is_constant t ≡ false → (slice_get list u ≡ Some t) ↔ (names u ≡ Some t)
 
-module _ (ssa : Ssa) (v : ℕ) where
-  below-is : (t : Tree) (x : Wanted) → is_constant t ≡ false → value_below v (least_with (terms_of ssa) t) ≡ x → same_wanted x Nothing ≡ false → StandsFor ssa v t x
-  below-is t x c e s = by (least_with (terms_of ssa) t) refl
+pub stands-something : (names : ℕ → Option Tree) (v : ℕ) (t : Tree) (x : Wanted) → StandsFor names v t x → same_wanted x Nothing ≡ false
+stands-something names v t (Value u) h = refl
+stands-something names v t (Constant w n) h = refl
+stands-something names v t Nothing h = absurd h
+
+module _ (names : ℕ → Option Tree) (list : List Tree) (lists : Lists names list) (v : ℕ) where
+  below-is : (t : Tree) (x : Wanted) → is_constant t ≡ false → value_below v (least_with list t) ≡ x → same_wanted x Nothing ≡ false → StandsFor names v t x
+  below-is t x c e s = by (least_with list t) refl
     where
-      by : (o : Option ℕ) → least_with (terms_of ssa) t ≡ o → StandsFor ssa v t x
+      by : (o : Option ℕ) → least_with list t ≡ o → StandsFor names v t x
       by None f = absurd (both_ways (same_wanted x Nothing) s (ap (λ y. same_wanted y Nothing) (sym e ∙ ap (value_below v) f)))
       by (Some u) f = elim (cases_Bool (nat_lt u v)) [
         | inl l ↦
-            let p = least-is (terms_of ssa) t u f in
+            let p = least-is list t u f in
             let is : Value u ≡ x = sym (ap (value_below v) f ∙ cond-true (nat_lt u v) (Value u) Nothing l) ∙ e in
-            subst (StandsFor ssa v t) is (c, ltb-true u v l, p.0, p.1)
+            subst (StandsFor names v t) is (c, ltb-true u v l, (lists u t c).0 p.0, λ y h. p.1 y ((lists y t c).1 h))
         | inr g ↦ absurd (both_ways (same_wanted x Nothing) s (ap (λ y. same_wanted y Nothing) (sym e ∙ ap (value_below v) f ∙ cond-false (nat_lt u v) (Value u) Nothing g)))
       ]
 
-  pub stands-is : (t : Tree) (x : Wanted) → standing (terms_of ssa) v t ≡ x → same_wanted x Nothing ≡ false → StandsFor ssa v t x
-  stands-is (constant w n) x e s = subst (StandsFor ssa v (constant w n)) e refl
+  pub stands-is : (t : Tree) (x : Wanted) → standing list v t ≡ x → same_wanted x Nothing ≡ false → StandsFor names v t x
+  stands-is (constant w n) x e s = subst (StandsFor names v (constant w n)) e refl
   stands-is (leaf w k) x e s = below-is (leaf w k) x refl e s
   stands-is (one op w k y) x e s = below-is (one op w k y) x refl e s
   stands-is (two op w y z) x e s = below-is (two op w y z) x refl e s
   stands-is (sel w c y z) x e s = below-is (sel w c y z) x refl e s
 
-  below-only : (t : Tree) (u : ℕ) → StandsFor ssa v t (Value u) → value_below v (least_with (terms_of ssa) t) ≡ Value u
-  below-only t u h = ap (value_below v) (least-only (terms_of ssa) t u h.2 h.3) ∙ cond-true (nat_lt u v) (Value u) Nothing (lt-ltb u v h.1)
+  below-only : (t : Tree) (u : ℕ) → StandsFor names v t (Value u) → value_below v (least_with list t) ≡ Value u
+  below-only t u h =
+      ap (value_below v) (least-only list t u ((lists u t h.0).1 h.2) (λ x g. h.3 x ((lists x t h.0).0 g)))
+      ∙ cond-true (nat_lt u v) (Value u) Nothing (lt-ltb u v h.1)
 
-  pub stands-only : (t : Tree) (x : Wanted) → StandsFor ssa v t x → standing (terms_of ssa) v t ≡ x
-  stands-only t (Constant w n) h = ap (standing (terms_of ssa) v) h
+  pub stands-only : (t : Tree) (x : Wanted) → StandsFor names v t x → standing list v t ≡ x
+  stands-only t (Constant w n) h = ap (standing list v) h
   stands-only t Nothing h = absurd h
   stands-only (constant w n) (Value u) h = absurd (cc (h.0))
   stands-only (leaf w k) (Value u) h = below-only (leaf w k) u h

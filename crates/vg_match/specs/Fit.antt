@@ -2,13 +2,14 @@
 -- leaves so far are bound to.
 use Rattle.std.specs.Prelude.{ℕ, ◌&&◌, Bool, true, false, List, [], ◌∷◌, ◌++◌, Option, Some, None, nat_eq, nat_lt, if◌then◌else◌}
 use Rattle.std.specs.Option.{option_and_then}
+use Rattle.vg_base.specs.Trap.{◌>>=◌}
 use Rattle.vg_terms.specs.declared.term.LeafKey.{LeafKey}
 use Rattle.vg_terms.specs.Order.{is_same_term, one_tag, two_tag}
 use Rattle.vg_terms.specs.Term.{Tree, leaf, constant, one, two, sel, width_of}
 use Rattle.vg_shapes.specs.declared.match_table.Bound.{Bound}
 use Rattle.vg_shapes.specs.declared.wanted.Wanted.{Wanted}
 use Rattle.vg_shapes.specs.declared.wanted.Wanted.TheVariants.{Value, Constant, Nothing}
-use Rattle.vg_shapes.specs.Fits.{wanted_for}
+use Rattle.vg_shapes.specs.Fits.{turned, wanted_for}
 use Rattle.vg_match.specs.Least.{least_with}
 
 -- a value where it is below another, else nothing
@@ -56,3 +57,9 @@ fit terms v (sel w c x y) (sel u d p q) bound =
 fit terms v (one op w k x) t bound = None
 fit terms v (two op w x y) t bound = None
 fit terms v (sel w c x y) t bound = None
+
+-- The term of a lane, an operation on two terms, against that of a value with the operands at its root
+-- exchanged.
+unfoldable pub fit_turned : List Tree → ℕ → Tree → Tree → List Bound → Option (List Bound)
+fit_turned names v (two op w x y) t bound = turned t >>= λ u. fit names v (two op w x y) u bound
+fit_turned names v _ t bound = None

@@ -1,8 +1,9 @@
 -- The lanes of descriptions that may compute values, and the roots of their terms.
-use Rattle.std.specs.Prelude.{ℕ, ◌+◌, ◌&&◌, Bool, List, [], ◌∷◌, ◌++◌, nat_eq, if◌then◌else◌}
+use Rattle.std.specs.Prelude.{ℕ, ◌+◌, ◌&&◌, Bool, true, List, [], ◌∷◌, ◌++◌, Option, Some, None, filter, nat_eq, if◌then◌else◌}
 use Rattle.std.specs.declared.cmp.Ordering.{Ordering}
 use Rattle.std.specs.List.Sorted.{IsSortedBy}
 use Rattle.std.specs.Ordering.{is_lt, nat_cmp, ordering_then}
+use Rattle.std.specs.Set.{sorted_merge}
 use Rattle.vg_terms.specs.Order.{tag_of}
 use Rattle.vg_terms.specs.Root.{amount_of}
 use Rattle.vg_terms.specs.Term.{Tree, width_of}
@@ -43,3 +44,16 @@ lanes_from d lane (t ∷ ts) =
 abbrev pub all_lanes : ℕ → List (List Tree) → List LaneAt
 all_lanes d [] = []
 all_lanes d (ts ∷ rest) = lanes_from d 0 ts ++ all_lanes (d + 1) rest
+
+-- by description, then lane
+abbrev pub place_cmp : LaneAt → LaneAt → Ordering
+place_cmp a b = ordering_then (nat_cmp a.description b.description) (nat_cmp a.lane b.lane)
+
+-- the lanes of the root of a term, in their order; none where there is no term
+abbrev pub lanes_like : List LaneAt → Option Tree → List LaneAt
+lanes_like all None = []
+lanes_like all (Some t) = filter (has_root (root_of t)) all
+
+-- the lanes of either root, in order
+abbrev pub lanes_near : List LaneAt → Option Tree → Option Tree → List LaneAt
+lanes_near all t c = sorted_merge place_cmp true (lanes_like all t) (lanes_like all c)

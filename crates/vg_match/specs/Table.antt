@@ -1,6 +1,6 @@
 -- The matches of all lanes with all values, as they are found: value by value, and for each value
 -- lane by lane.
-use Rattle.std.specs.Prelude.{ℕ, ◌+◌, List, [], ◌∷◌, ◌++◌, Option, filter, map, slice_get}
+use Rattle.std.specs.Prelude.{ℕ, zero, suc, ◌+◌, List, [], ◌++◌, Option, length, map, max, slice_get}
 use Rattle.std.specs.List.{filter_map}
 use Rattle.std.specs.Option.{option_map}
 use Rattle.vg_base.specs.Trap.{◌>>=◌}
@@ -8,8 +8,8 @@ use Rattle.vg_terms.specs.Term.{Tree, tree}
 use Rattle.vg_shapes.specs.declared.description.Description.{Description as Declared}
 use Rattle.vg_shapes.specs.declared.match_table.Match.{Match}
 use Rattle.vg_match.specs.declared.lane_list.LaneAt.{LaneAt}
-use Rattle.vg_match.specs.Fit.{fit}
-use Rattle.vg_match.specs.LaneList.{has_root, root_of}
+use Rattle.vg_match.specs.LaneList.{all_lanes, lanes_near}
+use Rattle.vg_match.specs.Values.{fit_first, ValueTerms}
 
 -- the terms of the lanes of descriptions
 abbrev pub lane_trees : List Declared → List (List Tree)
@@ -18,20 +18,30 @@ lane_trees descriptions = map (λ d. map tree d.lanes) descriptions
 abbrev pub lane_term : List (List Tree) → LaneAt → Option Tree
 lane_term lanes x = slice_get lanes x.description >>= λ ts. slice_get ts x.lane
 
--- the match of a lane with a value of this number and term, if they fit
-abbrev pub match_of : List (List Tree) → List Tree → ℕ → Tree → LaneAt → Option Match
-match_of lanes terms v t x =
+-- the match of a lane with a value of this number, if they fit
+abbrev pub match_of : List (List Tree) → ValueTerms → ℕ → LaneAt → Option Match
+match_of lanes values v x =
     option_map
     (λ bound. record { description = x.description; lane = x.lane; value = v; bound = bound })
-    (lane_term lanes x >>= λ p. fit terms v p t [])
+    (lane_term lanes x >>= fit_first values v)
 
--- the matches of a value with these lanes, of which those of its root are tried
-abbrev pub value_matches : List (List Tree) → List Tree → List LaneAt → ℕ → Tree → List Match
-value_matches lanes terms all v t =
-    filter_map (match_of lanes terms v t) (filter (has_root (root_of t)) all)
+-- the matches of a value with these lanes, of which those are tried that have the root of its term
+-- or of its cut term
+abbrev pub value_matches : List (List Tree) → ValueTerms → List LaneAt → ℕ → List Match
+value_matches lanes values all v =
+    filter_map (match_of lanes values v)
+    (lanes_near all (slice_get values.terms v) (slice_get values.cuts v))
 
--- those of values that have these terms, the first having this number
-abbrev pub matches_from : List (List Tree) → List Tree → List LaneAt → ℕ → List Tree → List Match
-matches_from lanes terms all v [] = []
-matches_from lanes terms all v (t ∷ ts) =
-    value_matches lanes terms all v t ++ matches_from lanes terms all (v + 1) ts
+-- those of so many values, the first having this number
+abbrev pub matches_from : List (List Tree) → ValueTerms → List LaneAt → ℕ → ℕ → List Match
+matches_from lanes values all v zero = []
+matches_from lanes values all v (suc n) =
+    value_matches lanes values all v ++ matches_from lanes values all (v + 1) n
+
+-- how many values have a term or a cut term
+abbrev pub count_of : ValueTerms → ℕ
+count_of values = max (length values.terms) (length values.cuts)
+
+-- all matches
+abbrev pub matches_of : List (List Tree) → ValueTerms → List Match
+matches_of lanes values = matches_from lanes values (all_lanes 0 lanes) 0 (count_of values)

@@ -2,7 +2,7 @@
 
 ghost use Rattle.std.specs.Prelude.{◌≡◌, ◌<◌, ◌^◌, IfOk, map};
 ghost use Rattle.std.specs.Option.{option_map};
-ghost use Rattle.vg_match.specs.Fit.{bind, fit, same_wanted, standing};
+ghost use Rattle.vg_match.specs.Fit.{bind, fit, fit_turned, same_wanted, standing};
 ghost use Rattle.vg_match.specs.Least.{AreByTerm};
 ghost use Rattle.vg_shapes.specs.Fits.{wanted_for};
 ghost use Rattle.vg_terms.specs.Term.{tree};
@@ -70,7 +70,7 @@ fn standing(least: &LeastValues<'_>, value: u32, t: &Term) -> Wanted
     }
 }
 
-// A leaf bound behind others. It may be bound to the same already.
+// A leaf bound after others. It may be bound to the same already.
 #[tactic(auto, unfolding(crate::specs::Fit::bind))]
 fn bind(
     width: u32,
@@ -96,7 +96,7 @@ fn bind(
     }
 }
 
-/// The leaves of the term of a lane, bound behind others to what stands for the parts of the term of
+/// The leaves of the term of a lane, bound after others to what stands for the parts of the term of
 /// a value, where the two fit.
 #[tactic(auto, unfolding(crate::specs::Fit::fit))]
 pub(crate) fn fit(
@@ -188,5 +188,47 @@ pub(crate) fn fit(
         (Term::One { .. }, _) => Ok(None),
         (Term::Two { .. }, _) => Ok(None),
         (Term::Sel { .. }, _) => Ok(None),
+    }
+}
+
+/// The same against the term with the operands at its root exchanged, where their order does not
+/// matter and the second is a constant. The term is not built.
+#[tactic(auto, unfolding(crate::specs::Fit::fit, crate::specs::Fit::fit_turned))]
+pub(crate) fn fit_turned(
+    least: &LeastValues<'_>,
+    value: u32,
+    lane: &Term,
+    t: &Term,
+    bound: Vec<Bound>,
+) -> Result<Option<Vec<Bound>>, AllocError>
+    requires { AreByTerm least.now }
+    ensures { IfOk result
+        (λ found. option_map (λ b. b.items) found
+        ≡ fit_turned (map tree least.now.terms.now) value (tree lane.now) (tree t.now) bound.items) }
+{
+    match (lane, t) {
+        (
+            Term::Two { op, width, x, y },
+            Term::Two {
+                op: o,
+                width: u,
+                x: p,
+                y: q,
+            },
+        ) => {
+            if o.makes_chains() && q.is_constant() {
+                if op.tag() == o.tag() && *width == *u {
+                    match fit(least, value, x, q, bound)? {
+                        Some(more) => fit(least, value, y, p, more),
+                        None => Ok(None),
+                    }
+                } else {
+                    Ok(None)
+                }
+            } else {
+                Ok(None)
+            }
+        }
+        _ => Ok(None),
     }
 }

@@ -1,14 +1,17 @@
 //! The lanes that may compute values, by the roots of their terms.
 
-ghost use Rattle.std.specs.Prelude.{◌≡◌, ◌++◌, IfOk, filter, map, not};
+ghost use Rattle.std.specs.Prelude.{◌≡◌, ◌++◌, IfOk, filter, map, not, true};
+ghost use Rattle.std.specs.Option.{option_map};
 ghost use Rattle.std.specs.Ordering.{is_lt};
 ghost use Rattle.std.specs.Result.{OnOk};
+ghost use Rattle.std.specs.Set.{sorted_merge};
 ghost use Rattle.vg_match.specs.declared.root.Root.{Root};
-ghost use Rattle.vg_match.specs.LaneList.{IsByRoot, all_lanes, has_root, lanes_from, root_cmp};
+ghost use Rattle.vg_match.specs.LaneList.{IsByRoot, all_lanes, has_root, lanes_from, lanes_like, lanes_near, place_cmp, root_cmp};
 ghost use Rattle.vg_terms.specs.Term.{tree};
 
 use crate::root::{Root, is_compound};
 use std::alloc::{AllocError, Global};
+use std::cmp::Ordering;
 use vg_shapes::Description;
 use vg_terms::Term;
 
@@ -18,6 +21,17 @@ pub(crate) struct LaneAt {
     pub(crate) root: Root,
     pub(crate) description: u32,
     pub(crate) lane: u32,
+}
+
+impl LaneAt {
+    /// An order of lanes: by description, then lane.
+    fn compare(&self, other: &LaneAt) -> Ordering
+        ensures { result ≡ place_cmp self.now other.now }
+    {
+        self.description
+            .cmp(&other.description)
+            .then(self.lane.cmp(&other.lane))
+    }
 }
 
 /// The lanes of the descriptions that are no leaf and no constant, by description, then lane.
@@ -70,15 +84,64 @@ pub(crate) fn sort_lanes(lanes: &mut Vec<LaneAt>) -> Result<(), AllocError>
     Ok(())
 }
 
-/// The lanes of a root, of lanes that are sorted by their roots. Takes no memory.
-pub(crate) fn group(lanes: &[LaneAt], root: Root) -> &[LaneAt]
+/// The lanes of the root of a term, of lanes that are sorted by their roots; none where there is no
+/// term. Takes no memory.
+pub(crate) fn lanes_like<'a>(lanes: &'a [LaneAt], term: Option<&Term>) -> &'a [LaneAt]
+    requires { IsByRoot lanes.now }
+    ensures { result.now ≡ lanes_like lanes.now (option_map (λ t. tree t.now) term.entry) }
+{
+    match term {
+        Some(t) => group(lanes, Root::of(t)),
+        None => &lanes[..0],
+    }
+}
+
+/// Lanes of two roots in one order: by description, then lane. A lane of both stands there once.
+pub(crate) fn merge(
+    alloc: Global,
+    first: &[LaneAt],
+    second: &[LaneAt],
+) -> Result<Vec<LaneAt>, AllocError>
+    ensures { IfOk result
+        (λ lanes. lanes.items ≡ sorted_merge place_cmp true first.now second.now) }
+{
+    let mut all = Vec::new(alloc);
+    let mut xs = first;
+    let mut ys = second;
+    'lanes: while let [x, behind_x @ ..] = xs {
+        let [y, behind_y @ ..] = ys else {
+            all.extend_from_slice(xs)?;
+            return Ok(all);
+        };
+        match x.compare(y) {
+            Ordering::Less => {
+                all.push(*x)?;
+                xs = behind_x;
+            }
+            Ordering::Equal => {
+                all.push(*x)?;
+                xs = behind_x;
+                ys = behind_y;
+            }
+            Ordering::Greater => {
+                all.push(*y)?;
+                ys = behind_y;
+            }
+        }
+    }
+    all.extend_from_slice(ys)?;
+    Ok(all)
+}
+
+// The lanes of a root, of lanes that are sorted by their roots. Takes no memory.
+fn group(lanes: &[LaneAt], root: Root) -> &[LaneAt]
     requires { IsByRoot lanes.now }
     ensures { result.now ≡ filter (has_root root) lanes.now }
 {
     up_to(from(lanes, root), root)
 }
 
-// The lanes of this root and of those behind it.
+// The lanes of this root and of those after it.
 fn from(lanes: &[LaneAt], root: Root) -> &[LaneAt]
     requires { IsByRoot lanes.now }
     ensures { result.now ≡ filter (λ x. not (is_lt (root_cmp x.root root))) lanes.now }

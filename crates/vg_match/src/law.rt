@@ -3,7 +3,7 @@
 ghost use Rattle.vg_match.specs.Laws.{BoundEarlier, FoundFit, LanesHaveNumbers, OneBinding, ReachedHave};
 
 /// A law that costs nothing to call: what is found in a table of all matches for a lane and a value
-/// is what the leaves of the lane are bound to where it fits the value.
+/// is what the leaves of the lane are bound to by the first way in which it fits the value.
 pub fn found_matches_fit()
     ensures { FoundFit }
 {}
@@ -18,13 +18,15 @@ pub fn bound_values_are_earlier()
     ensures { BoundEarlier }
 {}
 
-/// A law: where a run of units reaches values, their terms have their numbers.
+/// A law: where a run of units reaches values of a sound kernel, their terms have their numbers, and
+/// so have their cut terms and names, if there are any.
 pub fn reached_terms_have_numbers()
     ensures { ReachedHave }
 {}
 
-/// A law: a term that fits a value has the number of the value in registers whose bits have the
-/// numbers of what its leaves are bound to. So a lane of which the term is true has it.
+/// A law: a term that fits a value, whole, cut or turned, has the number of the value in registers
+/// whose bits have the numbers of what its leaves are bound to. So a lane of which the term is true
+/// has it.
 pub fn lanes_have_numbers()
     ensures { LanesHaveNumbers }
 {}

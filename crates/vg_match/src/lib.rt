@@ -6,8 +6,10 @@ mod lane_list;
 mod law;
 mod least;
 mod matching;
+mod names;
 mod root;
 mod table;
+mod values;
 
 pub use law::{
     bound_values_are_earlier, found_matches_fit, lanes_have_numbers, reached_terms_have_numbers,

@@ -10,7 +10,8 @@ use std::alloc::{AllocError, Global};
 use vg_shapes::{Description, MatchTable, Ssa};
 
 /// The table of all lanes of descriptions and all values of a kernel that they fit, with what the
-/// leaves of each lane are bound to.
+/// leaves of each lane are bound to. A lane fits a value whole, else cut, else turned; where the
+/// kernel has no cut terms, whole alone.
 ///
 /// Fails for want of memory, or where there are more than `2 ^ 24` descriptions, lanes of a
 /// description, or values, or more than `2 ^ 24` matches and bound leaves together.
@@ -23,6 +24,6 @@ pub fn build(
         (λ table. AreMatches (map description_of descriptions.now) ssa.now table) }
     ensures order { IfOk result (λ table. IsTable table) }
 {
-    let matches = all_matches(alloc, descriptions, ssa.terms.as_slice())?;
+    let matches = all_matches(alloc, descriptions, ssa)?;
     Ok(MatchTable::from_vec(matches))
 }

@@ -7,3 +7,5 @@ mod matches;
 mod shown;
 #[cfg(test)]
 mod terms;
+#[cfg(test)]
+mod wide;

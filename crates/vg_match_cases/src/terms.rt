@@ -56,5 +56,6 @@ pub fn kernel(alloc: Global, terms: Vec<Term>) -> Result<Ssa, AllocError> {
         params: Items::from_vec(Vec::new(alloc)),
         units: Items::from_vec(Vec::new(alloc)),
         terms: Items::from_vec(terms),
+        cuts: Items::from_vec(Vec::new(alloc)),
     })
 }

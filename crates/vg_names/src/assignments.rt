@@ -151,7 +151,7 @@ pub(crate) fn collect<'a>(
     }
 }
 
-/// The assignments of the first statement of these, and what stands behind it.
+/// The assignments of the first statement of these, and what stands after it.
 #[cycle(assignments)]
 fn first<'a>(
     alloc: Global,

@@ -44,7 +44,7 @@ pub(crate) fn code_of<'a>(
     }
 }
 
-/// The first statement of these and what stands behind it, if there is one.
+/// The first statement of these and what stands after it, if there is one.
 #[cycle(code)]
 fn next<'a>(
     alloc: Global,

@@ -299,7 +299,7 @@ fn all_resolved(
     }
 }
 
-/// The first of these arguments and those behind it, if there is one.
+/// The first of these arguments and those after it, if there is one.
 #[cycle(expressions)]
 fn next_argument<'a>(
     alloc: Global,

@@ -12,7 +12,7 @@ pub fn resolved_operations_are_proper()
 
 /// A law that costs nothing to call: an operation that is read from a text says no number of an arm
 /// and no highest bit of 2^127 or more. A lexer stands in a text so that this holds of what is read
-/// there, and it goes on to hold behind each word and behind the operation.
+/// there, and it goes on to hold after each word and after the operation.
 pub fn operations_that_are_read_are_written()
     ensures { ReadAreWritten }
 {}

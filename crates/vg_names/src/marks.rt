@@ -119,7 +119,7 @@ pub(crate) fn mark_in<'a>(
     }
 }
 
-/// Those of the first statement of these, and what stands behind it.
+/// Those of the first statement of these, and what stands after it.
 #[cycle(marks_in)]
 fn mark_first<'a>(
     alloc: Global,

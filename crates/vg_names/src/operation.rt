@@ -40,7 +40,7 @@ fn define_names(alloc: Global, define: &Define) -> Result<BodyNames, AllocError>
     body_names(alloc, given, &marked, &define.body)
 }
 
-/// A DEFINE behind those of these names.
+/// A DEFINE after those of these names.
 fn resolved_define(
     alloc: Global,
     before: &LastNames,
@@ -52,7 +52,7 @@ fn resolved_define(
     resolved_function(alloc, &names.registers, &names.variables, before, define)
 }
 
-/// The DEFINEs in their order, each behind those before it.
+/// The DEFINEs in their order, each after those before it.
 fn resolved_defines(alloc: Global, defines: &[Define]) -> Result<Defined, NameFault>
     ensures functions { Gives (λ d. map function_view d.functions.items) result (functions_of [] (map define_of defines.now)) }
     ensures names { IfOk result (λ d. d.names ≡ map (λ d. d.name) (map define_of defines.now)) }

@@ -1,4 +1,4 @@
-//! Statements without those behind them.
+//! Statements without those after them.
 
 ghost use Rattle.std.specs.Prelude.{Ok, map};
 ghost use Rattle.vg_pseudo.specs.Resolved.{stop};
@@ -11,7 +11,7 @@ use crate::resolved::{Code, ResolvedExpr, Target};
 use std::alloc::Global;
 use vg_text::Place;
 
-/// A statement, or a way or an arm, without those behind it.
+/// A statement, or a way or an arm, without those after it.
 #[derive(Drop)]
 pub(crate) enum Piece {
     Assign {
@@ -35,7 +35,7 @@ pub(crate) enum Piece {
         condition: Box<ResolvedExpr>,
         body: Box<Code>,
     },
-    /// The last way of an IF, whose statements stand behind it.
+    /// The last way of an IF, whose statements stand after it.
     Last,
     Pick {
         selector: Box<ResolvedExpr>,
@@ -61,7 +61,7 @@ pub(crate) fn linked(alloc: Global, mut done: Vec<Piece>) -> Result<Code, NameFa
     Ok(code)
 }
 
-/// A statement with these behind it.
+/// A statement with these after it.
 fn joined(alloc: Global, piece: Piece, code: Code) -> Result<Code, NameFault>
     ensures { Gives code_view result (Ok (behind piece (code_view code))) }
 {

@@ -28,7 +28,7 @@ pub enum ResolvedExpr {
         spot: Spot,
         is_signed: bool,
         register: usize,
-        /// n, where the text of the high index is that of the low one and `+ n` behind it.
+        /// n, where the text of the high index is that of the low one and `+ n` after it.
         spread: Option<u128>,
         high: Box<ResolvedExpr>,
         low: Box<ResolvedExpr>,
@@ -76,7 +76,7 @@ pub enum ResolvedExpr {
     },
 }
 
-/// The arguments of a call in their order, each with those behind it.
+/// The arguments of a call in their order, each with those after it.
 #[cycle(resolved)]
 pub enum ResolvedArguments {
     End,
@@ -128,7 +128,7 @@ pub enum Target {
     },
 }
 
-/// Statements, each with those behind it. The ways of an IF and the arms of a CASE are lists of the
+/// Statements, each with those after it. The ways of an IF and the arms of a CASE are lists of the
 /// same kind, so that neither of them nests.
 pub enum Code {
     /// The end of a list.
@@ -246,7 +246,7 @@ impl Drop for Code {
 /// The statements of an operation or of a DEFINE, with what they stand on.
 #[derive(Drop)]
 pub struct Body {
-    /// The widths of the registers in bits, by their numbers. Parameters come first; behind those
+    /// The widths of the registers in bits, by their numbers. Parameters come first; after those
     /// of the operation the immediate, where there is one, and then dst.
     pub widths: Items<u128>,
     /// How many of the registers are parameters, the immediate counted.

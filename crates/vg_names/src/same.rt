@@ -203,7 +203,7 @@ fn all_same(first: &Arguments, second: &Arguments) -> bool
     }
 }
 
-/// n, where an index is another one with `+ n` behind it, the number n being one literal.
+/// n, where an index is another one with `+ n` after it, the number n being one literal.
 pub(crate) fn spread(high: &Expr, low: &Expr) -> Option<u128>
     ensures { result ≡ spread (expression_of high.now) (expression_of low.now) }
 {

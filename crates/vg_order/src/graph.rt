@@ -237,7 +237,7 @@ fn settle(
     Ok(home)
 }
 
-// The numbers of the nodes of all units. Those that no pack owns are put behind the other nodes.
+// The numbers of the nodes of all units. Those that no pack owns are put after the other nodes.
 fn homes(
     alloc: Global,
     list: &mut NodeList,

@@ -169,7 +169,7 @@ fn nodes_at(alloc: Global, nodes: &[Node], numbers: &[u32]) -> Result<Vec<Node>,
         .collect(alloc)
 }
 
-/// An order of the packs of a plan and the units outside them, each of them once and behind all units
+/// An order of the packs of a plan and the units outside them, each of them once and after all units
 /// on which it depends by a list; else units whose nodes wait for each other in a circle. A call depends
 /// on the units to which its lanes are bound. Looks at each pair of the list once or twice.
 ///

@@ -36,6 +36,7 @@ fn kernel(alloc: Global, count: usize) -> Result<Ssa, AllocError>
         params: Items::from_vec(Vec::new(alloc)),
         units: Items::from_vec(units),
         terms: Items::from_vec(Vec::new(alloc)),
+        cuts: Items::from_vec(Vec::new(alloc)),
     })
 }
 

@@ -72,7 +72,7 @@ fn a_pack_that_depends_on_itself_is_a_cycle(rt: HostRuntime) -> Result<(), Fail>
     Ok(())
 }
 
-// A pack stands where its first unit is reached, and behind what its other units wait for.
+// A pack stands where its first unit is reached, and after what its other units wait for.
 #[test]
 fn a_pack_waits_for_all_its_units(rt: HostRuntime) -> Result<(), Fail> {
     let alloc = rt.alloc();

@@ -8,7 +8,7 @@ pub fn units_commute()
     ensures { UnitsCommute }
 {}
 
-/// Where each node of an order stands behind the units on which it depends, the units of the order run
+/// Where each node of an order stands after the units on which it depends, the units of the order run
 /// as all units do in the order of their numbers.
 pub fn legal_orders_run()
     ensures { LegalOrdersRun }

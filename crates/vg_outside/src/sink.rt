@@ -20,7 +20,7 @@ pub trait Sink {
     /// How often it failed.
     ghost faults: { Self → ℕ };
 
-    /// Writes the bytes behind what was written. On `Err` only some of the first were written.
+    /// Writes the bytes after what was written. On `Err` only some of the first were written.
     fn write(&mut self, bytes: &[u8]) -> Result<(), SinkFault>
         ensures whole { OnOk result (Appends (written self.old) bytes.now (written self.new)) }
         ensures front { OnErr result (AppendsFront (written self.old) bytes.now (written self.new)) }

@@ -32,7 +32,7 @@ impl Words {
         }
     }
 
-    /// Adds a copy of the word behind the others. On `Err`, for want of memory, nothing changes.
+    /// Adds a copy of the word after the others. On `Err`, for want of memory, nothing changes.
     pub fn push(&mut self, word: &[u8]) -> Result<(), AllocError>
         ensures added { OnOk result (self.new ≡ self.old ++ word.now ∷ []) }
         ensures unchanged { OnErr result (self.new ≡ self.old) }
@@ -49,7 +49,7 @@ impl Words {
         self.words.len()
     }
 
-    /// The words behind the first so many.
+    /// The words after the first so many.
     pub fn behind(&self, count: usize) -> &[Bytes]
         requires { count ≤ length self.now }
         ensures { result.now ≡ drop count self.now }

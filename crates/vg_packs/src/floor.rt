@@ -1,4 +1,4 @@
-//! Numbers below which a plan needs no look when a pack is tried behind it.
+//! Numbers below which a plan needs no look when a pack is tried after it.
 
 ghost use Rattle.std.specs.Prelude.{◌≡◌, ◌<◌, ◌≤◌, ◌⊎◌, IfOk, false, get_or, length};
 ghost use Rattle.std.specs.List.{filter_map};

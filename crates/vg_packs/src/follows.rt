@@ -80,7 +80,7 @@ pub fn produced(
     Ok(packs)
 }
 
-/// The packs that are tried behind a plan: the store groups of the kernel, then for each pack of the plan
+/// The packs that are tried after a plan: the store groups of the kernel, then for each pack of the plan
 /// those that produce its operands. Where a pack of the plan has more than 64 loads or stores, or more
 /// than some 2^24 lanes, there is no memory.
 pub fn tried(
@@ -106,7 +106,7 @@ fn is_among(pack: &Pack, packs: &[Pack]) -> bool
     packs.iter().any(|other| is_same_pack(pack, other))
 }
 
-/// Whether a pack may follow a plan that has no cycle: it is one of those that are tried behind the plan,
+/// Whether a pack may follow a plan that has no cycle: it is one of those that are tried after the plan,
 /// and the plan stays one with it. Any pack may be asked. The dependences name units alone. Where a pack
 /// of the plan has more than 64 loads or stores, or more than some 2^24 lanes, there is no memory.
 pub fn compatible(

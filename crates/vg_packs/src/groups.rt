@@ -22,7 +22,7 @@ fn places(size: usize, width: Width) -> usize
     }
 }
 
-/// The units of the stores from one on, each right behind the one before, at most so many.
+/// The units of the stores from one on, each right after the one before, at most so many.
 fn run_from(
     alloc: Global,
     links: &[Link],

@@ -105,7 +105,7 @@ impl GrowingPlan {
         Ok(floor)
     }
 
-    /// Whether the plan stays one with a pack behind it.
+    /// Whether the plan stays one with a pack after it.
     pub(crate) fn stays(
         &self,
         alloc: Global,
@@ -131,7 +131,7 @@ impl GrowingPlan {
         Ok(!reached)
     }
 
-    /// Puts a pack behind the plan, which stays one with it.
+    /// Puts a pack after the plan, which stays one with it.
     pub(crate) fn push(
         &mut self,
         alloc: Global,

@@ -123,7 +123,7 @@ fn begins_with(wanted: &[Slot], low: u64, width: u32, lane: Option<u32>) -> bool
     }
 }
 
-/// The slots behind a lane.
+/// The slots after a lane.
 fn rest_behind(wanted: &[Slot], lane: Option<u32>) -> &[Slot]
     ensures { result.now ≡ rest_behind wanted.now lane }
 {

@@ -14,7 +14,7 @@ use vg_shapes::{Slot, Ssa, Unit};
 /// The greatest number of values that an operand may want.
 const MOST: usize = 1 << 24;
 
-/// Whether a unit is the load of a width from so many bytes behind an address.
+/// Whether a unit is the load of a width from so many bytes after an address.
 fn loads_from(unit: Option<Unit>, first: Address, bytes: u64, width: Width) -> bool
     ensures { result ≡ loads_from (behind first bytes) width unit }
 {

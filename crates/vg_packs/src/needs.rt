@@ -64,7 +64,7 @@ pub(crate) fn is_in_plan(plan: &[Pack], unit: u32) -> bool
     plan.iter().any(|pack| has_unit(pack, unit))
 }
 
-/// On what units depend, one behind the other.
+/// On what units depend, one after the other.
 fn rows_of(alloc: Global, deps: &DepList, units: &[u32]) -> Result<Vec<u32>, AllocError>
     ensures { IfOk result (λ needs. needs.items ≡ flat_map (row_of deps.now) units.now) }
 {

@@ -22,7 +22,7 @@ pub(crate) struct PlacedStore {
     pub rank: usize,
 }
 
-/// A store, and the one of the same width and rank at the place behind it, by its index among stores.
+/// A store, and the one of the same width and rank at the place after it, by its index among stores.
 #[derive(Clone, Copy)]
 pub(crate) struct Link {
     /// The number of its unit.
@@ -40,7 +40,7 @@ impl PlacedStore {
             && (self.address.offset == address.offset && self.width.bits() == width.bits())
     }
 
-    /// Whether another store has its width and rank and stands right behind it in memory.
+    /// Whether another store has its width and rank and stands right after it in memory.
     fn is_next(&self, other: &PlacedStore) -> bool
         ensures { result ≡ is_next self.now other.now }
     {
@@ -119,14 +119,14 @@ fn link_in(stores: &[PlacedStore], store: &PlacedStore) -> Link
     }
 }
 
-/// Stores with those that stand right behind them. Takes one look at two stores each.
+/// Stores with those that stand right after them. Takes one look at two stores each.
 pub(crate) fn links_of(alloc: Global, stores: &[PlacedStore]) -> Result<Vec<Link>, AllocError>
     ensures { IfOk result (λ links. links.items ≡ links_of stores.now) }
 {
     stores.iter().map(|s| link_in(stores, s)).collect(alloc)
 }
 
-/// The store behind one, if there is one.
+/// The store after one, if there is one.
 pub(crate) fn link_behind(links: &[Link], next: Option<usize>) -> Option<Link>
     ensures { result ≡ link_behind links.now next }
 {

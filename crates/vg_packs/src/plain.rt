@@ -69,7 +69,7 @@ fn first_queue(
     Ok(queue)
 }
 
-/// Puts a pack behind a plan, if the plan stays one with it.
+/// Puts a pack after a plan, if the plan stays one with it.
 fn push_if_stays(
     alloc: Global,
     plan: &mut GrowingPlan,
@@ -148,7 +148,7 @@ fn first_that_stays(
     Ok(None)
 }
 
-/// Takes one operand that waited: puts the first pack behind the plan that produces it and with which
+/// Takes one operand that waited: puts the first pack after the plan that produces it and with which
 /// the plan stays one, unless it needs none, and has the operands of that pack wait.
 fn turn(
     alloc: Global,

@@ -14,7 +14,7 @@ use crate::walk::{end_of_units, overlaps, reaches_itself};
 use std::alloc::{AllocError, Global};
 use vg_shapes::{DepList, MatchTable, Pack, Ssa};
 
-/// Marks of the units of a plan, by which packs are tried behind it one after the other.
+/// Marks of the units of a plan, by which packs are tried after it one after the other.
 #[derive(Drop)]
 pub struct PlanMarks {
     marks: Vec<bool>,
@@ -40,7 +40,7 @@ impl PlanMarks {
         overlaps(self.marks.as_slice(), plan, pack)
     }
 
-    /// Whether the plan, which has no cycle, stays one with a pack behind it: no unit of the pack is in
+    /// Whether the plan, which has no cycle, stays one with a pack after it: no unit of the pack is in
     /// it, and no unit of the pack depends on another by way of units outside it. The dependences name
     /// units alone.
     pub fn stays_plan(

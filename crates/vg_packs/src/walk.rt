@@ -1,4 +1,4 @@
-//! Whether a plan stays one with a pack behind it.
+//! Whether a plan stays one with a pack after it.
 
 ghost use Rattle.std.specs.Prelude.{◌≡◌, ◌+◌, ◌<◌, ◌≤◌, ℕ, [], All, IfOk, OnOk, false, get_or, length, replicate, true};
 ghost use Rattle.std.specs.List.{filter_map, list_any};
@@ -73,7 +73,7 @@ fn walk_down(
     Ok(false)
 }
 
-/// The first number behind those of all units.
+/// The first number after those of all units.
 pub(crate) fn end_of_units(ssa: &Ssa) -> Result<usize, AllocError>
     ensures { IfOk result (λ end. end ≡ arguments ssa.now + length ssa.now.units) }
 {
@@ -205,7 +205,7 @@ pub(crate) fn overlaps(packed: &[bool], plan: &[Pack], pack: &Pack) -> bool
     }
 }
 
-/// Whether a plan that has no cycle stays one with a pack behind it: no unit of the pack is in it, and
+/// Whether a plan that has no cycle stays one with a pack after it: no unit of the pack is in it, and
 /// no unit of the pack depends on another by way of units outside it. The dependences name units alone.
 pub fn stays_plan(
     alloc: Global,

@@ -24,7 +24,7 @@ fn shown_rows(alloc: Global, deps: &DepList, numbers: u32) -> Result<String, Fai
     Ok(text)
 }
 
-// Each line: parameters, a body, and the rows of its units. Numbers begin behind the integer parameters.
+// Each line: parameters, a body, and the rows of its units. Numbers begin after the integer parameters.
 const DEPENDENCES: &str = "
 d: ptr, p: ptr => store32(d, load32(p)); store32(d + 4, load32(p + 4)); => 1: 0, 2: 1, 3: 2 0
 d: noalias ptr, p: ptr => store32(d, load32(p)); store32(d + 4, load32(p + 4)); => 1: 0, 3: 2

@@ -13,7 +13,7 @@ use crate::label_numbers::LabelNumbers;
 use std::alloc::{AllocError, Global};
 use vg_shapes::Access;
 
-/// For each label how many events of a kernel are left behind those that lines have, and the least label
+/// For each label how many events of a kernel are left after those that lines have, and the least label
 /// of which they have more than the kernel.
 #[derive(Drop)]
 pub(crate) struct Balance {

@@ -53,7 +53,8 @@ module _ {P O N : Type 0} (w : World P O N) where
   abbrev IsOpen : List P → O → Type 0
   IsOpen plan o = (p : P) × Has p plan × Has o (w.operands_of p)
 
-  still-open : (plan : List P) (p : P) (queue : List O) → Every (IsOpen plan) queue → Every (IsOpen (plan ++ p ∷ [])) queue
+  still-open : (plan : List P) (p : P) (queue : List O) → Every (IsOpen plan) queue
+      → Every (IsOpen (plan ++ p ∷ [])) queue
   still-open plan p [] open_ = tt
   still-open plan p (o ∷ queue) open_ =
       ((open_.0.0, has-append_left open_.0.0 plan (p ∷ []) open_.0.1, open_.0.2), still-open plan p queue open_.1)
@@ -79,7 +80,8 @@ module _ {P O N : Type 0} (w : World P O N) where
       pub walked : WalksTo w plan queue (walk w turns plan queue)
       pub stays : (m : ℕ) → turns ≤ m → walk w m plan queue ≡ walk w turns plan queue
 
-    joined-in-time : (turns : ℕ) (plan : List P) (o : O) (queue : List O) (p : P) → length (w.operands_of p) ≤ 2 * length (w.units_of p)
+    joined-in-time : (turns : ℕ) (plan : List P) (o : O) (queue : List O) (p : P)
+        → length (w.operands_of p) ≤ 2 * length (w.units_of p)
         → IsInTime (suc turns) plan (o ∷ queue) → IsInTime turns (plan ++ p ∷ []) (queue ++ w.operands_of p)
     joined-in-time turns plan o queue p most in_time =
         omega (arith, most, in_time, one-more w.units_of plan p, length-append queue (w.operands_of p))
@@ -110,14 +112,17 @@ module _ {P O N : Type 0} (w : World P O N) where
           (first_producer w plan o) refl
     ]
       where
-        later : (m : ℕ) → suc turns ≤ m → ((k : ℕ) → turns ≤ k → walk w (suc k) plan (o ∷ queue) ≡ walk w (suc turns) plan (o ∷ queue))
+        later : (m : ℕ) → suc turns ≤ m
+            → ((k : ℕ) → turns ≤ k → walk w (suc k) plan (o ∷ queue) ≡ walk w (suc turns) plan (o ∷ queue))
             → walk w m plan (o ∷ queue) ≡ walk w (suc turns) plan (o ∷ queue)
         later zero l same = absurd (omega (arith, l))
         later (suc k) l same = same k (omega (arith, l))
 
         by : is_settled w plan o ≡ false → (Unit {0} → Ends turns plan queue)
-            → ((p : P) → Every (IsOpen (plan ++ p ∷ [])) (queue ++ w.operands_of p) → IsPlan (follows w) (plan ++ p ∷ [])
-            → IsInTime turns (plan ++ p ∷ []) (queue ++ w.operands_of p) → Ends turns (plan ++ p ∷ []) (queue ++ w.operands_of p))
+            → ((p : P) → Every (IsOpen (plan ++ p ∷ [])) (queue ++ w.operands_of p) → IsPlan (follows w)
+            (plan ++ p ∷ [])
+            → IsInTime turns (plan ++ p ∷ []) (queue ++ w.operands_of p)
+            → Ends turns (plan ++ p ∷ []) (queue ++ w.operands_of p))
             → (found : Option P) → first_producer w plan o ≡ found → Ends (suc turns) plan (o ∷ queue)
         by f without with_ None e =
             let rest = without tt in
@@ -130,10 +135,12 @@ module _ {P O N : Type 0} (w : World P O N) where
             let tries = producer-tried plan o p open_.0 found.0 in
             let grown = more plan p is (has-filter (stays_plan w plan) p (tried w plan) tries found.1) in
             let waits = every-append (IsOpen (plan ++ p ∷ [])) queue (w.operands_of p) (still-open plan p queue open_.1)
-            (each-open (plan ++ p ∷ []) (w.operands_of p) (λ q h. (p, has-append_right p plan (p ∷ []) (inl refl), h))) in
+            (each-open (plan ++ p ∷ []) (w.operands_of p)
+            (λ q h. (p, has-append_right p plan (p ∷ []) (inl refl), h))) in
             let rest = with_ p waits grown (joined-in-time turns plan o queue p (two plan p tries) in_time) in
             record {
-              walked = rw (f, e) (joined plan (walk w turns (plan ++ p ∷ []) (queue ++ w.operands_of p)) o queue p f e rest.walked);
+              walked = rw (f, e) (joined plan (walk w turns (plan ++ p ∷ []) (queue ++ w.operands_of p)) o queue p f
+                  e rest.walked);
               stays = λ m l. later m l (λ k less. rw (f, e) (rest.stays k less));
             }
 
@@ -171,9 +178,11 @@ module _ {P O N : Type 0} (w : World P O N) where
   settled-more plan p o t = elim (cases_Bool (is_reused w plan o)) [
     | inl u ↦
         let k = any-found (λ q. w.holds q o) plan u in
-        let again : is_reused w (plan ++ p ∷ []) o ≡ true = any-is (λ q. w.holds q o) k.0 (plan ++ p ∷ []) (has-append_left k.0 plan (p ∷ []) k.1) k.2 in
+        let again : is_reused w (plan ++ p ∷ []) o ≡ true = any-is (λ q. w.holds q o) k.0 (plan ++ p ∷ [])
+        (has-append_left k.0 plan (p ∷ []) k.1) k.2 in
         rw again refl
-    | inr f ↦ (let constant : w.is_constant o ≡ true = rw f at t in rw constant (either (is_reused w (plan ++ p ∷ []) o)))
+    | inr f ↦ (let constant : w.is_constant o ≡ true = rw f at t in rw constant
+        (either (is_reused w (plan ++ p ∷ []) o)))
   ]
     where
       either : (b : Bool) → (b || true) ≡ true
@@ -185,7 +194,13 @@ module _ {P O N : Type 0} (w : World P O N) where
     | inl t ↦ inl (settled-more plan p o t)
     | inr r ↦ elim r [
       | inl made ↦ inr (inl (made.0, has-append_left made.0 plan (p ∷ []) made.1, made.2))
-      | inr none ↦ inr (inr (none.0, none.1 ++ p ∷ [], ap (λ ps. ps ++ p ∷ []) none.2 ∙ append_assoc none.0 none.1 (p ∷ []), none.3))
+      | inr none ↦ inr (inr (
+        none.0,
+        none.1 ++ p ∷ [],
+        ap (λ ps. ps ++ p ∷ []) none.2 ∙ append_assoc none.0 none.1
+            (p ∷ []),
+        none.3,
+      ))
     ]
   ]
 
@@ -193,7 +208,8 @@ module _ {P O N : Type 0} (w : World P O N) where
   abbrev AllTried : List P → List O → Type 0
   AllTried plan queue = (p : P) (o : O) → Has p plan → Has o (w.operands_of p) → Has o queue ⊎ IsTried w plan o
 
-  first-tried : (plan : List P) (o : O) (queue : List O) → IsTried w plan o → AllTried plan (o ∷ queue) → AllTried plan queue
+  first-tried : (plan : List P) (o : O) (queue : List O) → IsTried w plan o → AllTried plan (o ∷ queue)
+      → AllTried plan queue
   first-tried plan o queue is all p q h k = elim (all p q h k) [
     | inl waits ↦ elim waits [
       | inl e ↦ inr (subst (IsTried w plan) e is)
@@ -202,17 +218,24 @@ module _ {P O N : Type 0} (w : World P O N) where
     | inr t ↦ inr t
   ]
 
-  pub walked-tried : (plan last : List P) (queue : List O) → WalksTo w plan queue last → AllTried plan queue → AllTried last []
+  pub walked-tried : (plan last : List P) (queue : List O) → WalksTo w plan queue last → AllTried plan queue
+      → AllTried last []
   walked-tried _ _ _ (ended plan) all = all
   walked-tried _ _ _ (settled plan last o queue t rest) all =
       walked-tried plan last queue rest (first-tried plan o queue (inl t) all)
   walked-tried _ _ _ (left plan last o queue f e rest) all =
       walked-tried plan last queue rest (first-tried plan o queue (inr (inr (plan, [], sym (append-nil plan), e))) all)
   walked-tried _ _ _ (joined plan last o queue p f e rest) all =
-      walked-tried (plan ++ p ∷ []) last (queue ++ w.operands_of p) rest (λ q x h k. elim (has-append q plan (p ∷ []) h) [
+      walked-tried (plan ++ p ∷ []) last (queue ++ w.operands_of p) rest
+      (λ q x h k. elim (has-append q plan (p ∷ []) h) [
         | inl old ↦ elim (all q x old k) [
           | inl waits ↦ elim waits [
-            | inl same ↦ inr (subst (IsTried w (plan ++ p ∷ [])) same (inr (inl (p, has-append_right p plan (p ∷ []) (inl refl), (find-is (stays_plan w plan) (w.producers o) p e).0))))
+            | inl same ↦ inr (subst (IsTried w (plan ++ p ∷ [])) same
+                (inr (inl (
+                  p,
+                  has-append_right p plan (p ∷ []) (inl refl),
+                  (find-is (stays_plan w plan) (w.producers o) p e).0,
+                ))))
             | inr r ↦ inl (has-append_left x queue (w.operands_of p) r)
           ]
           | inr t ↦ inr (tried-more plan p x t)
@@ -228,11 +251,14 @@ module _ {P O N : Type 0} (w : World P O N) where
 
   module _ (n : ℕ) (two : TakeTwo) (few : HaveUnits n) where
     -- of the plain plan all operands are tried
-    pub plain-tried : (p : P) (o : O) → Has p (plain_plan w (2 * n)) → Has o (w.operands_of p) → IsTried w (plain_plan w (2 * n)) o
+    pub plain-tried : (p : P) (o : O) → Has p (plain_plan w (2 * n)) → Has o (w.operands_of p)
+        → IsTried w (plain_plan w (2 * n)) o
     plain-tried p o h k =
         let start = with_groups w [] w.groups in
-        let waits : AllTried start (flat_map w.operands_of start) = λ q x has own. inl (has-flat_map w.operands_of q x start has own) in
-        elim (walked-tried start (plain_plan w (2 * n)) (flat_map w.operands_of start) (plain-walks n two few) waits p o h k) [
+        let waits : AllTried start (flat_map w.operands_of start) = λ q x has own. inl
+        (has-flat_map w.operands_of q x start has own) in
+        elim (walked-tried start (plain_plan w (2 * n)) (flat_map w.operands_of start) (plain-walks n two few) waits
+        p o h k) [
           | inl none ↦ absurd none
           | inr t ↦ t
         ]

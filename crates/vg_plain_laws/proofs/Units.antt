@@ -37,7 +37,8 @@ use Rattle.vg_plain_laws.proofs.Ends.{HaveUnits, TakeTwo, plain-stays, plain-tri
 
 -- ---- operands
 
-operands-counted : (bounds : List Bound) (k : ℕ) (params : List ℕ) → length (operands_from bounds k params) ≡ length params
+operands-counted : (bounds : List Bound) (k : ℕ) (params : List ℕ)
+    → length (operands_from bounds k params) ≡ length params
 operands-counted bounds k [] = refl
 operands-counted bounds k (register ∷ params) = ap suc (operands-counted bounds (suc k) params)
 
@@ -79,7 +80,8 @@ module _ (ds : List Description) (matches : List Match) (ssa : Ssa) where
 
   tried-two : (deps : List (ℕ × ℕ)) → TakeFew ds → TakeTwo (packing ds matches ssa deps)
   tried-two deps few plan p h =
-      elim (has-append p (store_groups ssa) (flat_map (λ q. flat_map (producers ds matches ssa) (operands_of ds matches ssa q)) plan) h) [
+      elim (has-append p (store_groups ssa) (flat_map
+      (λ q. flat_map (producers ds matches ssa) (operands_of ds matches ssa q)) plan) h) [
         | inl l ↦ group-two p ((groups-listed ssa).right p l)
         | inr r ↦
             let q = from-flat_map (λ q. flat_map (producers ds matches ssa) (operands_of ds matches ssa q)) p plan r in
@@ -95,7 +97,8 @@ module _ (ds : List Description) (matches : List Match) (ssa : Ssa) where
 counted-has : (v : ℕ) (vs : List ℕ) → Has v vs → 0 < count_of v vs
 counted-has v [] h = absurd h
 counted-has v (u ∷ vs) h = elim h [
-  | inl e ↦ (let one : one_if (nat_eq v u) ≡ 1 = ap one_if (subst (λ y. nat_eq v y ≡ true) (sym e) (eq-itself v)) in omega (arith, one))
+  | inl e ↦ (let one : one_if (nat_eq v u) ≡ 1 = ap one_if (subst (λ y. nat_eq v y ≡ true) (sym e) (eq-itself v)) in
+      omega (arith, one))
   | inr r ↦ (let rest = counted-has v vs r in omega (arith, rest))
 ]
 
@@ -110,19 +113,23 @@ once-unique (u ∷ vs) once = (
   once-unique vs (λ v. let most = once v in omega (arith, most)),
 )
 
-plan-units : (ds : List Description) (matches : List Match) (ssa : Ssa) (deps : List (ℕ × ℕ)) → IsSound ssa → AreMatches ds ssa matches
+plan-units : (ds : List Description) (matches : List Match) (ssa : Ssa) (deps : List (ℕ × ℕ)) → IsSound ssa
+    → AreMatches ds ssa matches
     → HaveUnits (packing ds matches ssa deps) (length ssa.units)
 plan-units ds matches ssa deps sound are plan is =
     let packs = plan-packs ds matches ssa deps plan sound are is in
-    let unique = once-unique (packed plan) (λ v. let most = packs.once v in omega (arith, most, one-most (is_unit ssa v))) in
-    let inside = unique-length (packed plan) (falling_units ssa) unique (λ v h. units-listed ssa v (unit-is v (is_unit ssa v) refl (packs.once v) (counted-has v (packed plan) h))) in
+    let unique = once-unique (packed plan) (λ v. let most = packs.once v in omega
+    (arith, most, one-most (is_unit ssa v))) in
+    let inside = unique-length (packed plan) (falling_units ssa) unique
+    (λ v h. units-listed ssa v (unit-is v (is_unit ssa v) refl (packs.once v) (counted-has v (packed plan) h))) in
     omega (arith, inside, units-counted ssa, total-flat units_of plan)
   where
     one-most : (b : Bool) → one_if b ≤ 1
     one-most true = omega arith
     one-most false = omega arith
 
-    unit-is : (v : ℕ) (b : Bool) → is_unit ssa v ≡ b → count_of v (packed plan) ≤ one_if b → 0 < count_of v (packed plan) → is_unit ssa v ≡ true
+    unit-is : (v : ℕ) (b : Bool) → is_unit ssa v ≡ b → count_of v (packed plan) ≤ one_if b
+        → 0 < count_of v (packed plan) → is_unit ssa v ≡ true
     unit-is v true e most some = e
     unit-is v false e most some = absurd (omega (arith, most, some))
 

@@ -12,6 +12,7 @@ use Rattle.vg_shapes.specs.RunUnits.{Reached, run_units, start_of}
 use Rattle.vg_shapes.specs.Sound.{IsSound}
 use Rattle.vg_shapes.specs.Units.{arguments, integers}
 use Rattle.vg_match.specs.Laws.{TermsHave}
+use Rattle.vg_match.proofs.Laws.{reached-have}
 use Rattle.vg_packing.specs.Taken.{operands_from, operands_of}
 use Rattle.vg_emission.specs.Emission.{Job, no_description, operand_at, pack_at, takes_at}
 use Rattle.vg_emission.specs.Laws.{IsRun}
@@ -42,7 +43,7 @@ given ssa places memory args last sound run =
       long =
           run-long places ssa.units (start_of memory args) last run.runs ∙ ap
           (λ n. n + length ssa.units) started;
-      have = sound.meaning places memory args (length ssa.units) last run.bytes run.arguments
+      have = reached-have ssa places memory args (length ssa.units) last sound run.bytes run.arguments
           (ap (λ (us : List Work). run_units places us (start_of memory args)) whole ∙ run.runs);
     }
 
@@ -53,7 +54,7 @@ runs-stay ssa places memory args last sound run v w wide =
     let low = term-low ssa v t.0 sound t.1 in
     let long = g.long in
     value-fits _ ssa v w (slice_index last.numbers v) t.0 sound t.1 t.2
-    (g.have v t.0 (omega arith) t.1)
+    ((g.have).terms v t.0 (omega arith) t.1)
 
 -- ---- calls
 

@@ -20,7 +20,7 @@ use Rattle.vg_shapes.specs.declared.ssa.Ssa.{Ssa}
 use Rattle.vg_shapes.specs.declared.wanted.Wanted.{Wanted}
 use Rattle.vg_shapes.specs.declared.wanted.Wanted.TheVariants.{Value, Constant, Nothing}
 use Rattle.vg_shapes.specs.Description.{Description, IsLane, IsPackable}
-use Rattle.vg_shapes.specs.Fits.{EachLeaf, Fits, StandsFor, wanted_for}
+use Rattle.vg_shapes.specs.Fits.{EachLeaf, FitsWide, wanted_for}
 use Rattle.vg_shapes.specs.Leaves.{bit_number}
 use Rattle.vg_shapes.specs.Matches.{AreMatches, lane_at}
 use Rattle.vg_shapes.specs.Pack.{bounds_from, match_at}
@@ -40,8 +40,8 @@ use Rattle.vg_program.specs.Meaning.{lane_number}
 use Rattle.vg_plan_relations.proofs.Agreeing.{slot-there}
 use Rattle.vg_plan_relations.proofs.Fitting.{found-fit, lane-term, param-there}
 use Rattle.vg_plan_relations.proofs.Lists.{all-has, get-has}
-use Rattle.vg_plan_laws.proofs.Fitted.{each-both, each-inside, entry-of, IsInside, stands-wanted}
-use Rattle.vg_plan_laws.proofs.Terms.{term-low}
+use Rattle.vg_plan_laws.proofs.Fitted.{each-both, each-inside, each-wanted, entry-of, fitted, IsInside}
+use Rattle.vg_shapes.proofs.ValueTerms.{unit-above}
 
 pub all-get : {X : Type 0} (P : X → Type 0) (xs : List X) (k : ℕ) (x : X) → AllByRecursion P xs
     → slice_get xs k ≡ Some x → P x
@@ -130,7 +130,7 @@ module _ (numbers : List ℕ) (bounds : List Bound) (ps : List ℕ) (rs : List (
   -- a lane has the number of the value that it fits
   lane-number-is : (ssa : Ssa) (x : Description) (t : Tree) (v : ℕ) (bound : List Bound)
       → TermsHave ssa numbers → v < length numbers
-      → ((b : Bound) → Has b bound → Has b bounds) → IsLane ps x.lane_width t → Fits ssa t v bound
+      → ((b : Bound) → Has b bound → Has b bounds) → IsLane ps x.lane_width t → FitsWide ssa t v bound
       → value (env_of rs) t ≡ slice_index numbers v
   lane-number-is ssa x t v bound have low into lane f =
       let both =
@@ -138,9 +138,8 @@ module _ (numbers : List ℕ) (bounds : List Bound) (ps : List ℕ) (rs : List (
       (λ w k p q. (p, q)) t (each-some t lane.formed) (each-inside ps t lane.inside) in
       let all =
       each-both (λ w k. (0 < w) × IsInside ps w k)
-      (λ w k. StandsFor ssa v (f.by w k) (wanted_for bound w k)) (HasNumber rs numbers bound)
-      (λ w k p q. leaf-number bound into w k p.0 p.1
-      (stands-wanted ssa v (f.by w k) (wanted_for bound w k) q)) t both f.leaves in
+      (λ w k. is_wanted (wanted_for bound w k) ≡ true) (HasNumber rs numbers bound)
+      (λ w k p q. leaf-number bound into w k p.0 p.1 q) t both (each-wanted ssa t v bound f) in
       lanes-have-numbers ssa numbers t v bound rs have low f
       (filled-registers (slice_index numbers) bounds 0 ps rs fill).bits all
 
@@ -172,12 +171,12 @@ module _ (ds : List Description) (matches : List Match) (ssa : Ssa) (numbers : L
     (fill : FillEach (slice_index numbers) (operands_from bounds 0 x.params) rs)
     (answers : Answers x rs register) where
   lane-has : (lane v : ℕ) (m : Match) (t : Tree) → match_at matches d lane v ≡ Some m
-      → lane_at ds d lane ≡ Some t → Fits ssa t v m.bound
+      → lane_at ds d lane ≡ Some t → FitsWide ssa t v m.bound
       → ((b : Bound) → Has b m.bound → Has b bounds)
       → lane_number x.lane_width lane register ≡ slice_index numbers v
   lane-has lane v m t e at f into =
       let own = lane-term ds d lane x t there at in
-      let low = term-low ssa v _ sound f.whole in
+      let low = (unit-above ssa v _ (fitted ssa t v m.bound sound f).at).1 in
       lane-mean (env_of rs) x.lane_width lane x.lanes register t answers.lanes own
       ∙ lane-number-is numbers bounds x.params rs fill ssa x t v m.bound have (omega arith) into
       (all-get (IsLane x.params x.lane_width) x.lanes lane t packable.lanes own) f

@@ -1,9 +1,12 @@
 -- What a lane that fits a value tells of the value, and of what the leaves of the lane are bound
 -- to.
-use Rattle.std.proofs.Common.{◌≡◌, ℕ, ◌+◌, ◌^◌, ◌<◌, ◌≤◌, true, false, List, [], ◌∷◌, ◌++◌, Some, refl, sym, ap, subst, ◌∙◌, inl, inr, get_or}
-use Rattle.std.specs.Prelude.{◌&&◌, nat_eq}
+use Rattle.std.proofs.Common.{◌≡◌, ℕ, ◌+◌, ◌^◌, ◌<◌, ◌≤◌, true, false, List, [], ◌∷◌, ◌++◌, Some, refl, sym, ap, subst, ◌∙◌, ◌⊎◌, inl, inr, get_or}
+use Rattle.std.specs.Prelude.{◌&&◌, if◌then◌else◌, nat_eq, Option}
 use Rattle.std.specs.List.{AllByRecursion, IsDistinct}
-use Rattle.std.proofs.lemmas.Bool.{cases_Bool, cond-false, cond-true, or_cases}
+use Rattle.std.proofs.lemmas.Bool.{cases_Bool, cases_lt, cond-false, cond-true, le-ltb, lt-ltb, or_cases}
+use Rattle.std.proofs.lemmas.Option.{none-some}
+use Rattle.vg_base.specs.Trap.{◌>>=◌}
+use Rattle.vg_base.specs.Width.{bits_of}
 use Rattle.vg_base.specs.declared.width.Width.{Width}
 use Rattle.vg_plans.specs.Members.{Has}
 use Rattle.vg_plans.proofs.Lists.{has-append_left, has-append_right}
@@ -20,15 +23,19 @@ use Rattle.vg_shapes.specs.declared.unit.Unit.{Unit as Work}
 use Rattle.vg_shapes.specs.declared.unit.Unit.TheVariants.{Load, Store, Operation}
 use Rattle.vg_shapes.specs.declared.wanted.Wanted.{Wanted}
 use Rattle.vg_shapes.specs.declared.wanted.Wanted.TheVariants.{Value, Constant, Nothing}
-use Rattle.vg_shapes.specs.Fits.{EachLeaf, Fits, has_leaf, is_compound, replaced, same_leaf, StandsFor, wanted_for}
+use Rattle.vg_shapes.specs.Fits.{EachLeaf, FitsBy, FitsWide, has_leaf, is_compound, replaced, same_leaf, StandsFor, turned, turned_at, wanted_for}
 use Rattle.vg_shapes.specs.Leaves.{leaf_of, leaves}
 use Rattle.vg_shapes.specs.Operands.{MayBeWanted}
 use Rattle.vg_shapes.specs.Registers.{bits_key, LeavesInside}
-use Rattle.vg_shapes.specs.Sound.{IsSound, IsUnitTerm, result_bits, value_bits}
-use Rattle.vg_shapes.specs.Units.{unit_at}
+use Rattle.vg_shapes.specs.Sound.{AreCuts, cut_at, cut_key, cuts_of, IsSound, IsUnitTerm, name_at, name_of, result_bits, term_at, unit_name, value_bits}
+use Rattle.vg_shapes.specs.Units.{arguments, unit_at}
+use Rattle.vg_shapes.proofs.Turning.{turned-keeps}
+use Rattle.vg_shapes.proofs.ValueTerms.{IsArgumentTerm, IsWorkTerm, known, known-width, unit-width}
+use Rattle.vg_shapes.proofs.WholeTables.{none-cut, none-turned}
 use Rattle.vg_match.proofs.Binding.{leaf-itself, leaf-same}
+use Rattle.vg_match.proofs.Laws.{by-way}
 use Rattle.vg_packing.specs.Wants.{is_wanted}
-use Rattle.vg_plan_laws.proofs.Terms.{term-known, term-width}
+use Rattle.vg_plan_laws.proofs.Terms.{term-known, term-width, went}
 
 -- ---- leaves
 
@@ -161,76 +168,214 @@ entry-is (x ∷ bound) b once has = elim has [
       | inr more ↦ apart bound b w k e f h.1 more
     ]
 
-pub stands-wanted : (ssa : Ssa) (v : ℕ) (t : Tree) (x : Wanted) → StandsFor ssa v t x
+stands-wanted : (names : ℕ → Option Tree) (v : ℕ) (t : Tree) (x : Wanted) → StandsFor names v t x
     → is_wanted x ≡ true
-stands-wanted ssa v t (Value u) h = refl
-stands-wanted ssa v t (Constant w n) h = refl
-stands-wanted ssa v t Nothing h = absurd h
+stands-wanted names v t (Value u) h = refl
+stands-wanted names v t (Constant w n) h = refl
+stands-wanted names v t Nothing h = absurd h
 
--- ---- the value
+each-stand-wanted : (names : ℕ → Option Tree) (v : ℕ) (by : ℕ → LeafKey → Tree) (bound : List Bound)
+    (t : Tree)
+    → EachLeaf (λ w k. StandsFor names v (by w k) (wanted_for bound w k)) t
+    → EachLeaf (λ w k. is_wanted (wanted_for bound w k) ≡ true) t
+each-stand-wanted names v by bound t h =
+    each-both (λ w k. StandsFor names v (by w k) (wanted_for bound w k))
+    (λ w k. StandsFor names v (by w k) (wanted_for bound w k))
+    (λ w k. is_wanted (wanted_for bound w k) ≡ true)
+    (λ w k p q. stands-wanted names v (by w k) (wanted_for bound w k) p) t h h
 
-record IsCompound (t : Tree) (whole : Tree) : Type 0 where
-  no_leaf : (w : ℕ) (k : LeafKey) → whole ≡ leaf w k → ⊥
-  no_constant : (w n : ℕ) → whole ≡ constant w n → ⊥
-  wide : width_of whole ≡ width_of t
+-- each leaf is bound to something
+pub each-wanted : (ssa : Ssa) (t : Tree) (v : ℕ) (bound : List Bound) → FitsWide ssa t v bound
+    → EachLeaf (λ w k. is_wanted (wanted_for bound w k) ≡ true) t
+each-wanted ssa t v bound f =
+    by-way ssa t v bound f (λ g. each-stand-wanted (term_at ssa) v g.by bound t g.leaves)
+    (λ g. each-stand-wanted (name_at ssa) v g.by bound t g.leaves)
+    (λ g. each-stand-wanted (name_at ssa) v g.by bound t g.leaves)
 
-compound : (by : ℕ → LeafKey → Tree) (t : Tree) → is_compound t ≡ true
-    → IsCompound t (replaced by t)
-compound by (leaf w k) e = absurd (cc)
-compound by (constant w n) e = absurd (cc)
-compound by (one op w k x) e =
-    record { no_leaf = λ u l f. cc; no_constant = λ u n f. cc; wide = refl }
-compound by (two op w x y) e =
-    record { no_leaf = λ u l f. cc; no_constant = λ u n f. cc; wide = refl }
-compound by (sel w c x y) e =
-    record { no_leaf = λ u l f. cc; no_constant = λ u n f. cc; wide = refl }
+-- ---- what is fitted, and names
 
--- a value that a lane fits is an operation as wide as the lane
-pub record IsFitted (ssa : Ssa) (v : ℕ) (t whole : Tree) : Type 0 where
+-- a value whose term is no leaf and no constant is an operation, as wide as the term
+pub record IsOperated (ssa : Ssa) (v : ℕ) (t : Tree) : Type 0 where
   pub op : Operator
   pub size : Width
   pub amount : ℕ
   pub takes : Operands
   pub at : unit_at ssa v ≡ Some (Operation op size amount takes)
-  pub formed : WellFormed whole
+  pub formed : WellFormed t
   pub wide : width_of t ≡ result_bits op size
 
-fitted-work : (ssa : Ssa) (v : ℕ) (t whole : Tree) (u : Work) → IsCompound t whole
-    → unit_at ssa v ≡ Some u → IsUnitTerm v u whole → IsFitted ssa v t whole
-fitted-work ssa v t whole (Load a w) c e is = absurd (c.no_leaf _ _ is)
-fitted-work ssa v t whole (Store a w x) c e is = absurd (c.no_constant _ _ is)
-fitted-work ssa v t whole (Operation op w k xs) c e is = record {
-  op = op;
-  size = w;
-  amount = k;
-  takes = xs;
-  at = e;
-  formed = is.0;
-  wide = sym c.wide ∙ is.1;
-}
+-- what is given for values tells them, where it is no leaf and no constant
+abbrev Tells : Ssa → (ℕ → Option Tree) → Type 0
+Tells ssa given =
+    (v : ℕ) (t : Tree) → given v ≡ Some t → is_compound t ≡ true → IsOperated ssa v t
+
+-- what is given for values is as wide as they are, where it is no constant
+abbrev Widens : Ssa → (ℕ → Option Tree) → Type 0
+Widens ssa given =
+    (v : ℕ) (t : Tree) → given v ≡ Some t → is_constant t ≡ false
+    → value_bits ssa v ≡ Some (width_of t)
+
+operated : (ssa : Ssa) (v : ℕ) (t : Tree) → IsArgumentTerm ssa v t ⊎ IsWorkTerm ssa v t
+    → is_compound t ≡ true → IsOperated ssa v t
+operated ssa v t (inl a) c =
+    absurd (let no : is_compound t ≡ false = ap is_compound a.3 in cc)
+operated ssa v t (inr w) c = work w.0 w.1 w.2
+  where
+    work : (u : Work) → unit_at ssa v ≡ Some u → IsUnitTerm v u t → IsOperated ssa v t
+    work (Load a w) e is = absurd (let no : is_compound t ≡ false = ap is_compound is in cc)
+    work (Store a w x) e is = absurd (let no : is_compound t ≡ false = ap is_compound is in cc)
+    work (Operation op w k xs) e is =
+        record { op = op; size = w; amount = k; takes = xs; at = e; formed = is.0; wide = is.1 }
+
+terms-tell : (ssa : Ssa) → IsSound ssa → Tells ssa (term_at ssa)
+terms-tell ssa sound v t e c = operated ssa v t (term-known ssa v t sound e) c
+
+cuts-tell : (ssa : Ssa) → AreCuts ssa → Tells ssa (cut_at ssa)
+cuts-tell ssa cuts v t e c =
+    operated ssa v t (known ssa (cuts_of ssa) cuts.argument_terms cuts.unit_terms v t e) c
+
+turned-compound : (t u : Tree) → turned t ≡ Some u → is_compound t ≡ true
+turned-compound (leaf w k) u e = absurd (none-some u e)
+turned-compound (constant w n) u e = absurd (none-some u e)
+turned-compound (one op w k x) u e = refl
+turned-compound (two op w x y) u e = refl
+turned-compound (sel w c x y) u e = refl
+
+turned-tell : (ssa : Ssa) → AreCuts ssa → Tells ssa (turned_at ssa)
+turned-tell ssa cuts v u e c =
+    let t = went (cut_at ssa v) turned u e in
+    let own = cuts-tell ssa cuts v t.0 t.1 (turned-compound t.0 u t.2) in
+    let keeps = turned-keeps t.0 u own.formed t.2 in
+    record {
+      op = own.op;
+      size = own.size;
+      amount = own.amount;
+      takes = own.takes;
+      at = own.at;
+      formed = keeps.well_formed;
+      wide = keeps.width ∙ own.wide;
+    }
+
+terms-widen : (ssa : Ssa) → IsSound ssa → Widens ssa (term_at ssa)
+terms-widen ssa sound v t e c = term-width ssa v t sound e c
+
+-- a name is as wide as the cut term
+named-width : (s : Tree) (n : ℕ) (t : Tree)
+    → Some (if nat_eq (width_of s) 1 then s else leaf (width_of s) (cut_key n)) ≡ Some t
+    → width_of t ≡ width_of s
+named-width s n t e = elim (cases_Bool (nat_eq (width_of s) 1)) [
+  | inl y ↦
+      let same : Some s ≡ Some t = ap Some (sym (cond-true _ _ _ y)) ∙ e in
+      let own : s ≡ t = cc in
+      ap width_of (sym own)
+  | inr f ↦
+      let same : Some (leaf (width_of s) (cut_key n)) ≡ Some t =
+      ap Some (sym (cond-false _ _ _ f)) ∙ e in
+      let own : leaf (width_of s) (cut_key n) ≡ t = cc in
+      ap width_of (sym own)
+]
+
+names-widen : (ssa : Ssa) → AreCuts ssa → Widens ssa (name_at ssa)
+names-widen ssa cuts v t e c =
+    let cut = went (cut_at ssa v) (name_of ssa v) t e in
+    let told = known ssa (cuts_of ssa) cuts.argument_terms cuts.unit_terms v cut.0 cut.1 in
+    elim (cases_lt v (arguments ssa)) [
+      | inl below ↦
+          let same : Some cut.0 ≡ Some t =
+          sym (cond-true _ _ _ (lt-ltb v (arguments ssa) below)) ∙ cut.2 in
+          let own : cut.0 ≡ t = cc in
+          known-width ssa (cuts_of ssa) cuts.argument_terms cuts.unit_terms v t
+          (cut.1 ∙ ap Some own) c
+      | inr above ↦
+          let name : (unit_at ssa v >>= unit_name v cut.0) ≡ Some t =
+          sym (cond-false _ _ _ (le-ltb v (arguments ssa) above)) ∙ cut.2 in
+          let u = went (unit_at ssa v) (unit_name v cut.0) t name in
+          by cut.0 u.0 u.1 u.2 (of-unit cut.0 told u.0 u.1)
+    ]
+  where
+    of-unit : (s : Tree) → IsArgumentTerm ssa v s ⊎ IsWorkTerm ssa v s → (u : Work)
+        → unit_at ssa v ≡ Some u → IsUnitTerm v u s
+    of-unit s (inl a) u g =
+        absurd (none-some u (sym (cond-true _ _ _ (lt-ltb v (arguments ssa) a.1)) ∙ g))
+    of-unit s (inr w) u g =
+        let same : Some w.0 ≡ Some u = sym w.1 ∙ g in
+        let own : w.0 ≡ u = cc in
+        subst (λ x. IsUnitTerm v x s) own w.2
+
+    by : (s : Tree) (u : Work) → unit_at ssa v ≡ Some u → unit_name v s u ≡ Some t
+        → IsUnitTerm v u s → value_bits ssa v ≡ Some (width_of t)
+    by s (Load a w) g name is =
+        unit-width ssa v (Load a w) g
+        ∙ ap Some (let same : leaf (bits_of w) (cut_key v) ≡ t = cc in ap width_of same)
+    by s (Store a w x) g name is = absurd (none-some t name)
+    by s (Operation op w k xs) g name is =
+        unit-width ssa v (Operation op w k xs) g
+        ∙ ap Some (sym is.1 ∙ sym (named-width s v t name))
+
+-- what holds wherever what is fitted tells its value and names are as wide as theirs holds of a lane
+-- that fits a value of a sound kernel
+by-sound : {P : Type 0} (ssa : Ssa) (t : Tree) (v : ℕ) (bound : List Bound) → IsSound ssa
+    → FitsWide ssa t v bound
+    → ((terms names : ℕ → Option Tree) → Tells ssa terms → Widens ssa names
+    → FitsBy terms names t v bound → P)
+    → P
+by-sound ssa t v bound sound f on =
+    by-way ssa t v bound f
+    (λ g. on (term_at ssa) (term_at ssa) (terms-tell ssa sound) (terms-widen ssa sound) g)
+    (λ g. elim sound.cuts [
+      | inl none ↦ absurd (none-cut ssa t v bound none g)
+      | inr cuts ↦ on (cut_at ssa) (name_at ssa) (cuts-tell ssa cuts) (names-widen ssa cuts) g
+    ])
+    (λ g. elim sound.cuts [
+      | inl none ↦ absurd (none-turned ssa t v bound none g)
+      | inr cuts ↦ on (turned_at ssa) (name_at ssa) (turned-tell ssa cuts) (names-widen ssa cuts) g
+    ])
+
+-- ---- the value
+
+-- a lane and what it is where its leaves are replaced
+record IsReplaced (t whole : Tree) : Type 0 where
+  compound : is_compound whole ≡ true
+  wide : width_of whole ≡ width_of t
+
+still-compound : (by : ℕ → LeafKey → Tree) (t : Tree) → is_compound t ≡ true
+    → IsReplaced t (replaced by t)
+still-compound by (leaf w k) e = absurd (cc)
+still-compound by (constant w n) e = absurd (cc)
+still-compound by (one op w k x) e = record { compound = refl; wide = refl }
+still-compound by (two op w x y) e = record { compound = refl; wide = refl }
+still-compound by (sel w c x y) e = record { compound = refl; wide = refl }
+
+-- a value that a lane fits is an operation as wide as the lane
+pub record IsFitted (ssa : Ssa) (v : ℕ) (t : Tree) : Type 0 where
+  pub op : Operator
+  pub size : Width
+  pub amount : ℕ
+  pub takes : Operands
+  pub at : unit_at ssa v ≡ Some (Operation op size amount takes)
+  pub wide : width_of t ≡ result_bits op size
 
 pub fitted : (ssa : Ssa) (t : Tree) (v : ℕ) (bound : List Bound) → IsSound ssa
-    → (f : Fits ssa t v bound) → IsFitted ssa v t (replaced f.by t)
+    → FitsWide ssa t v bound → IsFitted ssa v t
 fitted ssa t v bound sound f =
-    let c = compound f.by t f.compound in
-    elim (term-known ssa v (replaced f.by t) sound f.whole) [
-      | inl a ↦ absurd (c.no_leaf _ _ a.3)
-      | inr u ↦ fitted-work ssa v t (replaced f.by t) u.0 c u.1 u.2
-    ]
-
-not-constant : (t : Tree) → ((w n : ℕ) → t ≡ constant w n → ⊥) → is_constant t ≡ false
-not-constant (leaf w k) h = refl
-not-constant (constant w n) h = absurd (h w n refl)
-not-constant (one op w k x) h = refl
-not-constant (two op w x y) h = refl
-not-constant (sel w c x y) h = refl
+    by-sound ssa t v bound sound f (λ terms names tells widens g.
+    let c = still-compound g.by t g.compound in
+    let own = tells v (replaced g.by t) g.whole c.compound in
+    record {
+      op = own.op;
+      size = own.size;
+      amount = own.amount;
+      takes = own.takes;
+      at = own.at;
+      wide = sym c.wide ∙ own.wide;
+    })
 
 pub fitted-width : (ssa : Ssa) (t : Tree) (v : ℕ) (bound : List Bound) → IsSound ssa
-    → Fits ssa t v bound → value_bits ssa v ≡ Some (width_of t)
+    → FitsWide ssa t v bound → value_bits ssa v ≡ Some (width_of t)
 fitted-width ssa t v bound sound f =
-    let c = compound f.by t f.compound in
-    term-width ssa v (replaced f.by t) sound f.whole (not-constant (replaced f.by t) c.no_constant)
-    ∙ ap Some c.wide
+    let own = fitted ssa t v bound sound f in
+    unit-width ssa v (Operation own.op own.size own.amount own.takes) own.at
+    ∙ ap Some (sym own.wide)
 
 -- ---- what the leaves want
 
@@ -242,24 +387,27 @@ each-formed by (one op w k x) h = each-formed by x h.2
 each-formed by (two op w x y) h = (each-formed by x h.2, each-formed by y h.3)
 each-formed by (sel w c x y) h = (each-formed by c h.2, each-formed by x h.3, each-formed by y h.4)
 
-stands-may : (ssa : Ssa) (v w : ℕ) (t : Tree) (x : Wanted) → IsSound ssa → WellFormed t
-    → width_of t ≡ w → StandsFor ssa v t x → MayBeWanted ssa w x
-stands-may ssa v w t (Value u) sound formed wide h = term-width ssa u t sound h.2 h.0 ∙ ap Some wide
-stands-may ssa v w t (Constant m n) sound formed wide h =
+stands-may : (ssa : Ssa) (names : ℕ → Option Tree) (v w : ℕ) (t : Tree) (x : Wanted)
+    → Widens ssa names → WellFormed t
+    → width_of t ≡ w → StandsFor names v t x → MayBeWanted ssa w x
+stands-may ssa names v w t (Value u) widens formed wide h = widens u t h.2 h.0 ∙ ap Some wide
+stands-may ssa names v w t (Constant m n) widens formed wide h =
     let same : m ≡ w = sym (ap width_of h) ∙ wide in
     let low = (subst WellFormed h formed).1 in
     (same, subst (λ k. n < 2 ^ k) same low)
-stands-may ssa v w t Nothing sound formed wide h = absurd h
+stands-may ssa names v w t Nothing widens formed wide h = absurd h
 
 pub each-may : (ssa : Ssa) (t : Tree) (v : ℕ) (bound : List Bound) → IsSound ssa
-    → Fits ssa t v bound → EachLeaf (λ w k. MayBeWanted ssa w (wanted_for bound w k)) t
+    → FitsWide ssa t v bound → EachLeaf (λ w k. MayBeWanted ssa w (wanted_for bound w k)) t
 each-may ssa t v bound sound f =
-    let formed = each-formed f.by t (fitted ssa t v bound sound f).formed in
-    each-both (λ w k. WellFormed (f.by w k) × (width_of (f.by w k) ≡ w))
-    (λ w k. StandsFor ssa v (f.by w k) (wanted_for bound w k))
+    by-sound ssa t v bound sound f (λ terms names tells widens g.
+    let c = still-compound g.by t g.compound in
+    let formed = each-formed g.by t (tells v (replaced g.by t) g.whole c.compound).formed in
+    each-both (λ w k. WellFormed (g.by w k) × (width_of (g.by w k) ≡ w))
+    (λ w k. StandsFor names v (g.by w k) (wanted_for bound w k))
     (λ w k. MayBeWanted ssa w (wanted_for bound w k))
-    (λ w k p q. stands-may ssa v w (f.by w k) (wanted_for bound w k) sound p.0 p.1 q) t
-    (each-both (λ w k. WellFormed (f.by w k)) (λ w k. width_of (f.by w k)
-    ≡ w) (λ w k. WellFormed (f.by w k)
-    × (width_of (f.by w k) ≡ w)) (λ w k p q. (p, q)) t formed f.widths)
-    f.leaves
+    (λ w k p q. stands-may ssa names v w (g.by w k) (wanted_for bound w k) widens p.0 p.1 q) t
+    (each-both (λ w k. WellFormed (g.by w k)) (λ w k. width_of (g.by w k)
+    ≡ w) (λ w k. WellFormed (g.by w k)
+    × (width_of (g.by w k) ≡ w)) (λ w k p q. (p, q)) t formed g.widths)
+    g.leaves)

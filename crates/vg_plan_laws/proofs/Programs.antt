@@ -22,7 +22,7 @@ use Rattle.vg_packing.specs.Producers.{are_matched}
 use Rattle.vg_packing.specs.Shuffles.{is_shuffle}
 use Rattle.vg_packing.proofs.SameTests.{both-true}
 use Rattle.vg_emission.specs.Emission.{Job, no_description, operand_at, pack_at}
-use Rattle.vg_emission.specs.Fit.{AreFit, HasHeader, LaneFits, LanesFit, RecipeFits}
+use Rattle.vg_emission.specs.Fit.{LaneFits, LanesFit, RecipeFits}
 use Rattle.vg_emission.specs.Planned.{IsLaneWidth}
 use Rattle.vg_emission.specs.Program.{operands_in}
 use Rattle.vg_emission.proofs.Described.{emitted-calls-described}
@@ -36,7 +36,7 @@ use Rattle.vg_gather.proofs.Jobs.{plans-count-recipes}
 use Rattle.vg_gather.proofs.Takes.{first-passes}
 use Rattle.vg_emission.specs.Truth.{IsCallable, IsRegisterWidth}
 use Rattle.vg_plan_relations.proofs.Fitting.{found-fit, lane-term}
-use Rattle.vg_plan_laws.specs.Laws.{AreKnown, ProgramsCallDescribed, ProgramsCostTheirPlans, ProgramsKeepTheRules, ProgramsMeanTheirUnits}
+use Rattle.vg_plan_laws.specs.Laws.{AreKnown, PlansAreFit, ProgramsCallDescribed, ProgramsCostTheirPlans, ProgramsKeepTheRules, ProgramsMeanTheirUnits}
 use Rattle.vg_plan_laws.specs.Made.{IsMade, IsMatchedCall}
 use Rattle.vg_plan_laws.proofs.Filled.{all-get}
 use Rattle.vg_plan_laws.proofs.Fitted.{fitted-width}
@@ -159,11 +159,8 @@ recipe-fits j o described is =
 
 -- ---- the rules
 
-plan-fit : (headers : List Header) (ds : List Description) (matches : List Match) (ssa : Ssa)
-    (deps : List (ℕ × ℕ)) (plan : List Packed) → AreKnown ds matches ssa
-    → AllByRecursion (HasHeader headers) ds → IsPlanFor ds matches ssa deps plan
-    → AreFit (planned_job ds matches ssa plan) headers
-plan-fit headers ds matches ssa deps plan known have is =
+pub plans-are-fit : PlansAreFit
+plans-are-fit headers ds matches ssa deps plan known have is =
     let j = planned_job ds matches ssa plan in
     let os = operands_in ds matches ssa plan in
     let none : Operand = record { register = 0; slots = [] } in
@@ -185,7 +182,7 @@ pub programs-keep-rules : ProgramsKeepTheRules
 programs-keep-rules headers ds matches ssa deps plan order known have is legal small =
     emitted-keeps-rules headers ds matches ssa plan (recipes_of ds matches ssa plan) order
     (plans-are-planned ds matches ssa deps plan known is) legal
-    (plan-fit headers ds matches ssa deps plan known have is)
+    (plans-are-fit headers ds matches ssa deps plan known have is)
     (subst (λ n. n < 2 ^ 32) (sym
     (programs-cost ds matches ssa deps plan order known is legal)) small)
 
@@ -193,4 +190,4 @@ pub programs-call : ProgramsCallDescribed
 programs-call headers ds matches ssa deps plan order known have is legal =
     emitted-calls-described headers ds matches ssa plan (recipes_of ds matches ssa plan) order
     (plans-are-planned ds matches ssa deps plan known is) legal
-    (plan-fit headers ds matches ssa deps plan known have is)
+    (plans-are-fit headers ds matches ssa deps plan known have is)

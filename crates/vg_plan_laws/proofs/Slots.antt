@@ -19,12 +19,13 @@ use Rattle.vg_shapes.specs.declared.match_table.Match.{Match}
 use Rattle.vg_shapes.specs.declared.operand.Slot.{Slot}
 use Rattle.vg_shapes.specs.declared.ssa.Ssa.{Ssa}
 use Rattle.vg_shapes.specs.Description.{Description, IsLane, IsPackable}
-use Rattle.vg_shapes.specs.Fits.{has_leaf, Fits, wanted_for}
+use Rattle.vg_shapes.specs.Fits.{has_leaf, FitsWide, wanted_for}
 use Rattle.vg_shapes.specs.Leaves.{bit_number, clash, is_odd, is_value_width, leaf_of, leaves, some_clash}
 use Rattle.vg_shapes.specs.Matches.{AreMatches}
 use Rattle.vg_shapes.specs.Operands.{AreSlots, IsOperand, IsSlot, MayBeWanted}
 use Rattle.vg_shapes.specs.Pack.{bounds_from, match_at}
 use Rattle.vg_shapes.specs.Sound.{IsSound}
+use Rattle.vg_match.proofs.Laws.{wide-alone, wide-once}
 use Rattle.vg_packing.specs.Producers.{agree, are_matched}
 use Rattle.vg_packing.specs.SameAs.{same_slot}
 use Rattle.vg_packing.specs.Taken.{operands_from, slot_of, slots_of}
@@ -116,17 +117,19 @@ pub record IsGoodEntry (ssa : Ssa) (x : Description) (b : Bound) : Type 0 where
 
 good-match : (ssa : Ssa) (x : Description) (lane v : ℕ) (t : Tree) (bound : List Bound) (b : Bound)
     → IsSound ssa → IsPackable x
-    → slice_get x.lanes lane ≡ Some t → Fits ssa t v bound → Has b bound → IsGoodEntry ssa x b
+    → slice_get x.lanes lane ≡ Some t → FitsWide ssa t v bound → Has b bound → IsGoodEntry ssa x b
 good-match ssa x lane v t bound b sound packable at f has =
     let own = all-get (IsLane x.params x.lane_width) x.lanes lane t packable.lanes at in
-    let is = all-has (λ (c : Bound). has_leaf c.width c.key t ≡ true) bound b f.alone has in
+    let is =
+    all-has (λ (c : Bound). has_leaf c.width c.key t ≡ true) bound b (wide-alone ssa t v bound f)
+    has in
     record {
       leaf =
           has-flat_map leaves t (leaf_of b.width b.key) x.lanes (get-has x.lanes lane t at)
           (leaf-listed t b.width b.key is);
       inside =
           leaf-holds (IsInside x.params) t b.width b.key (each-inside x.params t own.inside) is;
-      may = subst (MayBeWanted ssa b.width) (entry-is bound b f.once has)
+      may = subst (MayBeWanted ssa b.width) (entry-is bound b (wide-once ssa t v bound f) has)
           (leaf-holds (λ w k. MayBeWanted ssa w (wanted_for bound w k)) t b.width b.key
           (each-may ssa t v bound sound f) is);
     }

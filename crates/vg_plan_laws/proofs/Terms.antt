@@ -1,6 +1,6 @@
 -- The terms of a sound kernel: that each value has one, of the value's width, and their numbers in
 -- a run.
-use Rattle.std.proofs.Common.{◌≡◌, ℕ, zero, suc, ◌+◌, ◌-◌, ◌%◌, ◌^◌, ◌<◌, ◌≤◌, false, List, [], ◌∷◌, length, take, drop, Option, Some, None, refl, sym, ap, subst, ◌∙◌, ◌⊎◌, inl, inr, arith}
+use Rattle.std.proofs.Common.{◌≡◌, ℕ, zero, suc, ◌+◌, ◌-◌, ◌%◌, ◌^◌, ◌<◌, false, List, [], ◌∷◌, length, take, drop, Option, Some, None, refl, sym, ap, subst, ◌∙◌, ◌⊎◌, inl, inr, arith}
 use Rattle.std.specs.Prelude.{slice_get, slice_index}
 use Rattle.std.specs.List.{AllByRecursion}
 use Rattle.std.specs.Option.{option_map}
@@ -24,152 +24,14 @@ use Rattle.vg_shapes.specs.declared.ssa.SsaParam.{SsaParam}
 use Rattle.vg_shapes.specs.declared.unit.Unit.{Unit as Work}
 use Rattle.vg_shapes.specs.declared.unit.Unit.TheVariants.{Load, Store, Operation}
 use Rattle.vg_shapes.specs.RunUnits.{number_of, Reached, run_units, unit_run}
-use Rattle.vg_shapes.specs.Sound.{argument_key, AreArgumentTerms, AreUnitTerms, IsSound, IsUnit, IsUnitTerm, kind_bits, load_key, result_bits, term_at, terms_of, unit_bits, value_bits}
+use Rattle.vg_shapes.specs.Sound.{argument_key, IsSound, IsUnit, IsUnitTerm, kind_bits, load_key, result_bits, term_at, terms_of, unit_bits, value_bits}
 use Rattle.vg_shapes.specs.Units.{arguments, integers, unit_at}
-
--- ---- members by number
-
-take-get : {X : Type 0} (n k : ℕ) (xs : List X) (x : X) → k < n → slice_get xs k ≡ Some x
-    → slice_get (take n xs) k ≡ Some x
-take-get zero k xs x l e = absurd (omega arith)
-take-get (suc n) k [] x l e = cc
-take-get (suc n) zero (y ∷ xs) x l e = e
-take-get (suc n) (suc k) (y ∷ xs) x l e = take-get n k xs x (omega arith) e
-
-take-got : {X : Type 0} (n k : ℕ) (xs : List X) (x : X) → slice_get (take n xs) k ≡ Some x
-    → slice_get xs k ≡ Some x
-take-got zero k xs x e = cc
-take-got (suc n) k [] x e = e
-take-got (suc n) zero (y ∷ xs) x e = e
-take-got (suc n) (suc k) (y ∷ xs) x e = take-got n k xs x e
-
-drop-get : {X : Type 0} (n k : ℕ) (xs : List X) (x : X) → n ≤ k → slice_get xs k ≡ Some x
-    → slice_get (drop n xs) (k - n) ≡ Some x
-drop-get zero k xs x l e =
-    let same : k ≡ k - 0 = omega arith in subst (λ m. slice_get xs m ≡ Some x) same e
-drop-get (suc n) k [] x l e = cc
-drop-get (suc n) zero (y ∷ xs) x l e = absurd (omega arith)
-drop-get (suc n) (suc k) (y ∷ xs) x l e =
-    let same : k - n ≡ suc k - suc n = omega arith in
-    subst (λ m. slice_get (drop n xs) m ≡ Some x) same (drop-get n k xs x (omega arith) e)
-
-drop-got : {X : Type 0} (n k : ℕ) (xs : List X) (x : X) → slice_get (drop n xs) k ≡ Some x
-    → slice_get xs (n + k) ≡ Some x
-drop-got zero k xs x e =
-    let same : k ≡ 0 + k = omega arith in subst (λ m. slice_get xs m ≡ Some x) same e
-drop-got (suc n) k [] x e = cc
-drop-got (suc n) k (y ∷ xs) x e =
-    let same : suc (n + k) ≡ suc n + k = omega arith in
-    subst (λ m. slice_get (y ∷ xs) m ≡ Some x) same (drop-got n k xs x e)
-
-get-low : {X : Type 0} (xs : List X) (k : ℕ) (x : X) → slice_get xs k ≡ Some x → k < length xs
-get-low [] k x e = cc
-get-low (y ∷ xs) zero x e = omega arith
-get-low (y ∷ xs) (suc k) x e = let rest = get-low xs k x e in omega arith
-
-get-there : {X : Type 0} (xs : List X) (k : ℕ) → k < length xs → (x : X) × (slice_get xs k ≡ Some x)
-get-there [] k l = absurd (omega arith)
-get-there (x ∷ xs) zero l = (x, refl)
-get-there (x ∷ xs) (suc k) l = get-there xs k (omega arith)
-
--- ---- arguments and units, and their terms
-
-argument-term : (v k : ℕ) (ps : List SsaParam) (ts : List Tree) (t : Tree)
-    → AreArgumentTerms v ps ts → slice_get ts k ≡ Some t
-    → (p : SsaParam) × (slice_get ps k ≡ Some p)
-    × (t ≡ leaf (kind_bits p.kind) (argument_key (v + k)))
-argument-term v k [] ts t are e = absurd (none-some t (subst (λ l. slice_get l k ≡ Some t) are e))
-argument-term v k (p ∷ ps) [] t are e = absurd are
-argument-term v zero (p ∷ ps) (u ∷ ts) t are e =
-    let same : t ≡ u = cc in
-    let here : v ≡ v + 0 = omega arith in
-    (p, refl, same ∙ are.0 ∙ ap (λ n. leaf (kind_bits p.kind) (argument_key n)) here)
-argument-term v (suc k) (p ∷ ps) (u ∷ ts) t are e =
-    let rest = argument-term (v + 1) k ps ts t are.1 e in
-    let next : v + 1 + k ≡ v + suc k = omega arith in
-    (rest.0, rest.1, rest.2 ∙ ap (λ n. leaf (kind_bits rest.0.kind) (argument_key n)) next)
-
-argument-has : (v k : ℕ) (ps : List SsaParam) (ts : List Tree) (p : SsaParam)
-    → AreArgumentTerms v ps ts → slice_get ps k ≡ Some p
-    → (t : Tree) × (slice_get ts k ≡ Some t) × (width_of t ≡ kind_bits p.kind)
-argument-has v k [] ts p are e = cc
-argument-has v k (q ∷ ps) [] p are e = absurd are
-argument-has v zero (q ∷ ps) (t ∷ ts) p are e =
-    let same : q ≡ p = cc in
-    (t, refl, ap width_of are.0 ∙ ap (λ (r : SsaParam). kind_bits r.kind) same)
-argument-has v (suc k) (q ∷ ps) (t ∷ ts) p are e = argument-has (v + 1) k ps ts p are.1 e
-
-unit-term : (v k : ℕ) (us : List Work) (ts : List Tree) (t : Tree) → AreUnitTerms v us ts
-    → slice_get ts k ≡ Some t
-    → (u : Work) × (slice_get us k ≡ Some u) × IsUnitTerm (v + k) u t
-unit-term v k [] ts t are e = absurd (none-some t (subst (λ l. slice_get l k ≡ Some t) are e))
-unit-term v k (u ∷ us) [] t are e = absurd are
-unit-term v zero (u ∷ us) (s ∷ ts) t are e =
-    let same : s ≡ t = cc in
-    let here : v ≡ v + 0 = omega arith in
-    (u, refl, subst (λ n. IsUnitTerm n u t) here (subst (IsUnitTerm v u) same are.0))
-unit-term v (suc k) (u ∷ us) (s ∷ ts) t are e =
-    let rest = unit-term (v + 1) k us ts t are.1 e in
-    let next : v + 1 + k ≡ v + suc k = omega arith in
-    (rest.0, rest.1, subst (λ n. IsUnitTerm n rest.0 t) next rest.2)
-
-unit-has : (v k : ℕ) (us : List Work) (ts : List Tree) (u : Work) → AreUnitTerms v us ts
-    → slice_get us k ≡ Some u
-    → (t : Tree) × (slice_get ts k ≡ Some t) × IsUnitTerm (v + k) u t
-unit-has v k [] ts u are e = cc
-unit-has v k (x ∷ us) [] u are e = absurd are
-unit-has v zero (x ∷ us) (t ∷ ts) u are e =
-    let same : x ≡ u = cc in
-    let here : v ≡ v + 0 = omega arith in
-    (t, refl, subst (λ n. IsUnitTerm n u t) here (subst (λ y. IsUnitTerm v y t) same are.0))
-unit-has v (suc k) (x ∷ us) (t ∷ ts) u are e =
-    let rest = unit-has (v + 1) k us ts u are.1 e in
-    let next : v + 1 + k ≡ v + suc k = omega arith in
-    (rest.0, rest.1, subst (λ n. IsUnitTerm n u rest.0) next rest.2)
-
-pub unit-above : (ssa : Ssa) (v : ℕ) (u : Work) → unit_at ssa v ≡ Some u
-    → (arguments ssa ≤ v) × (v < arguments ssa + length ssa.units)
-unit-above ssa v u e = elim (cases_lt v (arguments ssa)) [
-  | inl below ↦ absurd (none-some u (sym (cond-true _ _ _ (lt-ltb v (arguments ssa) below)) ∙ e))
-  | inr above ↦
-      let low =
-      get-low ssa.units (v - arguments ssa) u
-      (sym (cond-false _ _ _ (le-ltb v (arguments ssa) above)) ∙ e) in
-      (above, omega arith)
-]
-
--- a term is that of an argument, or that of a unit
-abbrev pub IsArgumentTerm : Ssa → ℕ → Tree → Type 0
-IsArgumentTerm ssa v t =
-    (p : SsaParam) × (v < arguments ssa) × (slice_get (integers ssa) v ≡ Some p)
-    × (t ≡ leaf (kind_bits p.kind) (argument_key v))
-
-abbrev pub IsWorkTerm : Ssa → ℕ → Tree → Type 0
-IsWorkTerm ssa v t = (u : Work) × (unit_at ssa v ≡ Some u) × IsUnitTerm v u t
+use Rattle.vg_shapes.proofs.ValueTerms.{argument-has, drop-got, get-there, IsArgumentTerm, IsWorkTerm, known, known-width, take-got, unit-above, unit-has}
 
 pub term-known : (ssa : Ssa) (v : ℕ) (t : Tree) → IsSound ssa → term_at ssa v ≡ Some t
     → IsArgumentTerm ssa v t ⊎ IsWorkTerm ssa v t
-term-known ssa v t sound e = elim (cases_lt v (arguments ssa)) [
-  | inl below ↦
-      let a =
-      argument-term 0 v (integers ssa)
-      (take (arguments ssa) (terms_of ssa)) t sound.argument_terms
-      (take-get (arguments ssa) v (terms_of ssa) t below e) in
-      let here : 0 + v ≡ v = omega arith in
-      inl (a.0, below, a.1, a.2 ∙ ap (λ n. leaf (kind_bits a.0.kind) (argument_key n)) here)
-  | inr above ↦
-      let u =
-      unit-term (arguments ssa) (v - arguments ssa) ssa.units
-      (drop (arguments ssa) (terms_of ssa)) t sound.unit_terms
-      (drop-get (arguments ssa) v (terms_of ssa) t above e) in
-      let here : arguments ssa + (v - arguments ssa) ≡ v = omega arith in
-      inr (
-        u.0,
-        cond-false _ _ _ (le-ltb v (arguments ssa) above) ∙ u.1,
-        subst
-            (λ n. IsUnitTerm n u.0 t) here u.2,
-      )
-]
+term-known ssa v t sound e =
+    known ssa (terms_of ssa) sound.argument_terms sound.unit_terms v t e
 
 pub term-low : (ssa : Ssa) (v : ℕ) (t : Tree) → IsSound ssa → term_at ssa v ≡ Some t
     → v < arguments ssa + length ssa.units
@@ -180,28 +42,11 @@ term-low ssa v t sound e = elim (term-known ssa v t sound e) [
 
 -- ---- widths
 
-unit-width : (ssa : Ssa) (v : ℕ) (u : Work) → unit_at ssa v ≡ Some u
-    → value_bits ssa v ≡ unit_bits u
-unit-width ssa v u e =
-    cond-false _ _ _ (le-ltb v (arguments ssa) (unit-above ssa v u e).0) ∙ ap
-    (λ o. o >>= unit_bits) e
-
-work-width : (v : ℕ) (u : Work) (t : Tree) → IsUnitTerm v u t → is_constant t ≡ false
-    → unit_bits u ≡ Some (width_of t)
-work-width v (Load a w) t is c = ap Some (sym (ap width_of is))
-work-width v (Store a w x) t is c = absurd (let yes = ap is_constant is in cc)
-work-width v (Operation op w k xs) t is c = ap Some (sym is.1)
-
 -- a term that is no constant is as wide as its value
 pub term-width : (ssa : Ssa) (v : ℕ) (t : Tree) → IsSound ssa → term_at ssa v ≡ Some t
     → is_constant t ≡ false → value_bits ssa v ≡ Some (width_of t)
-term-width ssa v t sound e c = elim (term-known ssa v t sound e) [
-  | inl a ↦
-      cond-true _ _ _ (lt-ltb v (arguments ssa) a.1)
-      ∙ ap (option_map (λ (p : SsaParam). kind_bits p.kind)) a.2
-      ∙ ap Some (sym (ap width_of a.3))
-  | inr u ↦ unit-width ssa v u.0 u.1 ∙ work-width v u.0 t u.2 c
-]
+term-width ssa v t sound e c =
+    known-width ssa (terms_of ssa) sound.argument_terms sound.unit_terms v t e c
 
 work-there : (v w : ℕ) (u : Work) (t : Tree) → IsUnitTerm v u t → unit_bits u ≡ Some w
     → width_of t ≡ w
@@ -219,12 +64,12 @@ pub value-term : (ssa : Ssa) (v w : ℕ) → IsSound ssa → value_bits ssa v �
     → (t : Tree) × (term_at ssa v ≡ Some t) × (width_of t ≡ w)
 value-term ssa v w sound e = elim (cases_lt v (arguments ssa)) [
   | inl below ↦
-      let known : option_map (λ (p : SsaParam). kind_bits p.kind)
+      let bits : option_map (λ (p : SsaParam). kind_bits p.kind)
       (slice_get (integers ssa) v) ≡ Some w = sym
       (cond-true _ _ _ (lt-ltb v (arguments ssa) below)) ∙ e in
       let p = get-there (integers ssa) v below in
       let wide : Some (kind_bits p.0.kind) ≡ Some w =
-      sym (ap (option_map (λ (q : SsaParam). kind_bits q.kind)) p.1) ∙ known in
+      sym (ap (option_map (λ (q : SsaParam). kind_bits q.kind)) p.1) ∙ bits in
       let same : kind_bits p.0.kind ≡ w = cc in
       let t =
       argument-has 0 v (integers ssa)

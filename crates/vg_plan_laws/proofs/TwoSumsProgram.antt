@@ -192,6 +192,7 @@ sums-sound t is =
       argument_terms = (refl, (refl, refl));
       unit_terms = ((formed, wide), ((formed, wide), (refl, (refl, refl))));
       meaning = terms-mean t is;
+      cuts = inl refl;
     }
 
 -- ---- the instance, and what is known of all

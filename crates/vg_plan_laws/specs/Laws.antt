@@ -24,7 +24,7 @@ use Rattle.vg_packing.specs.declared.recipe.Recipe.TheVariants as recipe
 use Rattle.vg_packing.specs.Laws.{IsPlanFor}
 use Rattle.vg_packing.specs.Packing.{chosen_of, packing}
 use Rattle.vg_emission.specs.Emission.{Job, takes_at}
-use Rattle.vg_emission.specs.Fit.{CallsDescribed, HasHeader}
+use Rattle.vg_emission.specs.Fit.{AreFit, CallsDescribed, HasHeader}
 use Rattle.vg_emission.specs.Laws.{AlwaysKeep, IsRun, MeansUnits}
 use Rattle.vg_emission.specs.Planned.{IsPack, IsPlanned}
 use Rattle.vg_emission.specs.Program.{job_of, operands_in}
@@ -116,6 +116,15 @@ PlansKeepPromises =
     (deps : List (ℕ × ℕ)) (plan : List Packed) →
     AreKnown ds matches ssa → AreTrue called ds → IsPlanFor ds matches ssa deps plan →
     AlwaysKeep (planned_job ds matches ssa plan) called
+
+-- recipes and calls fit the headers of instructions, where the descriptions are those of them
+abbrev pub PlansAreFit : Type 0
+PlansAreFit =
+    (headers : List Header) (ds : List Description) (matches : List Match) (ssa : Ssa)
+    (deps : List (ℕ × ℕ)) (plan : List Packed) →
+    AreKnown ds matches ssa → AllByRecursion (HasHeader headers) ds →
+    IsPlanFor ds matches ssa deps plan →
+    AreFit (planned_job ds matches ssa plan) headers
 
 -- ---- programs
 

@@ -1,6 +1,6 @@
 //! What plans of kernels promise of the programs that are emitted for them.
 
-ghost use Rattle.vg_plan_laws.specs.Laws.{CallsHold, ChosenProgramsAreRight, KernelsAreSmall, OperandsAreSound, PacksAreRight, PlansAreMade, PlansArePlanned, PlansKeepPromises, ProgramsCallDescribed, ProgramsCostTheirPlans, ProgramsKeepTheRules, ProgramsMeanTheirUnits, RecipesFill, RunsStayInWidths, ShufflesFill};
+ghost use Rattle.vg_plan_laws.specs.Laws.{CallsHold, ChosenProgramsAreRight, KernelsAreSmall, OperandsAreSound, PacksAreRight, PlansAreFit, PlansAreMade, PlansArePlanned, PlansKeepPromises, ProgramsCallDescribed, ProgramsCostTheirPlans, ProgramsKeepTheRules, ProgramsMeanTheirUnits, RecipesFill, RunsStayInWidths, ShufflesFill};
 ghost use Rattle.vg_plan_laws.specs.TwoSumsProgram.{TwoSumsLines, TwoSumsMeanUnits};
 
 /// A law that costs nothing to call: each pack of a plan is a store group, loads that stand beside
@@ -49,6 +49,12 @@ pub fn recipes_fill()
 /// A law: where descriptions are true, the recipes and the calls of a plan keep what they promise.
 pub fn plans_keep_promises()
     ensures { PlansKeepPromises }
+{}
+
+/// A law: where the descriptions of a plan are those of instructions, its calls have their lanes in
+/// their registers, and its recipes give registers as wide as their operands.
+pub fn plans_are_fit()
+    ensures { PlansAreFit }
 {}
 
 /// A law: where descriptions are true, the program of a plan in any legal order leaves the memory

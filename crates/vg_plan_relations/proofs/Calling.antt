@@ -25,6 +25,7 @@ use Rattle.vg_packing.specs.Taken.{operands_of}
 use Rattle.vg_packing.specs.Wants.{is_wanted, slot, value_of, wanted_slots}
 use Rattle.vg_packing.proofs.SameTests.{both-true, list-is, slot-is}
 use Rattle.vg_packing.proofs.Tried.{if-has}
+use Rattle.vg_match.proofs.Laws.{wide-found}
 use Rattle.vg_plan_relations.specs.Produces.{AreRising, HasLane, IsCallPack, LaneFits, Produces}
 use Rattle.vg_plan_relations.proofs.Agreeing.{agree-binds, binds-agree}
 use Rattle.vg_plan_relations.proofs.Exact.{and-true, can-be, exact, has-once, has-two, IsLaneAt, lane-wanted, one-if, wanted-lane}
@@ -207,7 +208,7 @@ module _ (ds : List Description) (matches : List Match) (ssa : Ssa) (o : Operand
       let matched : are_matched matches d 0 lanes ≡ true = at-matched matches d 0 lanes (λ i v k.
       let z : i ≡ 0 + i = omega arith in
       let f = pack.fit i v k in
-      subst (λ n. is_some (match_at matches d n v) ≡ true) z (are.whole d i v f.0 f.1 f.2 f.3)) in
+      subst (λ n. is_some (match_at matches d n v) ≡ true) z (wide-found ds ssa matches d i v f.0 f.1 are f.2 f.3)) in
       let agreed = binds-agree ds matches ssa d lanes pack.agree in
       let Passes : List (Option ℕ) → Bool = λ ls.
       can_be_produced o

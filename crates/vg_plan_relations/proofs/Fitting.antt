@@ -13,13 +13,13 @@ use Rattle.vg_shapes.specs.declared.match_table.Bound.{Bound}
 use Rattle.vg_shapes.specs.declared.match_table.Match.{Match}
 use Rattle.vg_shapes.specs.declared.ssa.Ssa.{Ssa}
 use Rattle.vg_shapes.specs.Description.{Description, IsLane, IsPackable}
-use Rattle.vg_shapes.specs.Fits.{Fits, has_leaf}
+use Rattle.vg_shapes.specs.Fits.{FitsWide, has_leaf}
 use Rattle.vg_shapes.specs.Matches.{AreMatches, lane_at}
 use Rattle.vg_shapes.specs.Pack.{bounds_from, match_at}
 use Rattle.vg_shapes.specs.Registers.{LeavesInside}
 use Rattle.vg_shapes.specs.declared.wanted.Wanted.TheVariants.{Nothing}
 use Rattle.vg_match.proofs.Binding.{leaf-same}
-use Rattle.vg_match.proofs.Laws.{found-fit as fit-found}
+use Rattle.vg_match.proofs.Laws.{found-fit as fit-found, wide-alone}
 use Rattle.vg_packing.specs.Producers.{are_matched}
 use Rattle.vg_packing.proofs.SameTests.{both-true}
 use Rattle.vg_plan_relations.specs.Produces.{Binds, HasLane}
@@ -33,7 +33,7 @@ pub record IsFound (ds : List Description) (matches : List Match) (ssa : Ssa) (d
   pub is : match_at matches d i v ≡ Some found
   pub term : Tree
   pub lane : lane_at ds d i ≡ Some term
-  pub fits : Fits ssa term v found.bound
+  pub fits : FitsWide ssa term v found.bound
 
 pub found-fit : (ds : List Description) (matches : List Match) (ssa : Ssa) (d i v : ℕ) → AreMatches ds ssa matches
     → is_some (match_at matches d i v) ≡ true → IsFound ds matches ssa d i v
@@ -196,7 +196,6 @@ binds-param ds matches ssa d e lanes b are there packable k =
     let is = all-has (IsLane e.params e.lane_width) e.lanes f.term packable.lanes (get-has e.lanes i f.term at) in
     let same : Some k.2 ≡ Some f.found = sym k.4 ∙ f.is in
     let own : k.2 ≡ f.found = cc in
-    let fits = f.fits in
     let has : Has b f.found.bound = subst (λ (m : Match). Has b m.bound) own k.5 in
     leaf-param e.params f.term b.width b.key is.formed is.inside
-    (all-has (λ (c : Bound). has_leaf c.width c.key f.term ≡ true) f.found.bound b fits.alone has)
+    (all-has (λ (c : Bound). has_leaf c.width c.key f.term ≡ true) f.found.bound b (wide-alone ssa f.term v f.found.bound f.fits) has)

@@ -14,10 +14,11 @@ use Rattle.vg_shapes.specs.declared.wanted.Wanted.TheVariants.{Value}
 use Rattle.vg_shapes.specs.Depends.{dependences}
 use Rattle.vg_shapes.specs.Description.{IsLane, IsPackable}
 use Rattle.vg_shapes.specs.Fits.{Fits, has_leaf, replaced, same_leaf, StandsFor, wanted_for}
-use Rattle.vg_shapes.specs.Matches.{AreMatches, IsMatch, lane_at}
+use Rattle.vg_shapes.specs.Matches.{AreMatches, AreWholeMatches, IsMatchBy, lane_at}
 use Rattle.vg_shapes.specs.Pack.{match_at}
 use Rattle.vg_shapes.specs.Registers.{bits_key}
 use Rattle.vg_shapes.specs.Sound.{term_at}
+use Rattle.vg_shapes.proofs.WholeTables.{wide-is-whole}
 use Rattle.vg_packing.specs.Laws.{IsPlanFor}
 use Rattle.vg_packing.specs.Packing.{packing}
 use Rattle.vg_plan_relations.specs.TwoSums.{argument, four_sums, sum_lane, sum_match, sum_matches, sum_plan, sum_tree, two_sums, TwoSumsArePlanned}
@@ -59,10 +60,10 @@ leaf_number (sel w c x y) = 0
 differ : (m n : ℕ) → m ≡ n → m ≡ 0 → n ≡ 1 → ⊥
 differ m n e f g = absurd (omega arith)
 
-first-stands : (t : Term) (v : ℕ) → 2 ≤ v → StandsFor (two_sums t) v (argument 0) (Value 0)
+first-stands : (t : Term) (v : ℕ) → 2 ≤ v → StandsFor (term_at (two_sums t)) v (argument 0) (Value 0)
 first-stands t v low = (refl, omega arith, refl, (λ x e. omega arith))
 
-second-stands : (t : Term) (v : ℕ) → 2 ≤ v → StandsFor (two_sums t) v (argument 1) (Value 1)
+second-stands : (t : Term) (v : ℕ) → 2 ≤ v → StandsFor (term_at (two_sums t)) v (argument 1) (Value 1)
 second-stands t v low = (refl, omega arith, refl, least)
   where
     least : (x : ℕ) → term_at (two_sums t) x ≡ Some (argument 1) → 1 ≤ x
@@ -83,7 +84,7 @@ record IsEntered (v lane : ℕ) : Type 0 where
 sum-is : (t : Term) (v lane : ℕ) → tree t ≡ sum_tree → 2 ≤ v
     → term_at (two_sums t) v ≡ Some (tree t) → IsEntered v lane
     → lane_at (four_sums ∷ []) 0 lane ≡ Some (sum_lane (lane * 32))
-    → IsMatch (four_sums ∷ []) (two_sums t) (sum_match v lane)
+    → IsMatchBy (Fits (two_sums t)) (four_sums ∷ []) (sum_match v lane)
 sum-is t v lane is late at entered there =
     let first = entered.first in
     let second = entered.second in
@@ -93,8 +94,8 @@ sum-is t v lane is late at entered there =
       widths = (refl, refl);
       whole = at ∙ ap Some is;
       leaves = (
-        subst (StandsFor (two_sums t) v (argument 0)) (sym first) (first-stands t v late),
-        subst (StandsFor (two_sums t) v (argument 1)) (sym second) (second-stands t v late),
+        subst (StandsFor (term_at (two_sums t)) v (argument 0)) (sym first) (first-stands t v late),
+        subst (StandsFor (term_at (two_sums t)) v (argument 1)) (sym second) (second-stands t v late),
       );
       alone = (entered.leaf_first, (entered.leaf_second, tt));
       once = entered.apart;
@@ -145,7 +146,7 @@ sums-matched t is =
     let e3 = λ (v : ℕ). sums-entered v 3 (inr (inr (inr refl))) in
     let two : 2 ≤ 2 = lit≤ tt in
     let three : 2 ≤ 3 = lit≤ tt in
-    record {
+    let whole : AreWholeMatches (four_sums ∷ []) (two_sums t) sum_matches = record {
       right = (
         sum-is t 2 0 is two refl (e0 2) refl,
         (
@@ -169,7 +170,8 @@ sums-matched t is =
         ),
       );
       whole = each-sum t;
-    }
+    } in
+    (wide-is-whole (four_sums ∷ []) (two_sums t) sum_matches refl).1 whole
 
 -- ---- the plan
 

@@ -11,7 +11,7 @@ use Rattle.vg_shapes.specs.declared.pack.Pack.TheVariants.{Stores, Loads, Call}
 use Rattle.vg_shapes.specs.declared.ssa.Ssa.{Ssa}
 use Rattle.vg_shapes.specs.declared.wanted.Wanted.TheVariants.{Value}
 use Rattle.vg_shapes.specs.Description.{Description}
-use Rattle.vg_shapes.specs.Fits.{Fits}
+use Rattle.vg_shapes.specs.Fits.{FitsWide}
 use Rattle.vg_shapes.specs.Leaves.{bit_number}
 use Rattle.vg_shapes.specs.Matches.{lane_at}
 use Rattle.vg_shapes.specs.Operands.{lanes_of}
@@ -24,10 +24,10 @@ use Rattle.vg_packing.specs.Wants.{is_wanted, slot}
 abbrev pub HasLane : List (Option ℕ) → ℕ → ℕ → Type 0
 HasLane lanes i v = slice_get lanes i ≡ Some (Some v)
 
--- the term of a lane of an instance, both by number, fits a value
+-- the term of a lane of an instance, both by number, fits a value: whole, else cut, else turned
 abbrev pub LaneFits : List Description → Ssa → ℕ → ℕ → ℕ → Type 0
 LaneFits ds ssa d i v =
-    (t : Tree) × (bound : List Bound) × (lane_at ds d i ≡ Some t) × Fits ssa t v bound
+    (t : Tree) × (bound : List Bound) × (lane_at ds d i ≡ Some t) × FitsWide ssa t v bound
 
 -- a lane of a call, matched with its value, binds a leaf
 abbrev pub Binds : List Match → ℕ → List (Option ℕ) → Bound → Type 0

@@ -59,6 +59,7 @@ two_sums t = record {
       ∷ Const 8 0
       ∷ Const 8 0
       ∷ [];
+  cuts = [];
 }
 
 -- ---- the instance

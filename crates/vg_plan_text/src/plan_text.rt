@@ -142,7 +142,7 @@ fn put_costs(alloc: Global, to: &mut Vec<u8>, costs: Costs) -> Result<(), AllocE
 }
 
 /// The lines on a plan of a kernel with these parameters: for each pack `pack store BYTES ADDRESS`,
-/// `pack load BYTES ADDRESS` or `pack call NAME lanes N`, with ` imm K` behind the name where the
+/// `pack load BYTES ADDRESS` or `pack call NAME lanes N`, with ` imm K` after the name where the
 /// instance has an immediate; then `plan cost C plain P scalar S`.
 pub fn print_plan(
     alloc: Global,

@@ -64,7 +64,7 @@ fn clear(bytes: &mut [u8], count: usize)
     bytes[..count].fill(0);
 }
 
-/// Lays one register more behind those that end here. Answers where it ends.
+/// Lays one register more after those that end here. Answers where it ends.
 fn lay_one(places: &mut Vec<Extent>, end: usize, width: u128) -> usize
     requires laid { IsLaid 0 places.old.items }
     requires end { end ≡ total (widths_of places.old.items) }
@@ -81,7 +81,7 @@ fn lay_one(places: &mut Vec<Extent>, end: usize, width: u128) -> usize
     end + width
 }
 
-/// Lays registers of these widths one behind the other. Answers how many bits they have.
+/// Lays registers of these widths one after the other. Answers how many bits they have.
 fn lay(places: &mut Vec<Extent>, widths: &[u128]) -> usize
     requires empty { places.old.items ≡ [] }
     requires room { length widths.now ≤ vec_capacity places.old }

@@ -43,7 +43,7 @@ fn count_of(range: &ImmRange) -> usize
     (range.hi as usize + 1).saturating_sub(range.lo as usize)
 }
 
-/// The immediate so many steps behind the least one.
+/// The immediate so many steps after the least one.
 fn immediate_at(range: &ImmRange, step: usize) -> u8
     requires { step < count_of range.now }
     ensures { result ≡ range.now.lo + step }

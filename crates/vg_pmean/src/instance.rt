@@ -28,7 +28,7 @@ pub struct Instance {
     ghost ready: { IsReady room (whole_of whole) } by { Prim.hlevel (props, script_formed_once) },
 }
 
-/// Gives the first registers of a frame, as many as there are parameters, the parameters and behind
+/// Gives the first registers of a frame, as many as there are parameters, the parameters and after
 /// them the immediate.
 fn enter_params<const B: usize>(cells: &mut Cells, parameters: usize, params: &[Reg<B>], imm: u8)
     ensures { cells.new ≡

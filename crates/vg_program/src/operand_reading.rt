@@ -103,7 +103,7 @@ fn positive_at(text: &[u8]) -> Result<(i32, &[u8]), ReadError>
     Ok((offset, rest))
 }
 
-/// Reads the offset of a place with its sign, as `+4`, and gives it with what stands behind it.
+/// Reads the offset of a place with its sign, as `+4`, and gives it with what stands after it.
 #[tactic(auto, unfolding(crate::specs::Grammar::offset_at))]
 pub fn offset_at(text: &[u8]) -> Result<(i32, &[u8]), ReadError>
     ensures { Gives (λ x. (x.0, x.1.now)) result (offset_at text.now) }

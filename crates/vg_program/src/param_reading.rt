@@ -88,7 +88,7 @@ fn params_at(alloc: Global, text: &[u8]) -> Result<(Vec<Param>, &[u8]), ReadErro
     params_behind(alloc, text)
 }
 
-/// Reads a name and its parameters, as `copy(d: ptr, k: i8)`, and gives them with the bytes behind
+/// Reads a name and its parameters, as `copy(d: ptr, k: i8)`, and gives them with the bytes after
 /// the bracket. An error is the first fault there, or want of memory.
 #[tactic(auto, unfolding(crate::specs::Grammar::signature_at))]
 pub fn signature_at(alloc: Global, text: &[u8]) -> Result<(Signature, &[u8]), ReadError>

@@ -89,8 +89,8 @@ fn last_line_at(counted: u64, text: &[u8]) -> Result<(u32, u32, &[u8]), ReadErro
     Ok((cost, scalar, rest))
 }
 
-/// Reads the lines of a program behind its name and its parameters, up to its last line with its
-/// end, and gives the program with the bytes behind it. An error is the first fault there, or want
+/// Reads the lines of a program after its name and its parameters, up to its last line with its
+/// end, and gives the program with the bytes after it. An error is the first fault there, or want
 /// of memory.
 #[tactic(auto, unfolding(crate::specs::Grammar::body_at))]
 pub fn body_at<'a>(
@@ -127,7 +127,7 @@ fn program_at(alloc: Global, headers: &[Header], text: &[u8]) -> Result<Program,
     Ok(program)
 }
 
-/// The place of the byte behind so many, or of the end.
+/// The place of the byte after so many, or of the end.
 #[tactic(auto, unfolding(crate::specs::Faults::place_in))]
 fn place_in(text: &[u8], n: usize) -> Place
     requires { length text.now ≤ 4194304 }

@@ -381,7 +381,7 @@ fn put_line(
     put_operands(alloc, to, params, line)
 }
 
-/// How many are defined behind a line.
+/// How many are defined after a line.
 fn counted(counts: Counts, defined: Defined) -> Counts
     requires scalars { counts.scalars < 2 ^ 63 }
     requires vectors { counts.vectors < 2 ^ 63 }
@@ -481,7 +481,7 @@ fn write_body(alloc: Global, to: &mut Vec<u8>, program: &Program) -> Result<(), 
     put_last_line(alloc, to, program)
 }
 
-/// Appends the lines of a program behind its first line, the last one among them. Where memory is
+/// Appends the lines of a program after its first line, the last one among them. Where memory is
 /// short nothing is appended.
 pub fn put_body(alloc: Global, to: &mut Vec<u8>, program: &Program) -> Result<(), AllocError>
     ensures done { OnOk result (to.new.items ≡ to.old.items ++ body_text program.now) }

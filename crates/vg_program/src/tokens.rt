@@ -106,7 +106,7 @@ pub fn begins(byte: u8, text: &[u8]) -> bool
     }
 }
 
-/// Reads these bytes, each of which is a token, and gives what stands behind them. The error is the
+/// Reads these bytes, each of which is a token, and gives what stands after them. The error is the
 /// first that differs.
 #[tactic(auto, unfolding(crate::specs::Tokens::signs_at))]
 pub fn signs_at<'a>(signs: &[u8], text: &'a [u8]) -> Result<&'a [u8], ReadError>
@@ -132,7 +132,7 @@ pub fn is_word(word: &[u8], text: &[u8]) -> bool
     is_text(word_of(text), word)
 }
 
-/// Reads this word, and gives what stands behind it.
+/// Reads this word, and gives what stands after it.
 #[tactic(auto, unfolding(crate::specs::Tokens::word_at))]
 pub fn word_at<'a>(word: &[u8], text: &'a [u8]) -> Result<&'a [u8], ReadError>
     ensures { Gives (λ rest. rest.now) result (word_at word.now text.now) }
@@ -143,7 +143,7 @@ pub fn word_at<'a>(word: &[u8], text: &'a [u8]) -> Result<&'a [u8], ReadError>
     Ok(behind_word(text))
 }
 
-/// Reads a name, and gives it with what stands behind it.
+/// Reads a name, and gives it with what stands after it.
 #[tactic(auto, unfolding(crate::specs::Tokens::name_at))]
 pub fn name_at(text: &[u8]) -> Result<(&[u8], &[u8]), ReadError>
     ensures { Gives (λ x. (x.0.now, x.1.now)) result (name_at text.now) }
@@ -205,7 +205,7 @@ fn number_of(digits: &[u8]) -> u128
     number
 }
 
-/// Reads a number without a leading zero, and gives it with what stands behind it; from 2^64 on
+/// Reads a number without a leading zero, and gives it with what stands after it; from 2^64 on
 /// every number is given as 2^64, which no range allows.
 #[tactic(auto, unfolding(crate::specs::Tokens::number_at))]
 pub fn number_at(text: &[u8]) -> Result<(u128, &[u8]), ReadError>

@@ -10,7 +10,7 @@ use vg_program::parts::{body_at, put_body, put_signature, refused_by, signature_
 use vg_program::{Program, Signature};
 use vg_text::Place;
 
-/// A signature, and behind a first line a body, a word and another body.
+/// A signature, and after a first line a body, a word and another body.
 const SIGNATURE: &str = "f(p: ptr, k: i8)";
 
 const BODY: &str = "%s0:i8 = load p+1\nstore p-1 %s0\nend cost 2 scalar 3\n";
@@ -72,7 +72,7 @@ fn signatures_and_bodies_are_printed_behind_what_stands_there(rt: HostRuntime) -
     Ok(())
 }
 
-/// Asserts that the body behind so many bytes of a text is refused with this number at this place of
+/// Asserts that the body after so many bytes of a text is refused with this number at this place of
 /// the whole text.
 fn refuse_body(
     rt: &impl Abort,

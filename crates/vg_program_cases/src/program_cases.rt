@@ -77,7 +77,7 @@ pub fn is_refused(
 }
 
 /// A row is a line of a program, an arrow, and the number and the column of its fault: asserts
-/// that behind `front`, as the line `at`, it is refused with them.
+/// that after `front`, as the line `at`, it is refused with them.
 fn refuse_line(
     rt: &impl Abort,
     alloc: Global,
@@ -333,7 +333,7 @@ fn a_wrong_cost_is_printed_with_both_costs(rt: HostRuntime) -> Result<(), Fail> 
     }
 }
 
-/// A front, and so many bytes of one value behind it that the text has `size` bytes.
+/// A front, and so many bytes of one value after it that the text has `size` bytes.
 fn text_of_size(alloc: Global, front: &[u8], fill: u8, size: usize) -> Result<Vec<u8>, AllocError> {
     let mut text = Vec::with_capacity(alloc, size)?;
     text.extend_from_slice(front)?;

@@ -42,7 +42,7 @@ fn followed_by(block: Block, behind: Block) -> Block
     }
 }
 
-/// One behind the other, with `last` behind the last.
+/// One after the other, with `last` after the last.
 pub(crate) fn chained(blocks: Vec<Block>, last: Block) -> Block
     ensures { block_of result ≡ chained (map block_of blocks.items) (block_of last) }
 {

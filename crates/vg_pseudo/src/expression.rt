@@ -75,7 +75,7 @@ pub enum Expr {
     },
 }
 
-/// The arguments of a call in their order, each with those behind it.
+/// The arguments of a call in their order, each with those after it.
 #[cycle(expression)]
 pub enum Arguments {
     End,

@@ -277,7 +277,7 @@ fn joined(
     }
 }
 
-/// An operator that was taken and its right operand, behind what stands on its left.
+/// An operator that was taken and its right operand, after what stands on its left.
 #[cycle(expressions)]
 fn joined_one(
     alloc: Global,
@@ -301,7 +301,7 @@ fn joined_one(
     join(alloc, definitions, whole, room, level, left, op, lexer)
 }
 
-/// The right operand of an operator, behind it.
+/// The right operand of an operator, after it.
 #[cycle(expressions)]
 #[tactic(auto, unfolding(crate::specs::Expressions::join_at))]
 fn join(
@@ -349,7 +349,7 @@ fn compared(
     }
 }
 
-/// `? first : second` behind a condition, where it follows.
+/// `? first : second` after a condition, where it follows.
 #[cycle(expressions)]
 #[tactic(auto, unfolding(crate::specs::Expressions::chosen_at))]
 fn chosen(
@@ -375,7 +375,7 @@ fn chosen(
     choice_behind(alloc, definitions, whole, room, condition, lexer)
 }
 
-/// `first : second` behind a condition and `?`.
+/// `first : second` after a condition and `?`.
 #[cycle(expressions)]
 #[tactic(auto, unfolding(crate::specs::Expressions::choice_at))]
 fn choice_behind(
@@ -420,7 +420,7 @@ fn operand(
     plain(alloc, definitions, whole, room, word, lexer)
 }
 
-/// An expression in parentheses, behind the first.
+/// An expression in parentheses, after the first.
 #[cycle(expressions)]
 #[tactic(auto, unfolding(crate::specs::Expressions::parenthesised_at))]
 fn parenthesised(
@@ -445,7 +445,7 @@ fn parenthesised(
     })
 }
 
-/// The operand behind NOT or `-`.
+/// The operand after NOT or `-`.
 #[cycle(expressions)]
 #[tactic(auto, unfolding(crate::specs::Expressions::prefixed_at))]
 fn prefixed(
@@ -540,7 +540,7 @@ fn free(
     form(alloc, definitions, Some(whole), room, word, lexer)
 }
 
-/// A call of a DEFINE behind its name and `(`.
+/// A call of a DEFINE after its name and `(`.
 #[cycle(expressions)]
 #[tactic(auto, unfolding(crate::specs::Expressions::call_at))]
 fn call(
@@ -565,7 +565,7 @@ fn call(
     call_node(alloc, word, calls, parts, room)
 }
 
-/// A call of a function behind its name.
+/// A call of a function after its name.
 #[cycle(expressions)]
 #[tactic(auto, unfolding(crate::specs::Expressions::function_at))]
 fn function(
@@ -587,7 +587,7 @@ fn function(
     function_node(alloc, function, place, parts, room)
 }
 
-/// Arguments behind `(`, up to `)`.
+/// Arguments after `(`, up to `)`.
 #[cycle(expressions)]
 #[tactic(auto, unfolding(crate::specs::Expressions::arguments_at))]
 fn arguments(
@@ -608,7 +608,7 @@ fn arguments(
     Ok(parts)
 }
 
-/// Arguments behind the first, each behind a comma.
+/// Arguments after the first, each after a comma.
 #[cycle(expressions)]
 fn more_arguments(
     alloc: Global,
@@ -641,7 +641,7 @@ fn more_arguments(
     }
 }
 
-/// What stands behind a name that is no call: brackets, an element, or nothing of its own. `whole` is where the
+/// What stands after a name that is no call: brackets, an element, or nothing of its own. `whole` is where the
 /// expression around it begins; an index of a target stands in none.
 #[cycle(expressions)]
 #[tactic(auto, unfolding(crate::specs::Expressions::form_at))]
@@ -667,7 +667,7 @@ pub(crate) fn form(
     name_leaf(alloc, word)
 }
 
-/// `high:low]` or `index]` behind `name[`.
+/// `high:low]` or `index]` after `name[`.
 #[cycle(expressions)]
 #[tactic(auto, unfolding(crate::specs::Expressions::bracket_at))]
 fn bracket(
@@ -691,7 +691,7 @@ fn bracket(
     bit(alloc, word, high)
 }
 
-/// `low]` behind `name[high:`.
+/// `low]` after `name[high:`.
 #[cycle(expressions)]
 #[tactic(auto, unfolding(crate::specs::Expressions::slice_end))]
 fn slice_behind(
@@ -714,7 +714,7 @@ fn slice_behind(
     slice(alloc, word, high, low)
 }
 
-/// `elem` or `elem[index]` behind `name.`.
+/// `elem` or `elem[index]` after `name.`.
 #[cycle(expressions)]
 #[tactic(auto, unfolding(crate::specs::Expressions::element_at))]
 fn element_behind(
@@ -740,7 +740,7 @@ fn element_behind(
     part_leaf(alloc, word, size)
 }
 
-/// `index]` behind `name.elem[`.
+/// `index]` after `name.elem[`.
 #[cycle(expressions)]
 #[tactic(auto, unfolding(crate::specs::Expressions::element_end))]
 fn element_index(

@@ -15,7 +15,7 @@ pub enum PseudoFault {
     #[error("{} at {}:{}", self.name(), .place.line, .place.column)]
     Token { place: Place },
     /// A token that does not fit what stands before it. A function or a DEFINE that is given another number of arguments
-    /// than it takes is refused at its name, when the parenthesis behind them has been read.
+    /// than it takes is refused at its name, when the parenthesis after them has been read.
     #[error("{} at {}:{}", self.name(), .place.line, .place.column)]
     Shape { place: Place },
     /// An expression of more than 64 nodes one below the other, parentheses counted, at its first token; a statement

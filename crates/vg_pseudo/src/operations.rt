@@ -40,7 +40,7 @@ fn zero(lexer: &mut Lexer<'_>) -> Result<u128, PseudoFault>
     }
 }
 
-/// `high:0]` behind `name[`.
+/// `high:0]` after `name[`.
 #[tactic(auto, unfolding(crate::specs::Operations::high_at))]
 fn high(lexer: &mut Lexer<'_>) -> Result<u128, PseudoFault>
     ensures read { Reads (λ n. n) (reading lexer.new) result (high_at (reading lexer.old)) }
@@ -73,7 +73,7 @@ fn param(alloc: Global, lexer: &mut Lexer<'_>) -> Result<DefineParam, PseudoFaul
     })
 }
 
-/// Parameters behind the first, each behind a comma.
+/// Parameters after the first, each after a comma.
 fn more_params(
     alloc: Global,
     first: DefineParam,
@@ -99,7 +99,7 @@ fn more_params(
     }
 }
 
-/// Parameters behind `(`, up to `)`.
+/// Parameters after `(`, up to `)`.
 #[tactic(auto, unfolding(crate::specs::Operations::params_at))]
 fn params(alloc: Global, lexer: &mut Lexer<'_>) -> Result<Vec<DefineParam>, PseudoFault>
     ensures read { Reads (λ v. v.items) (reading lexer.new) result (params_at (reading lexer.old)) }
@@ -111,7 +111,7 @@ fn params(alloc: Global, lexer: &mut Lexer<'_>) -> Result<Vec<DefineParam>, Pseu
     Ok(all)
 }
 
-/// A DEFINE behind its first word.
+/// A DEFINE after its first word.
 #[tactic(auto, unfolding(crate::specs::Operations::define_at))]
 fn define(
     alloc: Global,
@@ -190,7 +190,7 @@ fn defines(
     }
 }
 
-/// An operation, up to the END behind it.
+/// An operation, up to the END after it.
 #[tactic(auto, unfolding(crate::specs::Operations::operation_at))]
 fn operation(alloc: Global, lexer: &mut Lexer<'_>) -> Result<Operation, PseudoFault>
     ensures read { Reads operation_of (reading lexer.new) result (operation_at (reading lexer.old)) }

@@ -8,7 +8,7 @@ use crate::expression::Expr;
 use vg_base::Name;
 use vg_text::Place;
 
-/// Statements, each with those behind it. The ways of an IF and the arms of a CASE are lists of the same kind, so that
+/// Statements, each with those after it. The ways of an IF and the arms of a CASE are lists of the same kind, so that
 /// neither of them nests.
 pub enum Stmt {
     /// The end of a list.
@@ -45,7 +45,7 @@ pub enum Stmt {
         ways: Box<Stmt>,
         rest: Box<Stmt>,
     },
-    /// `IF condition body` or `ELSE IF condition body`, and the ways behind it.
+    /// `IF condition body` or `ELSE IF condition body`, and the ways after it.
     Way {
         condition: Expr,
         body: Box<Stmt>,
@@ -61,7 +61,7 @@ pub enum Stmt {
         arms: Box<Stmt>,
         rest: Box<Stmt>,
     },
-    /// `number: body`, and the arms behind it.
+    /// `number: body`, and the arms after it.
     Arm {
         number: u128,
         body: Box<Stmt>,
@@ -148,7 +148,7 @@ impl Drop for Stmt {
 }
 
 impl Stmt {
-    /// One statement, way or arm, with these behind it in place of its own.
+    /// One statement, way or arm, with these after it in place of its own.
     pub(crate) fn followed(self, next: Stmt) -> Stmt
         ensures { statements_of result ≡ followed (statements_of self) (statements_of next) }
     {

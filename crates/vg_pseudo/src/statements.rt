@@ -88,7 +88,7 @@ fn above_follows(lexer: &mut Lexer<'_>) -> Result<bool, PseudoFault>
     Ok(true)
 }
 
-/// `:= expression` behind a target.
+/// `:= expression` after a target.
 #[tactic(auto, unfolding(crate::specs::Statements::assigned_at))]
 fn assigned(
     alloc: Global,
@@ -113,7 +113,7 @@ fn assigned(
     })
 }
 
-/// `low] := expression` behind `name[MAX:`.
+/// `low] := expression` after `name[MAX:`.
 #[tactic(auto, unfolding(crate::specs::Statements::above_at))]
 fn above(
     alloc: Global,
@@ -140,7 +140,7 @@ fn above(
     })
 }
 
-/// An assignment behind its name.
+/// An assignment after its name.
 #[tactic(auto, unfolding(crate::specs::Statements::assignment_at))]
 fn assignment(
     alloc: Global,
@@ -251,7 +251,7 @@ fn block_items(
     }
 }
 
-/// A loop behind FOR, which stands at a place.
+/// A loop after FOR, which stands at a place.
 #[cycle(statements)]
 #[tactic(auto, unfolding(crate::specs::Statements::for_at))]
 fn for_loop(
@@ -274,7 +274,7 @@ fn for_loop(
     for_block(alloc, place, variable, first, last, inside)
 }
 
-/// A choice of ways behind IF.
+/// A choice of ways after IF.
 #[cycle(statements)]
 #[tactic(auto, unfolding(crate::specs::Statements::if_at))]
 fn if_ways(
@@ -324,7 +324,7 @@ fn way(
     })
 }
 
-/// Ways behind the first, each behind ELSE IF.
+/// Ways after the first, each after ELSE IF.
 #[cycle(statements)]
 fn more_ways(
     alloc: Global,
@@ -372,7 +372,7 @@ fn else_way(
     else_block(alloc, inside)
 }
 
-/// A choice by a number behind CASE.
+/// A choice by a number after CASE.
 #[cycle(statements)]
 #[tactic(auto, unfolding(crate::specs::Statements::case_at))]
 fn case_arms(

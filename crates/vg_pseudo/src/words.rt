@@ -32,7 +32,7 @@ fn width_of(bytes: &[u8]) -> Option<Width>
     }
 }
 
-/// The width behind a stem, as that of `Truncate32` behind `Truncate`.
+/// The width after a stem, as that of `Truncate32` after `Truncate`.
 fn width_behind(stem: &[u8], bytes: &[u8]) -> Option<Width>
     ensures { result ≡ width_behind stem.now bytes.now }
 {
@@ -276,7 +276,7 @@ pub fn is_free(bytes: &[u8]) -> bool
     is_name_text(bytes) && !is_reserved(bytes)
 }
 
-/// The number behind `0x`.
+/// The number after `0x`.
 fn hexadecimal(digits: &[u8]) -> Option<u128>
     ensures { result ≡ number_in 16 digits.now }
 {

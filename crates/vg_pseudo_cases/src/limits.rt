@@ -183,7 +183,7 @@ fn every_front_of_an_operation(rt: HostRuntime) -> Result<(), Fail> {
     Ok(())
 }
 
-/// Whether a front ends between two tokens: behind a space, or behind a sign that no further byte
+/// Whether a front ends between two tokens: after a space, or after a sign that no further byte
 /// makes another one.
 fn ends_between(front: &[u8]) -> bool {
     matches!(

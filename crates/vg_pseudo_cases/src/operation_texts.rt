@@ -31,7 +31,7 @@ fn repeat(text: &mut Vec<u8>, piece: &str) -> Result<(), Fail> {
     Ok(())
 }
 
-/// The operation of a text, behind which nothing may stand.
+/// The operation of a text, after which nothing may stand.
 pub fn read(rt: &impl Abort, alloc: Global, text: &[u8]) -> Result<Operation, Fail> {
     assert!(rt; text.len() <= 10_000_000);
     let mut lexer = Lexer::new(text);

@@ -42,7 +42,7 @@ fn check_each_expression(rt: &impl Abort, alloc: Global, rows: &str) -> Result<(
     Ok(())
 }
 
-/// Asserts what statements are read as; a space behind the last of them is not told.
+/// Asserts what statements are read as; a space after the last of them is not told.
 fn check_statements(rt: &impl Abort, alloc: Global, text: &str, tree: &str) -> Result<(), Fail> {
     let whole = format!(in alloc; "{text} END")?;
     let operation = read(rt, alloc, whole.as_bytes())?;

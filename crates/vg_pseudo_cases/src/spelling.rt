@@ -99,7 +99,7 @@ pub fn spell(to: &mut String, expression: &Expr) -> Result<(), Fail> {
     Ok(())
 }
 
-/// Writes arguments, each with a comma behind it.
+/// Writes arguments, each with a comma after it.
 #[cycle(expression)]
 fn spell_arguments(to: &mut String, arguments: &Arguments) -> Result<(), Fail> {
     match arguments {

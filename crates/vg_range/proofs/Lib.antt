@@ -14,7 +14,7 @@ mod Lists
 mod Statements
 mod Stepping
 mod TurnsLeft
-mod Unrolled
+pub mod Unrolled
 mod WalkedAlike
 mod Walking
 mod WaysLeft

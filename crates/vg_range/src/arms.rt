@@ -28,7 +28,7 @@ pub struct ArmTaken {
     pub body: Script,
 }
 
-/// Arms that may be taken, found so far, the last at the end, and what is known behind any of them
+/// Arms that may be taken, found so far, the last at the end, and what is known after any of them
 /// or none.
 #[derive(Drop)]
 pub struct Arms {
@@ -129,7 +129,7 @@ fn pick_of(alloc: Global, selector: Word, arms: Vec<ArmTaken>) -> Result<Script,
     }
 }
 
-/// A CASE whose selector is not constant, by its arms and the counts behind them.
+/// A CASE whose selector is not constant, by its arms and the counts after them.
 #[inline(never)]
 pub fn picked_by(
     alloc: Global,

@@ -34,7 +34,7 @@ use vg_names::{Code, ResolvedExpr, Target};
 use vg_script::{WholeNumber, Word};
 use vg_text::Place;
 
-/// An expression that has to be constant, and the stand behind it. DynamicIndex where it is not.
+/// An expression that has to be constant, and the stand after it. DynamicIndex where it is not.
 #[inline(never)]
 #[cycle(judging)]
 fn settled(
@@ -171,7 +171,7 @@ fn skip_at(place: Place, stand: Box<Stand>) -> Result<Box<Stand>, RangeFault>
     Ok(at_count(stand, count))
 }
 
-/// What stands behind the first of these statements; none where there is no statement.
+/// What stands after the first of these statements; none where there is no statement.
 fn behind_first(code: &Code) -> Option<&Code>
     ensures is { option_map (λ c. code_view c.now) result ≡ rest_code (code_view code.now) }
     ensures inside { IfSome result (λ c. code_weight (code_view c.now) < code_weight (code_view code.now)) }
@@ -359,7 +359,7 @@ fn first_way(
     }
 }
 
-/// The ways behind the first of these; none where there is no way.
+/// The ways after the first of these; none where there is no way.
 fn behind_way(code: &Code) -> Option<&Code>
     ensures is { option_map (λ c. code_view c.now) result ≡ rest_ways (code_view code.now) }
     ensures inside { IfSome result (λ c. code_weight (code_view c.now) < code_weight (code_view code.now)) }
@@ -407,7 +407,7 @@ fn choose_at(
     }
 }
 
-/// The first of these arms, behind those found so far.
+/// The first of these arms, after those found so far.
 #[inline(never)]
 #[cycle(judging)]
 fn first_arm(
@@ -436,7 +436,7 @@ fn first_arm(
     }
 }
 
-/// The arms behind the first of these; none where there is no arm.
+/// The arms after the first of these; none where there is no arm.
 fn behind_arm(code: &Code) -> Option<&Code>
     ensures is { option_map (λ c. code_view c.now) result ≡ rest_arms (code_view code.now) }
     ensures inside { IfSome result (λ c. code_weight (code_view c.now) < code_weight (code_view code.now)) }
@@ -575,7 +575,7 @@ fn first_of(
     }
 }
 
-/// Statements from where a walk stands on: where it stands behind them, or their first fault. Along
+/// Statements from where a walk stands on: where it stands after them, or their first fault. Along
 /// the list in a loop, since it may be long.
 #[cycle(judging)]
 pub fn walk(

@@ -132,7 +132,7 @@ pub fn condition_by(alloc: Global, kept: Kept) -> Result<Box<Decision>, AllocErr
     Ok(Box::new(alloc, decision)?)
 }
 
-/// The stand behind a number that is no move. TooWide where more than 128 bits are written.
+/// The stand after a number that is no move. TooWide where more than 128 bits are written.
 pub fn filled(
     place: Place,
     goal: Goal,

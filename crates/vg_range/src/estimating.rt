@@ -23,7 +23,7 @@ use vg_pseudo::{BinaryOp, Spot};
 use vg_script::WholeNumber;
 
 /// What is known of an expression as an operand but for its word, given what is known of the number
-/// variables, and the counts behind it; or its first fault.
+/// variables, and the counts after it; or its first fault.
 #[cycle(judging)]
 pub fn estimate(
     alloc: Global,
@@ -177,7 +177,7 @@ fn joined(
     Ok((kept, count))
 }
 
-/// What a condition says, and the counts behind it; its word only where scripts are kept.
+/// What a condition says, and the counts after it; its word only where scripts are kept.
 #[inline(never)]
 #[cycle(judging)]
 pub fn decided(

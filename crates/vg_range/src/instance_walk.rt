@@ -46,7 +46,7 @@ fn imm_constant(
     }
 }
 
-/// An instance, for an immediate where the entry has one: where its walk stands behind it, or its
+/// An instance, for an immediate where the entry has one: where its walk stands after it, or its
 /// first fault.
 #[inline(never)]
 pub fn instance_at(

@@ -27,7 +27,7 @@ use vg_pseudo::{BinaryOp, Spot, UnaryOp};
 use vg_script::{WholeNumber, Word};
 
 /// What is known of an expression, given what is known of the number variables, and the counts
-/// behind it; or its first fault.
+/// after it; or its first fault.
 #[cycle(judging)]
 pub fn judge(
     alloc: Global,
@@ -277,7 +277,7 @@ fn both_of(
     either_behind(alloc, course, condition, one, second, found, count)
 }
 
-/// What a condition says, and the counts behind it.
+/// What a condition says, and the counts after it.
 #[inline(never)]
 #[cycle(judging)]
 pub fn tested(
@@ -325,7 +325,7 @@ fn choice(
     }
 }
 
-/// An argument, and the counts behind it.
+/// An argument, and the counts after it.
 #[inline(never)]
 #[cycle(judging)]
 fn argument(

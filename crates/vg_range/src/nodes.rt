@@ -68,7 +68,7 @@ fn with_given(count: u64, given: &Given) -> u64
     }
 }
 
-/// Along the list in a loop, from what stands behind.
+/// Along the list in a loop, from what stands after.
 #[cycle(nodes)]
 fn with_script(count: u64, script: &Script) -> u64
     ensures { result ≡ counted count (script_nodes (script_of script.now)) }

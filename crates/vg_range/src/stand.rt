@@ -38,7 +38,7 @@ pub fn is_empty(script: &Script) -> bool
     }
 }
 
-/// One script behind the other, either of which may be empty.
+/// One script after the other, either of which may be empty.
 pub fn behind(alloc: Global, first: Script, second: Script) -> Result<Script, AllocError>
     ensures { IfOk result (λ s. script_of s ≡ behind (script_of first) (script_of second)) }
 {
@@ -51,7 +51,7 @@ pub fn behind(alloc: Global, first: Script, second: Script) -> Result<Script, Al
     }
 }
 
-/// The same with a script behind its own, where scripts are kept.
+/// The same with a script after its own, where scripts are kept.
 #[inline(never)]
 pub fn with_script(
     alloc: Global,

@@ -23,7 +23,7 @@ pub fn first_turn(first: WholeNumber, last: WholeNumber) -> Option<WholeNumber>
     }
 }
 
-/// The turn behind this one, if it is not the last.
+/// The turn after this one, if it is not the last.
 pub fn next_turn(turn: WholeNumber, last: WholeNumber) -> Option<WholeNumber>
     ensures { option_map number_of result ≡ first_turn (number_of turn +ℤ pos 1) (number_of last) }
 {

@@ -23,14 +23,14 @@ pub struct WayTaken {
     pub body: Script,
 }
 
-/// Ways that may be taken, found so far, the last at the end, and what is known behind any of them.
+/// Ways that may be taken, found so far, the last at the end, and what is known after any of them.
 #[derive(Drop)]
 pub struct Ways {
     pub scripts: Vec<WayTaken>,
     pub joined: Option<Vec<Kept>>,
 }
 
-/// A way that was looked at: others may be taken behind those found, or it is the last.
+/// A way that was looked at: others may be taken after those found, or it is the last.
 #[derive(Drop)]
 pub enum Met {
     Further { found: Box<Ways>, count: Count },
@@ -49,7 +49,7 @@ pub fn no_ways(alloc: Global) -> Result<Box<Ways>, AllocError>
     Ok(Box::new(alloc, ways)?)
 }
 
-/// What is known behind a way more.
+/// What is known after a way more.
 fn joined_with(
     alloc: Global,
     joined: Option<Vec<Kept>>,

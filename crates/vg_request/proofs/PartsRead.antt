@@ -6,49 +6,80 @@ use Rattle.std.specs.Str.{bytes_eq, is_utf8}
 use Rattle.std.proofs.lemmas.Bool.{and_parts}
 use Rattle.std.proofs.lemmas.List.{append-nil, append_assoc, take-append-drop}
 use Rattle.std.proofs.lemmas.Slice.Eq.{bytes_eq-Decides}
-use Rattle.clap.specs.Words.{app_of, built, found_of, matches_of, is_simple, rows_of, takes}
+use Rattle.clap.specs.Words.{app_of, built, found_of, matches_of, is_simple, one_text, rows_of, takes}
 use Rattle.clap.specs.Simple.{entered}
 use Rattle.clap.specs.Takes.{default_passes, entered_passes, is_valid, settle_passes, turn_passes, walk_passes}
 use Rattle.clap.specs.Walk.{Row, Rule, Text, Walk, finished, has_row, nothing_held, one_of, reading_by, used, walked, walk, with_default, with_values}
+use Rattle.clap.specs.declared.builder.value_parser.Reading.{Reading}
+use Rattle.clap.specs.declared.parser.matches.ValueSource.{ValueSource}
 use Rattle.clap.specs.declared.parser.matches.ValueSource.TheVariants.{CommandLine, DefaultValue}
 use Rattle.clap.specs.declared.parser.matches.ArgMatches.{ArgMatches}
 use Rattle.clap.proofs.WalkLemmas.{raw_values-rows, one_text-rows}
 use Rattle.vg_request.specs.Word.{plain_word}
 use Rattle.vg_outside.specs.Text.{text_or_empty}
-use Rattle.vg_request.specs.Parts.{Part, width, extension, guard, word, parts_of, part_of, before, begins, widths_in, extensions_in, guards_in, words_in}
+use Rattle.vg_request.specs.declared.part.Flag.{Flag}
+use Rattle.vg_request.specs.declared.part.Flag.TheVariants.{Guard, More}
+use Rattle.vg_request.specs.Parts.{Part, width, extension, flag, word, flag_word, parts_of, part_of, before, begins, widths_in, extensions_in, flags_in, words_in}
 use Rattle.vg_request.specs.Found.{HasParts, flag_text, values_of}
-use Rattle.vg_request.specs.Readable.{at_most_one, may_follow, are_options}
+use Rattle.vg_request.specs.Readable.{at_most_one, may_follow, free_first, are_options}
 use Rattle.vg_request.proofs.Cuts.{few}
-use Rattle.vg_request.proofs.Command.{app, is_simple_app, shape, rules, width_built, with_built, guard_built, files_built}
+use Rattle.vg_request.proofs.Command.{app, is_simple_app, shape, rules, flag_id, width_built, with_built, flag_built, files_built}
 use Rattle.vg_request.proofs.Rows.{vals, same_id, other_id, no_default, none_without, other_row, other_one, first_row}
-use Rattle.vg_request.proofs.Texts.{shown, width_word, with_word, guard_word, width_and, with_and}
-use Rattle.vg_request.proofs.Walks.{Calm, IsFresh, IsPlain, Rest, none, of_file, of_width, of_with, between, use_of, after_option, at_width, at_with, at_value, at_name, at_width_is, at_with_is, at_file, at_guard}
+use Rattle.vg_request.proofs.Texts.{shown, width_word, with_word, width_and, with_and, word_is_text}
+use Rattle.vg_request.proofs.Walks.{Calm, IsFresh, IsPlain, Rest, none, of_file, of_width, of_with, between, use_of, after_option, at_width, at_with, at_value, at_name, at_width_is, at_with_is, at_file, at_flag}
 
--- what the words `--guard` leave of the rows: the flag as it was, or set
-abbrev Flag : List Text → List Row → List Row → Type 0
-Flag [] old new = (has_row (codes "guard") new ≡ has_row (codes "guard") old) × (one_of (codes "guard") new ≡ one_of (codes "guard") old)
-Flag (g ∷ gs) old new = (has_row (codes "guard") new ≡ true) × (one_of (codes "guard") new ≡ Some (codes "true"))
+-- what the words of a flag leave of its rows: the flag as it was, or set
+abbrev Sets : Text → List Text → List Row → List Row → Type 0
+Sets id [] old new = (has_row id new ≡ has_row id old) × (one_of id new ≡ one_of id old)
+Sets id (g ∷ gs) old new = (has_row id new ≡ true) × (one_of id new ≡ Some (codes "true"))
 
-kept_then : (l : List Text) (old mid new : List Row) → Flag [] old mid → Flag l mid new → Flag l old new
-kept_then [] old mid new a b = (b.0 ∙ a.0, b.1 ∙ a.1)
-kept_then (g ∷ l) old mid new a b = b
+kept_then : (id : Text) (l : List Text) (old mid new : List Row) → Sets id [] old mid → Sets id l mid new → Sets id l old new
+kept_then id [] old mid new a b = (b.0 ∙ a.0, b.1 ∙ a.1)
+kept_then id (g ∷ l) old mid new a b = b
 
-set_then : (g : Text) (l : List Text) (old mid new : List Row) → Flag (g ∷ []) old mid → Flag l mid new → Flag (g ∷ l) old new
-set_then g [] old mid new a b = (b.0 ∙ a.0, b.1 ∙ a.1)
-set_then g (h ∷ l) old mid new a b = b
+set_then : (id g : Text) (l : List Text) (old mid new : List Row) → Sets id (g ∷ []) old mid → Sets id l mid new → Sets id (g ∷ l) old new
+set_then id g [] old mid new a b = (b.0 ∙ a.0, b.1 ∙ a.1)
+set_then id g (h ∷ l) old mid new a b = b
 
-flag_then : (p : Part) (ps : List Part) (old mid new : List Row) → Flag (guards_in (p ∷ [])) old mid → Flag (guards_in ps) mid new → Flag (guards_in (p ∷ ps)) old new
-flag_then (width v) ps old mid new a b = kept_then (guards_in ps) old mid new a b
-flag_then (extension v) ps old mid new a b = kept_then (guards_in ps) old mid new a b
-flag_then guard ps old mid new a b = set_then (codes "--guard") (guards_in ps) old mid new a b
-flag_then (word v) ps old mid new a b = kept_then (guards_in ps) old mid new a b
+then_kept : (id : Text) (l : List Text) (old mid new : List Row) → Sets id l old mid → Sets id [] mid new → Sets id l old new
+then_kept id [] old mid new a b = (b.0 ∙ a.0, b.1 ∙ a.1)
+then_kept id (g ∷ l) old mid new a b = (b.0 ∙ a.0, b.1 ∙ a.1)
+
+flag_then : (f : Flag) (p : Part) (ps : List Part) (old mid new : List Row) → Sets (flag_id f) (flags_in f (p ∷ [])) old mid → Sets (flag_id f) (flags_in f ps) mid new → Sets (flag_id f) (flags_in f (p ∷ ps)) old new
+flag_then f (width v) ps old mid new a b = kept_then (flag_id f) (flags_in f ps) old mid new a b
+flag_then f (extension v) ps old mid new a b = kept_then (flag_id f) (flags_in f ps) old mid new a b
+flag_then Guard (flag Guard) ps old mid new a b = set_then (codes "guard") (codes "--guard") (flags_in Guard ps) old mid new a b
+flag_then Guard (flag More) ps old mid new a b = kept_then (codes "guard") (flags_in Guard ps) old mid new a b
+flag_then More (flag Guard) ps old mid new a b = kept_then (codes "more") (flags_in More ps) old mid new a b
+flag_then More (flag More) ps old mid new a b = set_then (codes "more") (codes "--more") (flags_in More ps) old mid new a b
+flag_then f (word v) ps old mid new a b = kept_then (flag_id f) (flags_in f ps) old mid new a b
+
+-- the id of no flag
+abbrev NoFlag : Text → Type 0
+NoFlag id = (f : Flag) → (bytes_eq id (flag_id f) ≡ false) × (bytes_eq (flag_id f) id ≡ false)
+
+no_width : NoFlag (codes "width")
+no_width Guard = (refl, refl)
+no_width More = (refl, refl)
+
+no_with : NoFlag (codes "with")
+no_with Guard = (refl, refl)
+no_with More = (refl, refl)
+
+no_file : NoFlag (codes "files")
+no_file Guard = (refl, refl)
+no_file More = (refl, refl)
 
 -- the values of one part more
 record Adds (p : Part) (old new : List Row) : Type 0 where
   pub widths : vals (codes "width") new ≡ vals (codes "width") old ++ widths_in (p ∷ [])
   pub names : vals (codes "with") new ≡ vals (codes "with") old ++ extensions_in (p ∷ [])
   pub files : vals (codes "files") new ≡ vals (codes "files") old ++ words_in (p ∷ [])
-  pub flag : Flag (guards_in (p ∷ [])) old new
+  pub flags : (f : Flag) → Sets (flag_id f) (flags_in f (p ∷ [])) old new
+
+-- a use of another id leaves a flag as it was
+kept_by : (own : Text) (how : Reading) (s : ValueSource) (vs : List Text) (rows : List Row) (f : Flag) → bytes_eq own (flag_id f) ≡ false → Sets (flag_id f) [] rows (with_values own how s vs rows)
+kept_by own how s vs rows f other = (other_row (flag_id f) own how s vs rows other, other_one (flag_id f) own how s vs rows other)
 
 -- no row of the width
 abbrev Clear : List Row → Type 0
@@ -59,7 +90,7 @@ first_width v rows = record {
   widths = same_id (codes "width") _ _ (v ∷ []) rows refl;
   names = other_id (codes "with") (codes "width") _ _ (v ∷ []) rows refl ∙ sym (append-nil _);
   files = other_id (codes "files") (codes "width") _ _ (v ∷ []) rows refl ∙ sym (append-nil _);
-  flag = (other_row (codes "guard") (codes "width") _ _ (v ∷ []) rows refl, other_one (codes "guard") (codes "width") _ _ (v ∷ []) rows refl);
+  flags = λ f. kept_by (codes "width") _ _ (v ∷ []) rows f (no_width f).0;
 }
 
 adds_width : (v : Text) (rows : List Row) → Clear rows → Adds (width v) rows (used width_built (v ∷ []) rows)
@@ -72,7 +103,7 @@ adds_name v rows = record {
   widths = other_id (codes "width") (codes "with") _ _ (v ∷ []) rows refl ∙ sym (append-nil _);
   names = same_id (codes "with") _ _ (v ∷ []) rows refl;
   files = other_id (codes "files") (codes "with") _ _ (v ∷ []) rows refl ∙ sym (append-nil _);
-  flag = (other_row (codes "guard") (codes "with") _ _ (v ∷ []) rows refl, other_one (codes "guard") (codes "with") _ _ (v ∷ []) rows refl);
+  flags = λ f. kept_by (codes "with") _ _ (v ∷ []) rows f (no_with f).0;
 }
 
 adds_file : (v : Text) (rows : List Row) → Adds (word v) rows (used files_built (v ∷ []) rows)
@@ -80,40 +111,48 @@ adds_file v rows = record {
   widths = other_id (codes "width") (codes "files") _ _ (v ∷ []) rows refl ∙ sym (append-nil _);
   names = other_id (codes "with") (codes "files") _ _ (v ∷ []) rows refl ∙ sym (append-nil _);
   files = same_id (codes "files") _ _ (v ∷ []) rows refl;
-  flag = (other_row (codes "guard") (codes "files") _ _ (v ∷ []) rows refl, other_one (codes "guard") (codes "files") _ _ (v ∷ []) rows refl);
+  flags = λ f. kept_by (codes "files") _ _ (v ∷ []) rows f (no_file f).0;
 }
 
--- no row of the flag
-abbrev Unset : List Row → Type 0
-Unset rows = has_row (codes "guard") rows ≡ false
+-- no row of a flag
+abbrev Unset : Flag → List Row → Type 0
+Unset f rows = has_row (flag_id f) rows ≡ false
 
-set_flag : List Row → List Row
-set_flag rows = with_values (codes "guard") (reading_by guard_built) CommandLine (codes "true" ∷ []) rows
+set_flag : Flag → List Row → List Row
+set_flag f rows = with_values (flag_id f) (reading_by (flag_built f)) CommandLine (codes "true" ∷ []) rows
 
-first_guard : (rows : List Row) → Unset rows → Adds guard rows (set_flag rows)
+given : (f g : Flag) (rows : List Row) → Unset f rows → Sets (flag_id g) (flags_in g (flag f ∷ [])) rows (set_flag f rows)
 unfolding set_flag
-first_guard rows unset = record {
-  widths = other_id (codes "width") (codes "guard") _ _ (codes "true" ∷ []) rows refl ∙ sym (append-nil _);
-  names = other_id (codes "with") (codes "guard") _ _ (codes "true" ∷ []) rows refl ∙ sym (append-nil _);
-  files = other_id (codes "files") (codes "guard") _ _ (codes "true" ∷ []) rows refl ∙ sym (append-nil _);
-  flag = first_row (codes "guard") (reading_by guard_built) CommandLine (codes "true") rows refl unset;
+given Guard Guard rows unset = first_row (codes "guard") (reading_by (flag_built Guard)) CommandLine (codes "true") rows refl unset
+given Guard More rows unset = kept_by (codes "guard") (reading_by (flag_built Guard)) CommandLine (codes "true" ∷ []) rows More refl
+given More Guard rows unset = kept_by (codes "more") (reading_by (flag_built More)) CommandLine (codes "true" ∷ []) rows Guard refl
+given More More rows unset = first_row (codes "more") (reading_by (flag_built More)) CommandLine (codes "true") rows refl unset
+
+first_flag : (f : Flag) (rows : List Row) → Unset f rows → Adds (flag f) rows (set_flag f rows)
+unfolding set_flag
+first_flag f rows unset = record {
+  widths = other_id (codes "width") (flag_id f) _ _ (codes "true" ∷ []) rows (no_width f).1 ∙ sym (append-nil _);
+  names = other_id (codes "with") (flag_id f) _ _ (codes "true" ∷ []) rows (no_with f).1 ∙ sym (append-nil _);
+  files = other_id (codes "files") (flag_id f) _ _ (codes "true" ∷ []) rows (no_file f).1 ∙ sym (append-nil _);
+  flags = λ g. given f g rows unset;
 }
 
-guard_used : (rows : List Row) → Unset rows → used guard_built [] rows ≡ set_flag rows
+flag_used : (f : Flag) (rows : List Row) → Unset f rows → used (flag_built f) [] rows ≡ set_flag f rows
 unfolding set_flag
-guard_used rows unset = ap set_flag (none_without (codes "guard") rows unset)
+flag_used Guard rows unset = ap (set_flag Guard) (none_without (codes "guard") rows unset)
+flag_used More rows unset = ap (set_flag More) (none_without (codes "more") rows unset)
 
-adds_guard : (rows : List Row) → Unset rows → Adds guard rows (used guard_built [] rows)
-adds_guard rows unset = subst (Adds guard rows) (sym (guard_used rows unset)) (first_guard rows unset)
+adds_flag : (f : Flag) (rows : List Row) → Unset f rows → Adds (flag f) rows (used (flag_built f) [] rows)
+adds_flag f rows unset = subst (Adds (flag f) rows) (sym (flag_used f rows unset)) (first_flag f rows unset)
 
-guard_stays : (rows : List Row) → Unset rows → has_row (codes "width") (used guard_built [] rows) ≡ has_row (codes "width") rows
+flag_stays : (f : Flag) (rows : List Row) → Unset f rows → has_row (codes "width") (used (flag_built f) [] rows) ≡ has_row (codes "width") rows
 unfolding set_flag
-guard_stays rows unset = ap (has_row (codes "width")) (guard_used rows unset) ∙ other_row (codes "width") (codes "guard") _ _ (codes "true" ∷ []) rows refl
+flag_stays f rows unset = ap (has_row (codes "width")) (flag_used f rows unset) ∙ other_row (codes "width") (flag_id f) _ _ (codes "true" ∷ []) rows (no_width f).1
 
 -- what a part asks of what stands before it, and what it keeps
 abbrev Asks : Part → List Row → Type 0
 Asks (width v) rows = Clear rows
-Asks guard rows = Unset rows
+Asks (flag f) rows = Unset f rows
 Asks _ rows = Unit {0}
 
 abbrev Stays : Part → List Row → List Row → Type 0
@@ -125,24 +164,47 @@ record May (ps : List Part) (rows : List Row) (r : Rest) : Type 0 where
   pub calm : Calm rows r
   pub once : length (widths_in ps) < 2
   pub clear : 0 < length (widths_in ps) → Clear (use_of r rows)
-  pub once_guard : length (guards_in ps) < 2
-  pub unset : 0 < length (guards_in ps) → Unset (use_of r rows)
+  pub once_each : (f : Flag) → length (flags_in f ps) < 2
+  pub unset : (f : Flag) → 0 < length (flags_in f ps) → Unset f (use_of r rows)
+
+some_flag : (f : Flag) (ps : List Part) → 0 < length (flags_in f (flag f ∷ ps))
+some_flag Guard ps = omega arith
+some_flag More ps = omega arith
 
 asks : (p : Part) (ps : List Part) (rows : List Row) (r : Rest) → May (p ∷ ps) rows r → Asks p (use_of r rows)
 asks (width v) ps rows r m = m.clear (omega arith)
 asks (extension v) ps rows r m = tt
-asks guard ps rows r m = m.unset (omega arith)
+asks (flag f) ps rows r m = m.unset f (some_flag f ps)
 asks (word v) ps rows r m = tt
 
-may_behind : (p : Part) (ps : List Part) (rows behind : List Row) (r rest : Rest) → May (p ∷ ps) rows r → Calm behind rest → Stays p (use_of r rows) (use_of rest behind) → Flag (guards_in (p ∷ [])) (use_of r rows) (use_of rest behind) → May ps behind rest
-may_behind (width v) ps rows behind r rest m calm stays flag =
+-- what is left of the flags behind one of them
+fewer : (f g : Flag) (ps : List Part) → length (flags_in g (flag f ∷ ps)) < 2 → length (flags_in g ps) < 2
+fewer Guard Guard ps few = omega (arith, few)
+fewer Guard More ps few = few
+fewer More Guard ps few = few
+fewer More More ps few = omega (arith, few)
+
+unset_behind : (f g : Flag) (ps : List Part) (old new : List Row) → length (flags_in g (flag f ∷ ps)) < 2 → (0 < length (flags_in g (flag f ∷ ps)) → Unset g old)
+    → Sets (flag_id g) (flags_in g (flag f ∷ [])) old new → 0 < length (flags_in g ps) → Unset g new
+unset_behind Guard Guard ps old new few unset sets some = absurd (omega (arith, few, some))
+unset_behind Guard More ps old new few unset sets some = sets.0 ∙ unset some
+unset_behind More Guard ps old new few unset sets some = sets.0 ∙ unset some
+unset_behind More More ps old new few unset sets some = absurd (omega (arith, few, some))
+
+may_behind : (p : Part) (ps : List Part) (rows behind : List Row) (r rest : Rest) → May (p ∷ ps) rows r → Calm behind rest → Stays p (use_of r rows) (use_of rest behind)
+    → ((f : Flag) → Sets (flag_id f) (flags_in f (p ∷ [])) (use_of r rows) (use_of rest behind)) → May ps behind rest
+may_behind (width v) ps rows behind r rest m calm stays sets =
     let few = m.once in
-    record { calm = calm; once = omega (arith, few); clear = λ some. absurd (omega (arith, few, some)); once_guard = m.once_guard; unset = λ some. flag.0 ∙ m.unset some }
-may_behind (extension v) ps rows behind r rest m calm stays flag = record { calm = calm; once = m.once; clear = λ some. stays ∙ m.clear some; once_guard = m.once_guard; unset = λ some. flag.0 ∙ m.unset some }
-may_behind guard ps rows behind r rest m calm stays flag =
-    let few = m.once_guard in
-    record { calm = calm; once = m.once; clear = λ some. stays ∙ m.clear some; once_guard = omega (arith, few); unset = λ some. absurd (omega (arith, few, some)) }
-may_behind (word v) ps rows behind r rest m calm stays flag = record { calm = calm; once = m.once; clear = λ some. stays ∙ m.clear some; once_guard = m.once_guard; unset = λ some. flag.0 ∙ m.unset some }
+    record { calm = calm; once = omega (arith, few); clear = λ some. absurd (omega (arith, few, some)); once_each = m.once_each; unset = λ f some. (sets f).0 ∙ m.unset f some }
+may_behind (extension v) ps rows behind r rest m calm stays sets = record { calm = calm; once = m.once; clear = λ some. stays ∙ m.clear some; once_each = m.once_each; unset = λ f some. (sets f).0 ∙ m.unset f some }
+may_behind (flag f) ps rows behind r rest m calm stays sets = record {
+  calm = calm;
+  once = m.once;
+  clear = λ some. stays ∙ m.clear some;
+  once_each = λ g. fewer f g ps (m.once_each g);
+  unset = λ g. unset_behind f g ps (use_of r rows) (use_of rest behind) (m.once_each g) (m.unset g) (sets g);
+}
+may_behind (word v) ps rows behind r rest m calm stays sets = record { calm = calm; once = m.once; clear = λ some. stays ∙ m.clear some; once_each = m.once_each; unset = λ f some. (sets f).0 ∙ m.unset f some }
 
 -- the walk over the words of parts, from between two parts
 record Walked (words : List Text) (ps : List Part) (rows : List Row) (r : Rest) : Type 0 where
@@ -154,7 +216,7 @@ record Walked (words : List Text) (ps : List Part) (rows : List Row) (r : Rest) 
   pub widths : vals (codes "width") (use_of rest behind) ≡ vals (codes "width") (use_of r rows) ++ widths_in ps
   pub names : vals (codes "with") (use_of rest behind) ≡ vals (codes "with") (use_of r rows) ++ extensions_in ps
   pub files : vals (codes "files") (use_of rest behind) ≡ vals (codes "files") (use_of r rows) ++ words_in ps
-  pub flag : Flag (guards_in ps) (use_of r rows) (use_of rest behind)
+  pub flags : (f : Flag) → Sets (flag_id f) (flags_in f ps) (use_of r rows) (use_of rest behind)
 
 reads_none : (rows : List Row) (r : Rest) → Calm rows r → Walked [] [] rows r
 unfolding walk_passes
@@ -167,7 +229,7 @@ reads_none rows r calm = record {
   widths = sym (append-nil _);
   names = sym (append-nil _);
   files = sym (append-nil _);
-  flag = (refl, refl);
+  flags = λ f. (refl, refl);
 }
 
 -- one part, of one word
@@ -183,19 +245,19 @@ record Step (w : Text) (p : Part) (rows : List Row) (r : Rest) : Type 0 where
 split_widths : (p : Part) (ps : List Part) → widths_in (p ∷ []) ++ widths_in ps ≡ widths_in (p ∷ ps)
 split_widths (width v) ps = refl
 split_widths (extension v) ps = refl
-split_widths guard ps = refl
+split_widths (flag f) ps = refl
 split_widths (word v) ps = refl
 
 split_names : (p : Part) (ps : List Part) → extensions_in (p ∷ []) ++ extensions_in ps ≡ extensions_in (p ∷ ps)
 split_names (width v) ps = refl
 split_names (extension v) ps = refl
-split_names guard ps = refl
+split_names (flag f) ps = refl
 split_names (word v) ps = refl
 
 split_words : (p : Part) (ps : List Part) → words_in (p ∷ []) ++ words_in ps ≡ words_in (p ∷ ps)
 split_words (width v) ps = refl
 split_words (extension v) ps = refl
-split_words guard ps = refl
+split_words (flag f) ps = refl
 split_words (word v) ps = refl
 
 chain : (new mid old one more all : List Text) → new ≡ mid ++ more → mid ≡ old ++ one → one ++ more ≡ all → new ≡ old ++ all
@@ -205,7 +267,7 @@ one_more : (w : Text) (p : Part) (words : List Text) (ps : List Part) (rows : Li
     → Walked (w ∷ words) (p ∷ ps) rows r
 unfolding walk_passes
 one_more w p words ps rows r step may others =
-    let more = others step.behind step.rest (may_behind p ps rows step.behind r step.rest may step.calm step.stays step.adds.flag) in
+    let more = others step.behind step.rest (may_behind p ps rows step.behind r step.rest may step.calm step.stays step.adds.flags) in
     record {
       behind = more.behind;
       rest = more.rest;
@@ -215,7 +277,7 @@ one_more w p words ps rows r step may others =
       widths = chain _ _ _ _ _ _ more.widths step.adds.widths (split_widths p ps);
       names = chain _ _ _ _ _ _ more.names step.adds.names (split_names p ps);
       files = chain _ _ _ _ _ _ more.files step.adds.files (split_words p ps);
-      flag = flag_then p ps _ _ _ step.adds.flag more.flag;
+      flags = λ f. flag_then f p ps _ _ _ (step.adds.flags f) (more.flags f);
     }
 
 -- one part, of two words
@@ -235,7 +297,7 @@ two_more : (w v : Text) (p : Part) (words : List Text) (ps : List Part) (rows : 
     → Walked (w ∷ v ∷ words) (p ∷ ps) rows r
 unfolding walk_passes
 two_more w v p words ps rows r step may others =
-    let more = others step.behind step.rest (may_behind p ps rows step.behind r step.rest may step.calm step.stays step.adds.flag) in
+    let more = others step.behind step.rest (may_behind p ps rows step.behind r step.rest may step.calm step.stays step.adds.flags) in
     record {
       behind = more.behind;
       rest = more.rest;
@@ -246,7 +308,7 @@ two_more w v p words ps rows r step may others =
       widths = chain _ _ _ _ _ _ more.widths step.adds.widths (split_widths p ps);
       names = chain _ _ _ _ _ _ more.names step.adds.names (split_names p ps);
       files = chain _ _ _ _ _ _ more.files step.adds.files (split_words p ps);
-      flag = flag_then p ps _ _ _ step.adds.flag more.flag;
+      flags = λ f. flag_then f p ps _ _ _ (step.adds.flags f) (more.flags f);
     }
 
 -- what a word that is no option is
@@ -324,37 +386,40 @@ single_word w u e rows r calm clear =
       stays = other_row (codes "width") (codes "files") _ _ (w ∷ []) (use_of r rows) refl;
     }))
 
-single_guard : (w : Text) → w ≡ codes "--guard" → Single w guard
-single_guard w option rows r calm unset =
-    let is_w : text_or_empty w ≡ codes "--guard" = ap text_or_empty option ∙ shown _ guard_word in
-    let at = at_guard rows r calm unset in
-    subst (λ t. Step t guard rows r) (sym is_w) (record {
-      behind = used guard_built [] (use_of r rows);
+single_flag : (f : Flag) (w : Text) → w ≡ flag_word f → Single w (flag f)
+single_flag f w option rows r calm unset =
+    let is_w : text_or_empty w ≡ flag_word f = ap text_or_empty option ∙ shown _ (word_is_text f) in
+    let at = at_flag f rows r calm unset in
+    subst (λ t. Step t (flag f) rows r) (sym is_w) (record {
+      behind = used (flag_built f) [] (use_of r rows);
       rest = none;
       is = at.0;
       passes = at.1;
-      adds = adds_guard (use_of r rows) unset;
+      adds = adds_flag f (use_of r rows) unset;
       calm = tt;
-      stays = guard_stays (use_of r rows) unset;
+      stays = flag_stays f (use_of r rows) unset;
     })
 
 single : (w : Text) (p : Part) → part_of w ≡ Some p → Single w p
-single w p e = by (begins (codes "--width=") w) refl (begins (codes "--with=") w) refl (bytes_eq w (codes "--guard")) refl
+single w p e = by (begins (codes "--width=") w) refl (begins (codes "--with=") w) refl (bytes_eq w (codes "--guard")) refl (bytes_eq w (codes "--more")) refl
   where
-    by : (a : Bool) → begins (codes "--width=") w ≡ a → (b : Bool) → begins (codes "--with=") w ≡ b → (c : Bool) → bytes_eq w (codes "--guard") ≡ c → Single w p
-    by true x b y c z =
+    by : (a : Bool) → begins (codes "--width=") w ≡ a → (b : Bool) → begins (codes "--with=") w ≡ b → (c : Bool) → bytes_eq w (codes "--guard") ≡ c → (d : Bool) → bytes_eq w (codes "--more") ≡ d → Single w p
+    by true x b y c z d u =
         let is : option_map (λ v. width v) (plain_word (drop 8 w)) ≡ Some p = rw x at e in
         let m = mapped (λ v. width v) _ p is in
         subst (Single w) m.2 (single_width w m.0 (drop 8 w) (begun (codes "--width=") w x) m.1)
-    by false x true y c z =
+    by false x true y c z d u =
         let is : option_map (λ v. extension v) (plain_word (drop 7 w)) ≡ Some p = rw (x, y) at e in
         let m = mapped (λ v. extension v) _ p is in
         subst (Single w) m.2 (single_with w m.0 (drop 7 w) (begun (codes "--with=") w y) m.1)
-    by false x false y true z =
-        let is : Some guard ≡ Some p = rw (x, y, z) at e in
-        subst (Single w) (ap (λ o. unwrap_or o p) is) (single_guard w ((bytes_eq-Decides w (codes "--guard")).0 z))
-    by false x false y false z =
-        let is : option_map (λ v. word v) (plain_word w) ≡ Some p = rw (x, y, z) at e in
+    by false x false y true z d u =
+        let is : Some (flag Guard) ≡ Some p = rw (x, y, z) at e in
+        subst (Single w) (ap (λ o. unwrap_or o p) is) (single_flag Guard w ((bytes_eq-Decides w (codes "--guard")).0 z))
+    by false x false y false z true u =
+        let is : Some (flag More) ≡ Some p = rw (x, y, z, u) at e in
+        subst (Single w) (ap (λ o. unwrap_or o p) is) (single_flag More w ((bytes_eq-Decides w (codes "--more")).0 u))
+    by false x false y false z false u =
+        let is : option_map (λ v. word v) (plain_word w) ≡ Some p = rw (x, y, z, u) at e in
         let m = mapped (λ v. word v) _ p is in
         subst (Single w) m.2 (single_word w m.0 m.1)
 
@@ -455,35 +520,65 @@ all_ends rows (of_file v) h = refl
 all_ends rows (of_width v) h = rw h refl
 all_ends rows (of_with v) h = refl
 
-only_guard : (rows : List Row) → fold with_default rows rules ≡ with_default rows guard_built
-only_guard rows =
+-- each flag that is not given has its default
+with_flags : List Row → List Row
+with_flags rows = with_default (with_default rows (flag_built Guard)) (flag_built More)
+
+only_flags : (rows : List Row) → fold with_default rows rules ≡ with_flags rows
+unfolding with_flags
+only_flags rows =
     let unchanged : with_default (with_default rows width_built) with_built ≡ rows = no_default _ with_built refl ∙ no_default _ width_built refl in
-    no_default _ files_built refl ∙ ap (λ l. with_default l guard_built) unchanged
+    no_default _ files_built refl ∙ ap (λ l. with_default (with_default l (flag_built Guard)) (flag_built More)) unchanged
 
-at_end : (rows : List Row) (r : Rest) → finished rules (between rows r).held ≡ with_default (use_of r rows) guard_built
-at_end rows none = only_guard (use_of none rows)
-at_end rows (of_file v) = only_guard (use_of (of_file v) rows)
-at_end rows (of_width v) = only_guard (use_of (of_width v) rows)
-at_end rows (of_with v) = only_guard (use_of (of_with v) rows)
+at_end : (rows : List Row) (r : Rest) → finished rules (between rows r).held ≡ with_flags (use_of r rows)
+at_end rows none = only_flags (use_of none rows)
+at_end rows (of_file v) = only_flags (use_of (of_file v) rows)
+at_end rows (of_width v) = only_flags (use_of (of_width v) rows)
+at_end rows (of_with v) = only_flags (use_of (of_with v) rows)
 
--- behind the default of the flag
-vals_default : (id : Text) (rows : List Row) → bytes_eq (codes "guard") id ≡ false → vals id (with_default rows guard_built) ≡ vals id rows
-vals_default id rows e = by (has_row (codes "guard") rows) refl
+-- behind the default of a flag
+vals_default : (f : Flag) (id : Text) (rows : List Row) → bytes_eq (flag_id f) id ≡ false → vals id (with_default rows (flag_built f)) ≡ vals id rows
+vals_default f id rows e = by (has_row (flag_id f) rows) refl
   where
-    by : (b : Bool) → has_row (codes "guard") rows ≡ b → vals id (with_default rows guard_built) ≡ vals id rows
+    by : (b : Bool) → has_row (flag_id f) rows ≡ b → vals id (with_default rows (flag_built f)) ≡ vals id rows
     by true is = rw is refl
-    by false is = rw is (other_id id (codes "guard") (reading_by guard_built) DefaultValue (codes "false" ∷ []) rows e)
+    by false is = rw is (other_id id (flag_id f) (reading_by (flag_built f)) DefaultValue (codes "false" ∷ []) rows e)
 
-flag_default : (gs : List Text) (rows : List Row) → Flag gs [] rows → one_of (codes "guard") (with_default rows guard_built) ≡ Some (flag_text gs)
-flag_default [] rows f = rw f.0 (first_row (codes "guard") (reading_by guard_built) DefaultValue (codes "false") rows refl f.0).1
-flag_default (g ∷ gs) rows f = rw f.0 f.1
+kept_default : (f g : Flag) (rows : List Row) → bytes_eq (flag_id f) (flag_id g) ≡ false → Sets (flag_id g) [] rows (with_default rows (flag_built f))
+kept_default f g rows e = by (has_row (flag_id f) rows) refl
+  where
+    by : (b : Bool) → has_row (flag_id f) rows ≡ b → Sets (flag_id g) [] rows (with_default rows (flag_built f))
+    by true is = rw is (refl, refl)
+    by false is = rw is (kept_by (flag_id f) (reading_by (flag_built f)) DefaultValue (codes "false" ∷ []) rows g e)
 
-from_nothing : (ps : List Part) → may_follow true true (Some ps) ≡ true → May ps [] none
+same_flag_id : (f : Flag) → bytes_eq (flag_id f) (flag_id f) ≡ true
+same_flag_id Guard = refl
+same_flag_id More = refl
+
+flag_default : (f : Flag) (gs : List Text) (rows : List Row) → Sets (flag_id f) gs [] rows → one_of (flag_id f) (with_default rows (flag_built f)) ≡ Some (flag_text gs)
+flag_default f [] rows sets = rw sets.0 (first_row (flag_id f) (reading_by (flag_built f)) DefaultValue (codes "false") rows (same_flag_id f) sets.0).1
+flag_default f (g ∷ gs) rows sets = rw sets.0 sets.1
+
+vals_flags : (id : Text) (rows : List Row) → NoFlag id → vals id (with_flags rows) ≡ vals id rows
+unfolding with_flags
+vals_flags id rows no_flag = vals_default More id (with_default rows (flag_built Guard)) (no_flag More).1 ∙ vals_default Guard id rows (no_flag Guard).1
+
+flag_is : (f : Flag) (gs : List Text) (rows : List Row) → Sets (flag_id f) gs [] rows → one_of (flag_id f) (with_flags rows) ≡ Some (flag_text gs)
+unfolding with_flags
+flag_is Guard gs rows sets = (kept_default More Guard (with_default rows (flag_built Guard)) refl).1 ∙ flag_default Guard gs rows sets
+flag_is More gs rows sets = flag_default More gs (with_default rows (flag_built Guard)) (then_kept (codes "more") gs [] rows _ sets (kept_default Guard More rows refl))
+
+from_nothing : (ps : List Part) → may_follow (free_first true) (Some ps) ≡ true → May ps [] none
 from_nothing ps once =
-    let all = and_parts (at_most_one (widths_in ps)) (at_most_one (guards_in ps)) once in
-    record { calm = tt; once = few (widths_in ps) all.0; clear = λ some. refl; once_guard = few (guards_in ps) all.1; unset = λ some. refl }
+    let all = and_parts (at_most_one (widths_in ps)) _ once in
+    let flags = and_parts (at_most_one (flags_in Guard ps)) (at_most_one (flags_in More ps)) all.1 in
+    record { calm = tt; once = few (widths_in ps) all.0; clear = λ some. refl; once_each = λ f. by f flags; unset = λ f some. refl }
+  where
+    by : (f : Flag) → (at_most_one (flags_in Guard ps) ≡ true) × (at_most_one (flags_in More ps) ≡ true) → length (flags_in f ps) < 2
+    by Guard flags = few (flags_in Guard ps) flags.0
+    by More flags = few (flags_in More ps) flags.1
 
-taken_with : (ws : List Text) (ps : List Part) → parts_of ws ≡ Some ps → may_follow true true (Some ps) ≡ true → takes app (texts_of ws) ≡ true
+taken_with : (ws : List Text) (ps : List Part) → parts_of ws ≡ Some ps → may_follow (free_first true) (Some ps) ≡ true → takes app (texts_of ws) ≡ true
 taken_with ws ps e once =
     let walked_over = read ws ps e [] none (from_nothing ps once) in
     ap₂ (λ a b. a && b) is_simple_app (ap₂ ends_well walked_over.is walked_over.passes ∙ all_ends walked_over.behind walked_over.rest walked_over.calm)
@@ -497,16 +592,18 @@ is_taken ws some = by (parts_of ws) refl
         cc
     by (Some ps) e = taken_with ws ps e (rw e at some)
 
-found_with : (ws : List Text) (ps : List Part) → parts_of ws ≡ Some ps → may_follow true true (Some ps) ≡ true → (m : ArgMatches) → rows_of (found_of m) ≡ matches_of app (texts_of ws) → HasParts (Some ps) m
+found_with : (ws : List Text) (ps : List Part) → parts_of ws ≡ Some ps → may_follow (free_first true) (Some ps) ≡ true → (m : ArgMatches) → rows_of (found_of m) ≡ matches_of app (texts_of ws) → HasParts (Some ps) m
 found_with ws ps e once m rows =
     let walked_over = read ws ps e [] none (from_nothing ps once) in
     let left = use_of walked_over.rest walked_over.behind in
-    let all : rows_of (found_of m) ≡ with_default left guard_built = rows ∙ ap (λ (w : Walk). finished rules w.held) walked_over.is ∙ at_end walked_over.behind walked_over.rest in
-    let seen : (id : Text) → bytes_eq (codes "guard") id ≡ false → values_of id m ≡ vals id left = λ id other. ap (λ o. unwrap_or o []) (raw_values-rows (found_of m) id) ∙ ap (vals id) all ∙ vals_default id left other in (
-      seen (codes "width") refl ∙ walked_over.widths,
-      seen (codes "with") refl ∙ walked_over.names,
-      seen (codes "files") refl ∙ walked_over.files,
-      one_text-rows (found_of m) (codes "guard") ∙ ap (one_of (codes "guard")) all ∙ flag_default (guards_in ps) left walked_over.flag,
+    let all : rows_of (found_of m) ≡ with_flags left = rows ∙ ap (λ (w : Walk). finished rules w.held) walked_over.is ∙ at_end walked_over.behind walked_over.rest in
+    let seen : (id : Text) → NoFlag id → values_of id m ≡ vals id left = λ id other. ap (λ o. unwrap_or o []) (raw_values-rows (found_of m) id) ∙ ap (vals id) all ∙ vals_flags id left other in
+    let tells : (f : Flag) → one_text (found_of m) (flag_id f) ≡ Some (flag_text (flags_in f ps)) = λ f. one_text-rows (found_of m) (flag_id f) ∙ ap (one_of (flag_id f)) all ∙ flag_is f (flags_in f ps) left (walked_over.flags f) in (
+      seen (codes "width") no_width ∙ walked_over.widths,
+      seen (codes "with") no_with ∙ walked_over.names,
+      seen (codes "files") no_file ∙ walked_over.files,
+      tells Guard,
+      tells More,
     )
 
 pub is_found : (ws : List Text) → are_options true ws ≡ true → (m : ArgMatches) → rows_of (found_of m) ≡ matches_of app (texts_of ws) → HasParts (parts_of ws) m

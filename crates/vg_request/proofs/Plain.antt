@@ -8,7 +8,9 @@ use Rattle.std.proofs.lemmas.Bool.{and_parts}
 use Rattle.clap.specs.declared.parser.matches.ArgMatches.{ArgMatches}
 use Rattle.vg_request.specs.Binding.{is_binding, bindings_in}
 use Rattle.vg_request.specs.Found.{HasParts, values_of, run_found, eval_found, lift_found, trial_found, check_found}
-use Rattle.vg_request.specs.Parts.{Part, word, parts_of, part_of, begins, widths_in, guards_in, words_in}
+use Rattle.vg_request.specs.declared.part.Flag.{Flag}
+use Rattle.vg_request.specs.declared.part.Flag.TheVariants.{Guard, More}
+use Rattle.vg_request.specs.Parts.{Part, word, parts_of, part_of, begins, widths_in, flags_in, words_in}
 use Rattle.vg_request.specs.Readable.{are_options, are_plain}
 use Rattle.vg_request.specs.Request.{Asked, run_words, eval_words, lift_words, trial_words, trial_number, check_words}
 use Rattle.vg_request.specs.Word.{plain_word, is_plain}
@@ -44,7 +46,8 @@ part_is w e =
     let a : begins (codes "--width=") w ≡ false = no_option (take 8 w) (codes "-width=") (taken 7 w p.0) in
     let b : begins (codes "--with=") w ≡ false = no_option (take 7 w) (codes "-with=") (taken 6 w p.0) in
     let c : bytes_eq w (codes "--guard") ≡ false = no_option w (codes "-guard") p.0 in
-    rw (a, b, c, p.1) refl
+    let d : bytes_eq w (codes "--more") ≡ false = no_option w (codes "-more") p.0 in
+    rw (a, b, c, d, p.1) refl
 
 plain_parts : (ws : List (List ℕ)) → are_plain ws ≡ true → parts_of ws ≡ Some (map (λ w. word w) ws)
 unfolding parts_of
@@ -61,16 +64,16 @@ no_widths : (ws : List (List ℕ)) → widths_in (map (λ w. word w) ws) ≡ []
 no_widths [] = refl
 no_widths (w ∷ ws) = no_widths ws
 
-no_guards : (ws : List (List ℕ)) → guards_in (map (λ w. word w) ws) ≡ []
-no_guards [] = refl
-no_guards (w ∷ ws) = no_guards ws
+no_flags : (f : Flag) (ws : List (List ℕ)) → flags_in f (map (λ w. word w) ws) ≡ []
+no_flags f [] = refl
+no_flags f (w ∷ ws) = no_flags f ws
 
 all_words : (ws : List (List ℕ)) → words_in (map (λ w. word w) ws) ≡ ws
 all_words [] = refl
 all_words (w ∷ ws) = ap (λ l. w ∷ l) (all_words ws)
 
 pub plain_are_options : (ws : List (List ℕ)) → are_plain ws ≡ true → are_options true ws ≡ true
-plain_are_options ws e = rw (plain_parts ws e, no_widths ws, no_guards ws) refl
+plain_are_options ws e = rw (plain_parts ws e, no_widths ws, no_flags Guard ws, no_flags More ws) refl
 
 pub files_are : (ws : List (List ℕ)) (m : ArgMatches) → are_plain ws ≡ true → HasParts (parts_of ws) m → values_of (codes "files") m ≡ ws
 files_are ws m e h = (subst (λ o. HasParts o m) (plain_parts ws e) h).2 ∙ all_words ws

@@ -3,7 +3,10 @@ use Rattle.std.proofs.Common.{◌≡◌, ◌∙◌, ap, Bool, true, false, ℕ, 
 use Rattle.std.specs.Prelude.{slice_index}
 use Rattle.clap.specs.Walk.{Held, Row, Rule, Text, Waiting, Walk, has_row, idle, option, positional, used, walked}
 use Rattle.clap.specs.Takes.{turn_passes}
-use Rattle.vg_request.proofs.Command.{shape, rules, width_built, with_built, guard_built, files_built}
+use Rattle.vg_request.specs.declared.part.Flag.{Flag}
+use Rattle.vg_request.specs.declared.part.Flag.TheVariants.{Guard, More}
+use Rattle.vg_request.specs.Parts.{flag_word}
+use Rattle.vg_request.proofs.Command.{shape, rules, flag_id, width_built, with_built, flag_built, files_built}
 
 -- what waits for its use between two parts
 pub data Rest : Type 0 where
@@ -109,10 +112,14 @@ at_file rows (of_file u) (x ∷ xs) p h = (rw (p, p) refl, rw (p, p) refl)
 at_file rows (of_width u) (x ∷ xs) p h = (rw (p, p) refl, rw (p, p, h) refl)
 at_file rows (of_with u) (x ∷ xs) p h = (rw (p, p) refl, rw (p, p) refl)
 
--- `--guard` where there is none before
-pub at_guard : (rows : List Row) (r : Rest) → Calm rows r → has_row (codes "guard") (use_of r rows) ≡ false → (walked rules [] (between rows r) (codes "--guard") ≡ between (used (guard_built) [] (use_of r rows)) none) × (turn_passes shape [] (between rows r) (codes "--guard") ≡ true)
+-- a flag where there is none before
+pub at_flag : (f : Flag) (rows : List Row) (r : Rest) → Calm rows r → has_row (flag_id f) (use_of r rows) ≡ false → (walked rules [] (between rows r) (flag_word f) ≡ between (used (flag_built f) [] (use_of r rows)) none) × (turn_passes shape [] (between rows r) (flag_word f) ≡ true)
 unfolding walked
-at_guard rows none h f = (refl, rw f refl)
-at_guard rows (of_file u) h f = (refl, rw f refl)
-at_guard rows (of_width u) h f = (refl, rw (h, f) refl)
-at_guard rows (of_with u) h f = (refl, rw f refl)
+at_flag Guard rows none h new = (refl, rw new refl)
+at_flag Guard rows (of_file u) h new = (refl, rw new refl)
+at_flag Guard rows (of_width u) h new = (refl, rw (h, new) refl)
+at_flag Guard rows (of_with u) h new = (refl, rw new refl)
+at_flag More rows none h new = (refl, rw new refl)
+at_flag More rows (of_file u) h new = (refl, rw new refl)
+at_flag More rows (of_width u) h new = (refl, rw (h, new) refl)
+at_flag More rows (of_with u) h new = (refl, rw new refl)

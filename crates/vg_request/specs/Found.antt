@@ -6,7 +6,8 @@ use Rattle.clap.specs.Words.{found_of, matched_of, one_text, raw_values}
 use Rattle.clap.specs.declared.parser.matches.ArgMatches.{ArgMatches}
 use Rattle.vg_request.specs.Binding.{is_binding, bindings_in}
 use Rattle.vg_request.specs.Options.{KernelAsked, width_of, allowed_of, two_files}
-use Rattle.vg_request.specs.Parts.{Part, widths_in, extensions_in, guards_in, words_in}
+use Rattle.vg_request.specs.declared.part.Flag.TheVariants.{Guard, More}
+use Rattle.vg_request.specs.Parts.{Part, widths_in, extensions_in, flags_in, words_in}
 use Rattle.vg_request.specs.Request.{Asked, run, eval, lift, trial, check, trial_number}
 
 -- all values of an argument, in their order
@@ -24,18 +25,19 @@ HasParts None m = ⊥
 HasParts (Some parts) m = (values_of (codes "width") m ≡ widths_in parts)
     × (values_of (codes "with") m ≡ extensions_in parts)
     × (values_of (codes "files") m ≡ words_in parts)
-    × (one_text (found_of m) (codes "guard") ≡ Some (flag_text (guards_in parts)))
+    × (one_text (found_of m) (codes "guard") ≡ Some (flag_text (flags_in Guard parts)))
+    × (one_text (found_of m) (codes "more") ≡ Some (flag_text (flags_in More parts)))
 
 -- what these values of options and files ask for
-abbrev pub kernel_by : Bool → List (List ℕ) → List (List ℕ) → List (List ℕ) → Option KernelAsked
-kernel_by guard widths names files =
+abbrev pub kernel_by : Bool → Bool → List (List ℕ) → List (List ℕ) → List (List ℕ) → Option KernelAsked
+kernel_by guard more widths names files =
     option_and_then (λ width.
     option_and_then (λ allowed.
-    two_files guard (record { width = width; allowed = allowed }) files)
+    two_files guard (record { width = width; allowed = allowed; more = more }) files)
     (allowed_of names)) (width_of widths)
 
-abbrev pub kernel_found : Bool → ArgMatches → Option KernelAsked
-kernel_found guard m = kernel_by guard (values_of (codes "width") m)
+abbrev pub kernel_found : Bool → Bool → ArgMatches → Option KernelAsked
+kernel_found guard more m = kernel_by guard more (values_of (codes "width") m)
     (values_of (codes "with") m) (values_of (codes "files") m)
 
 -- what the values ask for behind each other command, and the words behind its files

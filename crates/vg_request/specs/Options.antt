@@ -5,13 +5,15 @@ use Rattle.vg_text.specs.Number.{decimal_value}
 use Rattle.vg_catalog.specs.Extensions.{all_extensions, extension_place, bits_in}
 use Rattle.vg_request.specs.declared.options.Options.{Options}
 use Rattle.vg_request.specs.declared.reading.OnKernel.{OnKernel}
-use Rattle.vg_request.specs.Parts.{Part, parts_of, widths_in, extensions_in, guards_in, words_in}
+use Rattle.vg_request.specs.declared.part.Flag.TheVariants.{Guard, More}
+use Rattle.vg_request.specs.Parts.{Part, parts_of, widths_in, extensions_in, flags_in, words_in}
 
--- the width of the search, and the extensions whose entries may be called: bit i stands for the
--- extension at place i of their list
+-- the width of the search, the extensions whose entries may be called (bit i stands for the extension
+-- at place i of their list), and whether more plans are asked for
 pub record Choices : Type 0 where
   pub width : ℕ
   pub allowed : ℕ
+  pub more : Bool
 
 -- the width where none is given
 abbrev pub usual_width : ℕ
@@ -43,18 +45,20 @@ abbrev pub allowed_of : List (List ℕ) → Option ℕ
 allowed_of [] = Some all_extensions
 allowed_of (name ∷ names) = with_named 0 (name ∷ names)
 
+-- whether an option without a value stands there: once, and only where it may
+abbrev pub flag_of : Bool → List (List ℕ) → Option Bool
+flag_of free [] = Some false
+flag_of free (g ∷ []) = if free then Some true else None
+flag_of free _ = None
+
 -- what the options say
 abbrev pub choices_of : List Part → Option Choices
 choices_of parts =
     option_and_then (λ width.
-    option_map (λ allowed. record { width = width; allowed = allowed })
+    option_and_then (λ allowed.
+    option_map (λ more. record { width = width; allowed = allowed; more = more })
+    (flag_of true (flags_in More parts)))
     (allowed_of (extensions_in parts))) (width_of (widths_in parts))
-
--- whether `--guard` stands there: once, and only where it may
-abbrev pub guard_of : Bool → List (List ℕ) → Option Bool
-guard_of free [] = Some false
-guard_of free (g ∷ []) = if free then Some true else None
-guard_of free _ = None
 
 -- an instruction file, a kernel, what the options say, and whether guards are asked for
 pub record KernelAsked : Type 0 where
@@ -79,11 +83,11 @@ kernel_asked free words =
     option_and_then (λ parts.
     option_and_then (λ guard.
     option_and_then (λ choices. two_files guard choices (words_in parts))
-    (choices_of parts)) (guard_of free (guards_in parts))) (parts_of words)
+    (choices_of parts)) (flag_of free (flags_in Guard parts))) (parts_of words)
 
 -- what the code's values stand for
 abbrev pub choices_seen : Options → Choices
-choices_seen o = record { width = o.width; allowed = bits_in o.allowed }
+choices_seen o = record { width = o.width; allowed = bits_in o.allowed; more = o.more }
 
 abbrev pub kernel_seen : OnKernel → KernelAsked
 kernel_seen k = record {

@@ -3,7 +3,9 @@ use Rattle.std.specs.Prelude.{ℕ, Bool, true, false, not, ◌&&◌, List, [], �
 use Rattle.std.specs.List.{list_all}
 use Rattle.std.specs.Str.{bytes_eq}
 use Rattle.vg_request.specs.Word.{is_plain}
-use Rattle.vg_request.specs.Parts.{Part, width, guard, parts_of, widths_in, guards_in}
+use Rattle.vg_request.specs.declared.part.Flag.TheVariants.{Guard, More}
+use Rattle.vg_request.specs.declared.reading.Free.{Free}
+use Rattle.vg_request.specs.Parts.{Part, width, flag, parts_of, widths_in, flags_in}
 
 abbrev pub is_nothing : List (List ℕ) → Bool
 is_nothing [] = true
@@ -18,30 +20,35 @@ abbrev pub are_few : Bool → List (List ℕ) → Bool
 are_few free vs = if free then at_most_one vs else is_nothing vs
 
 -- There are parts; at most one of them is a width, where it is free to stand there, and at most one
--- `--guard`, where that is.
-abbrev pub may_follow : Bool → Bool → Option (List Part) → Bool
-may_follow width_free guard_free None = false
-may_follow width_free guard_free (Some parts) =
-    are_few width_free (widths_in parts) && are_few guard_free (guards_in parts)
+-- `--guard` and one `--more`, where those are.
+abbrev pub may_follow : Free → Option (List Part) → Bool
+may_follow free None = false
+may_follow free (Some parts) =
+    are_few free.width (widths_in parts)
+    && (are_few free.guard (flags_in Guard parts) && are_few free.more (flags_in More parts))
 
-abbrev pub is_width : Part → Bool
-is_width (width v) = true
-is_width _ = false
+-- a part that is not free to stand
+abbrev pub is_one_more : Free → Part → Bool
+is_one_more free (width v) = not free.width
+is_one_more free (flag Guard) = not free.guard
+is_one_more free (flag More) = not free.more
+is_one_more free _ = false
 
-abbrev pub is_guard : Part → Bool
-is_guard guard = true
-is_guard _ = false
+-- what is free to stand behind a part
+abbrev pub free_behind : Free → Part → Free
+free_behind free (width v) = record free { width = false }
+free_behind free (flag Guard) = record free { guard = false }
+free_behind free (flag More) = record free { more = false }
+free_behind free _ = free
 
--- a width or `--guard` where it is not free to stand
-abbrev pub is_one_more : Bool → Bool → Part → Bool
-is_one_more width_free guard_free (width v) = not width_free
-is_one_more width_free guard_free guard = not guard_free
-is_one_more width_free guard_free _ = false
+-- what is free to stand at first, where `--guard` is or is not
+abbrev pub free_first : Bool → Free
+free_first guard_free = record { width = true; guard = guard_free; more = true }
 
 -- options with their values, one width at most, `--guard` at most once and only where it may stand,
--- and texts that do not begin with `-`
+-- `--more` at most once, and texts that do not begin with `-`
 abbrev pub are_options : Bool → List (List ℕ) → Bool
-are_options guard_free words = may_follow true guard_free (parts_of words)
+are_options guard_free words = may_follow (free_first guard_free) (parts_of words)
 
 -- texts that do not begin with `-`
 abbrev pub are_plain : List (List ℕ) → Bool

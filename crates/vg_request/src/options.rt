@@ -9,7 +9,7 @@ use bitflags::Flags;
 use vg_catalog::Extensions;
 use vg_text::decimal;
 
-/// What `--width` and `--with` say.
+/// What `--width`, `--with` and `--more` say.
 #[derive(Clone, Copy)]
 pub struct Options {
     /// The width of the search, 1 to 4096: how many plans it keeps of each size. 32 where the words
@@ -17,6 +17,8 @@ pub struct Options {
     pub width: u32,
     /// The extensions whose entries may be called. All where the words name none.
     pub allowed: Extensions,
+    /// Whether more plans are asked for.
+    pub more: bool,
 }
 
 /// The width of the search where the words give none.
@@ -34,7 +36,7 @@ fn width_number(text: &str) -> Option<u32>
     }
 }
 
-/// The width that the values of `--width` say. None behind two.
+/// The width that the values of `--width` say. None after two.
 pub(crate) fn width_of(widths: &[&str]) -> Option<u32>
     ensures { result ≡ width_of (texts_of widths.now) }
 {

@@ -1,4 +1,4 @@
-//! The words behind a command, part by part.
+//! The words after a command, part by part.
 
 ghost use Rattle.std.specs.Prelude.{◌≡◌, ◌<◌, length, option_map, IfSome};
 ghost use Rattle.std.specs.Str.{bytes_eq};
@@ -8,6 +8,15 @@ ghost use Rattle.vg_request.specs.Parts.{part_of, part_seen, IsFirst, width, ext
 use crate::word::plain_word;
 use vg_outside::Bytes;
 
+/// An option without a value.
+#[derive(Clone, Copy)]
+pub(crate) enum Flag {
+    /// `--guard`.
+    Guard,
+    /// `--more`.
+    More,
+}
+
 /// An option, with its value where it has one, or a word that is no option.
 #[derive(Clone, Copy)]
 pub(crate) enum Part<'a> {
@@ -15,13 +24,13 @@ pub(crate) enum Part<'a> {
     Width(&'a str),
     /// The value of `--with`.
     Extension(&'a str),
-    /// `--guard`.
-    Guard,
+    /// An option without a value.
+    Flag(Flag),
     /// A word that is no option.
     Word(&'a str),
 }
 
-/// The first part of some words, and the words behind it.
+/// The first part of some words, and the words after it.
 #[derive(Clone, Copy)]
 pub(crate) struct Cut<'a> {
     pub(crate) part: Part<'a>,
@@ -64,7 +73,10 @@ fn part_of(bytes: &[u8]) -> Option<Part<'_>>
         return extension_part(value);
     }
     if is_text(bytes, b"--guard") {
-        return Some(Part::Guard);
+        return Some(Part::Flag(Flag::Guard));
+    }
+    if is_text(bytes, b"--more") {
+        return Some(Part::Flag(Flag::More));
     }
     word_part(bytes)
 }

@@ -1,67 +1,82 @@
-//! The words behind a command, read with `clap`.
+//! The words after a command, read with `clap`.
 
 ghost use Rattle.std.specs.Prelude.{◌≡◌, [], true, false, codes, Ok, None, IfOk, IfErr, option_map, unwrap_or};
 ghost use Rattle.clap.specs.Words.{kind_of};
 ghost use Rattle.vg_request.specs.Parts.{parts_of, part_seen};
 ghost use Rattle.vg_request.specs.Options.{kernel_asked, kernel_seen, two_files, choices_seen};
-ghost use Rattle.vg_request.specs.Readable.{is_width, is_guard, is_one_more, are_options, are_plain};
+ghost use Rattle.vg_request.specs.Readable.{is_one_more, free_behind, are_options, are_plain};
 ghost use Rattle.vg_request.specs.Found.{HasParts, values_of, kernel_found};
 ghost use Rattle.vg_request.specs.Texts.{texts_of};
 
 use crate::options::{Options, allowed_of, width_of};
-use crate::part::{Part, first_part};
+use crate::part::{Flag, Part, first_part};
 use crate::word::is_plain;
 use clap::error::ErrorKind;
 use clap::{Arg, ArgAction, ArgMatches, Command, Error};
 use std::alloc::{AllocError, Global};
 use vg_outside::Bytes;
 
-fn is_width(part: Part<'_>) -> bool
-    ensures { result ≡ is_width (part_seen part.entry) }
+/// Which options are free to stand, of those that stand once at most.
+#[derive(Clone, Copy)]
+pub(crate) struct Free {
+    width: bool,
+    guard: bool,
+    more: bool,
+}
+
+/// Whether a part is an option that is not free to stand.
+fn is_one_more(free: Free, part: Part<'_>) -> bool
+    ensures { result ≡ is_one_more free (part_seen part.entry) }
 {
     match part {
-        Part::Width(_) => true,
+        Part::Width(_) => !free.width,
+        Part::Flag(Flag::Guard) => !free.guard,
+        Part::Flag(Flag::More) => !free.more,
         _ => false,
     }
 }
 
-fn is_guard(part: Part<'_>) -> bool
-    ensures { result ≡ is_guard (part_seen part.entry) }
+/// What is free to stand after a part.
+fn free_behind(free: Free, part: Part<'_>) -> Free
+    ensures { result ≡ free_behind free (part_seen part.entry) }
 {
     match part {
-        Part::Guard => true,
-        _ => false,
-    }
-}
-
-/// Whether a part is a width or `--guard` where it is not free to stand.
-fn is_one_more(width_free: bool, guard_free: bool, part: Part<'_>) -> bool
-    ensures { result ≡ is_one_more width_free guard_free (part_seen part.entry) }
-{
-    match part {
-        Part::Width(_) => !width_free,
-        Part::Guard => !guard_free,
-        _ => false,
+        Part::Width(_) => Free {
+            width: false,
+            ..free
+        },
+        Part::Flag(Flag::Guard) => Free {
+            guard: false,
+            ..free
+        },
+        Part::Flag(Flag::More) => Free {
+            more: false,
+            ..free
+        },
+        _ => free,
     }
 }
 
 /// Whether the words are options with their values, one width at most, `--guard` at most once and
-/// only where it is free to stand, and texts that do not begin with `-`. Takes no memory.
+/// only where it is free to stand, `--more` at most once, and texts that do not begin with `-`.
+/// Takes no memory.
 fn are_options(words: &[Bytes], guard_free: bool) -> bool
     ensures { result ≡ are_options guard_free words.now }
 {
     let mut left = words;
-    let mut no_width = true;
-    let mut no_guard = guard_free;
+    let mut free = Free {
+        width: true,
+        guard: guard_free,
+        more: true,
+    };
     'parts: while !left.is_empty() {
         let Some(cut) = first_part(left) else {
             return false;
         };
-        if is_one_more(no_width, no_guard, cut.part) {
+        if is_one_more(free, cut.part) {
             return false;
         }
-        no_width = no_width && !is_width(cut.part);
-        no_guard = no_guard && !is_guard(cut.part);
+        free = free_behind(free, cut.part);
         left = cut.behind;
     }
     true
@@ -89,6 +104,9 @@ fn read<'a>(alloc: Global, words: &'a [Bytes]) -> Result<ArgMatches<'a>, Error>
     let guard = Arg::new(alloc, "guard")
         .long("guard")
         .action(ArgAction::SetTrue);
+    let more = Arg::new(alloc, "more")
+        .long("more")
+        .action(ArgAction::SetTrue);
     let files = Arg::new(alloc, "files").action(ArgAction::Append);
     let command = Command::new(alloc, "vegen")
         .no_binary_name(true)
@@ -96,6 +114,7 @@ fn read<'a>(alloc: Global, words: &'a [Bytes]) -> Result<ArgMatches<'a>, Error>
         .arg(width)?
         .arg(with)?
         .arg(guard)?
+        .arg(more)?
         .arg(files)?;
     command.try_get_matches_from(words)
 }
@@ -164,21 +183,25 @@ fn two_files<'a>(guard: bool, options: Options, files: &[&'a str]) -> Option<OnK
     }
 }
 
-fn kernel_found<'a>(guard: bool, matches: &ArgMatches<'a>) -> Option<OnKernel<'a>>
-    ensures { option_map kernel_seen result ≡ kernel_found guard matches.now }
+fn kernel_found<'a>(guard: bool, more: bool, matches: &ArgMatches<'a>) -> Option<OnKernel<'a>>
+    ensures { option_map kernel_seen result ≡ kernel_found guard more matches.now }
 {
     let width = width_of(values_of(matches, "width"))?;
     let allowed = allowed_of(values_of(matches, "with"))?;
     two_files(
         guard,
-        Options { width, allowed },
+        Options {
+            width,
+            allowed,
+            more,
+        },
         values_of(matches, "files"),
     )
 }
 
 /// `INSTRUCTIONS KERNEL`, with options anywhere among them, `--guard` where it is free to stand.
 /// Fails for want of memory alone, and takes none for words that are no options and files.
-#[tactic(auto, using(crate::proofs::Asked::found_is_asked, crate::proofs::Asked::no_options, crate::proofs::Asked::are_free))]
+#[tactic(auto, using(crate::proofs::Asked::no_options, crate::proofs::Asked::are_free))]
 pub(crate) fn on_kernel<'a>(
     alloc: Global,
     words: &'a [Bytes],
@@ -192,5 +215,6 @@ pub(crate) fn on_kernel<'a>(
     }
     let matches = matched(alloc, words)?;
     let guard = matches.get_flag("guard");
-    Ok(kernel_found(guard, &matches))
+    let more = matches.get_flag("more");
+    Ok(kernel_found(guard, more, &matches))
 }

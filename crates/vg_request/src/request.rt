@@ -86,7 +86,7 @@ impl<'a> Request<'a> {
 
 /// What the words ask for. None where they are no request.
 ///
-/// The words behind the command are read with `clap`. Those that are refused before, since they are
+/// The words after the command are read with `clap`. Those that are refused before, since they are
 /// not text or begin with `-` where no option stands, give None and take no memory. Fails for want
 /// of memory alone.
 pub fn request_of(alloc: Global, words: &Words) -> Result<Option<Request<'_>>, AllocError>
@@ -152,7 +152,7 @@ fn explain_words(alloc: Global, words: &Words) -> Result<Option<Request<'_>>, Al
     }))
 }
 
-/// The words behind the first so many.
+/// The words after the first so many.
 fn words_behind(words: &Words, count: usize) -> &[Bytes]
     ensures { result.now ≡ drop count words.now }
 {

@@ -1,4 +1,4 @@
-//! Words behind a command.
+//! Words after a command.
 
 ghost use Rattle.std.specs.Prelude.{◌≡◌, option_map};
 ghost use Rattle.vg_request.specs.Word.{text_word, plain_word, is_plain};

@@ -87,7 +87,7 @@ fn sorted_chain(alloc: Global, op: TwoOp, width: u32, x: Term, y: Term) -> Resul
     chain_of(alloc, op, width, found)
 }
 
-// The parts of the term, left before right, put behind those that were found before.
+// The parts of the term, left before right, put after those that were found before.
 fn collect(op: TwoOp, t: Term, found: &mut Vec<Term>) -> Result<(), AllocError>
     ensures { OnOk result (map tree found.new.items ≡ map tree found.old.items ++ parts op (tree t)) }
 {

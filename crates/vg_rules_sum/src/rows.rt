@@ -44,7 +44,7 @@ pub fn sort_chain(alloc: Global, t: Term) -> Result<Term, AllocError>
     put_in_order(alloc, t)
 }
 
-/// Whether the term is a chain with a constant on its right, behind another.
+/// Whether the term is a chain with a constant on its right, after another.
 pub fn is_merge_constants(t: &Term) -> bool
     ensures { result ≡ is_some (merge_constants (tree t.now)) }
 {

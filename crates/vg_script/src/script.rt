@@ -84,7 +84,7 @@ pub struct Frame {
     pub script: Script,
 }
 
-/// What registers are given, each with those behind it.
+/// What registers are given, each with those after it.
 #[cycle(script)]
 pub enum Given {
     Nothing,
@@ -174,7 +174,7 @@ pub enum Script {
         variable: usize,
         word: Box<Word>,
     },
-    /// The one behind the other.
+    /// The one after the other.
     Both {
         first: Box<Script>,
         second: Box<Script>,
@@ -183,7 +183,7 @@ pub enum Script {
     Branch {
         ways: Box<Script>,
     },
-    /// A way that is taken where a word of one bit is 1, and the ways behind it.
+    /// A way that is taken where a word of one bit is 1, and the ways after it.
     Way {
         condition: Box<Word>,
         body: Box<Script>,
@@ -204,7 +204,7 @@ pub enum Script {
     },
 }
 
-/// Along the list in a loop, since a list may be long: what stands behind first.
+/// Along the list in a loop, since a list may be long: what stands after first.
 impl Drop for Script {
     #[cycle(script)]
     fn drop(mut self) {

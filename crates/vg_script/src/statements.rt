@@ -7,7 +7,7 @@ ghost use Rattle.vg_script.specs.Views.{frame_of, given_of, low_of, script_of, w
 use crate::script::{Frame, Given, Low, Script, Word};
 use std::alloc::{AllocError, Global};
 
-/// A word of 128 bits for a register, and what those behind it are given.
+/// A word of 128 bits for a register, and what those after it are given.
 pub fn make_given_word(alloc: Global, x: Word, rest: Given) -> Result<Given, AllocError>
     ensures { IfOk result (λ given. given_of given ≡ word (word_of x) (given_of rest)) }
 {
@@ -16,7 +16,7 @@ pub fn make_given_word(alloc: Global, x: Word, rest: Given) -> Result<Given, All
     Ok(Given::Word { word, rest })
 }
 
-/// A constant for a register, and what those behind it are given.
+/// A constant for a register, and what those after it are given.
 pub fn make_given_number(alloc: Global, n: u128, rest: Given) -> Result<Given, AllocError>
     ensures { IfOk result (λ given. given_of given ≡ number n (given_of rest)) }
 {
@@ -24,7 +24,7 @@ pub fn make_given_number(alloc: Global, n: u128, rest: Given) -> Result<Given, A
     Ok(Given::Number { number: n, rest })
 }
 
-/// Bits of a register for a register, and what those behind it are given.
+/// Bits of a register for a register, and what those after it are given.
 pub fn make_given_bits(
     alloc: Global,
     register: usize,
@@ -94,7 +94,7 @@ pub fn make_give(alloc: Global, variable: usize, word: Word) -> Result<Script, A
     Ok(Script::Give { variable, word })
 }
 
-/// The one behind the other.
+/// The one after the other.
 pub fn make_both(alloc: Global, first: Script, second: Script) -> Result<Script, AllocError>
     ensures { IfOk result (λ script. script_of script ≡ both (script_of first) (script_of second)) }
 {
@@ -111,7 +111,7 @@ pub fn make_branch(alloc: Global, ways: Script) -> Result<Script, AllocError>
     Ok(Script::Branch { ways })
 }
 
-/// A way that is taken where a word of one bit is 1, and the ways behind it.
+/// A way that is taken where a word of one bit is 1, and the ways after it.
 pub fn make_way(
     alloc: Global,
     condition: Word,
@@ -148,7 +148,7 @@ pub fn make_pick(alloc: Global, selector: Word, arms: Script) -> Result<Script, 
     Ok(Script::Pick { selector, arms })
 }
 
-/// An arm of a CASE, and the arms behind it.
+/// An arm of a CASE, and the arms after it.
 pub fn make_arm(
     alloc: Global,
     number: u128,

@@ -3,3 +3,6 @@ pub mod MatchTables
 pub mod Pairs
 pub mod Readings
 pub mod Replacing
+pub mod Turning
+pub mod ValueTerms
+pub mod WholeTables

@@ -1,5 +1,5 @@
 -- When numbered values stand for a kernel.
-use Rattle.std.specs.Prelude.{◌≡◌, ◌<◌, ◌≤◌, ◌+◌, ◌^◌, ℕ, List, [], ◌∷◌, ◌++◌, length, map, filter, take, drop, Bool, true, false, not, Option, Some, None, slice_get, slice_index, nat_lt, pos, IsTrue, if◌then◌else◌}
+use Rattle.std.specs.Prelude.{◌≡◌, ◌<◌, ◌≤◌, ◌+◌, ◌^◌, ℕ, List, [], ◌∷◌, ◌++◌, length, map, filter, take, drop, Bool, true, false, not, ◌⊎◌, Option, Some, None, slice_get, slice_index, nat_eq, nat_lt, pos, IsTrue, if◌then◌else◌}
 use Rattle.std.specs.List.{AllByRecursion, IsDistinct}
 use Rattle.std.specs.Option.{option_map}
 use Rattle.std.specs.Str.{bytes_eq}
@@ -175,6 +175,28 @@ terms_of ssa = map tree ssa.terms
 abbrev pub term_at : Ssa → ℕ → Option Tree
 term_at ssa v = slice_get (terms_of ssa) v
 
+-- for each number the cut term of its value, where there are cut terms
+abbrev pub cuts_of : Ssa → List Tree
+cuts_of ssa = map tree ssa.cuts
+
+abbrev pub cut_at : Ssa → ℕ → Option Tree
+cut_at ssa v = slice_get (cuts_of ssa) v
+
+-- The name by which cut terms speak of the value of a unit that has this number and this cut term: a
+-- bit is written out, any other value is a leaf of its own. A store has none.
+abbrev pub unit_name : ℕ → Tree → Work → Option Tree
+unit_name v t (Load a w) = Some (leaf (bits_of w) (cut_key v))
+unit_name v t (Store a w x) = None
+unit_name v t (Operation op w k xs) =
+    Some (if nat_eq (width_of t) 1 then t else leaf (width_of t) (cut_key v))
+
+-- the same of any value; that of an integer parameter is its cut term
+abbrev pub name_of : Ssa → ℕ → Tree → Option Tree
+name_of ssa v t = if nat_lt v (arguments ssa) then Some t else unit_at ssa v >>= unit_name v t
+
+abbrev pub name_at : Ssa → ℕ → Option Tree
+name_at ssa v = cut_at ssa v >>= name_of ssa v
+
 -- the terms of parameters from this number on
 abbrev pub AreArgumentTerms : ℕ → List SsaParam → List Tree → Type 0
 AreArgumentTerms v [] ts = ts ≡ []
@@ -199,17 +221,28 @@ AreArguments [] ns = ns ≡ []
 AreArguments (p ∷ ps) [] = ⊥
 AreArguments (p ∷ ps) (n ∷ ns) = (n < 2 ^ kind_bits p.kind) × AreArguments ps ns
 
--- where a run reaches a value, its term has its number
-abbrev pub TermsMean : Ssa → Type 0
-TermsMean ssa =
+-- where a run reaches a value, the term that this gives for it has its number
+abbrev pub HaveNumbers : Ssa → (ℕ → Option Tree) → Type 0
+HaveNumbers ssa given =
     (places memory args : List ℕ) (k : ℕ) (r : Reached) →
     IsBytes memory → AreArguments (integers ssa) args →
     run_units places (take k ssa.units) (start_of memory args) ≡ Some r →
-    (v : ℕ) (t : Tree) → v < length r.numbers → term_at ssa v ≡ Some t →
+    (v : ℕ) (t : Tree) → v < length r.numbers → given v ≡ Some t →
     value (environment ssa r.numbers) t ≡ slice_index r.numbers v
 
+abbrev pub TermsMean : Ssa → Type 0
+TermsMean ssa = HaveNumbers ssa (term_at ssa)
+
+-- Each value has a cut term: those of parameters, loads and stores are their terms, that of an
+-- operation is well-formed and has the width of its value. Cut terms and names mean their values.
+pub record AreCuts (ssa : Ssa) : Type 0 where
+  pub argument_terms : AreArgumentTerms 0 (integers ssa) (take (arguments ssa) (cuts_of ssa))
+  pub unit_terms : AreUnitTerms (arguments ssa) ssa.units (drop (arguments ssa) (cuts_of ssa))
+  pub meaning : HaveNumbers ssa (cut_at ssa)
+  pub names : HaveNumbers ssa (name_at ssa)
+
 -- The names and the limits are those of kernels, units take earlier values of the widths that they
--- want, and terms mean their values.
+-- want, and terms mean their values. There are no cut terms, or they mean their values too.
 pub record IsSound (ssa : Ssa) : Type 0 where
   pub name : IsTrue (is_name_text ssa.name)
   pub names : AllByRecursion (λ p. IsTrue (is_name_text p.name)) ssa.params
@@ -222,3 +255,4 @@ pub record IsSound (ssa : Ssa) : Type 0 where
   pub argument_terms : AreArgumentTerms 0 (integers ssa) (take (arguments ssa) (terms_of ssa))
   pub unit_terms : AreUnitTerms (arguments ssa) ssa.units (drop (arguments ssa) (terms_of ssa))
   pub meaning : TermsMean ssa
+  pub cuts : (ssa.cuts ≡ []) ⊎ AreCuts ssa

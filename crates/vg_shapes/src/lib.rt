@@ -30,7 +30,10 @@ pub use dep_list::DepList;
 pub use description::Description;
 pub use lane::Lane;
 pub use lanes::Lanes;
-pub use law::{leaves_read_registers, replaced_leaves_keep_numbers};
+pub use law::{
+    leaves_read_registers, replaced_leaves_keep_numbers, turned_terms_keep_numbers,
+    without_cuts_matches_are_whole,
+};
 pub use leaf::Leaf;
 pub use match_table::{Bound, Match, MatchTable};
 pub use operand::{Operand, Slot};

@@ -13,7 +13,7 @@ pub enum Node {
     UnitAt(u32),
 }
 
-/// Nodes, one behind the other. Contracts see it as the list.
+/// Nodes, one after the other. Contracts see it as the list.
 #[derive(Drop)]
 pub struct Order {
     nodes: Vec<Node>,

@@ -36,6 +36,9 @@ pub struct Ssa {
     pub units: Items<Unit>,
     /// For each number the term of its value.
     pub terms: Items<Term>,
+    /// For each number the cut term of its value, over the names of the values that it is made of.
+    /// Or none at all: no value has a cut term.
+    pub cuts: Items<Term>,
 }
 
 impl SsaParamKind {

@@ -24,7 +24,7 @@ pub enum Operator {
     Select,
 }
 
-/// The operands of an operation in order, `Nothing` behind the last.
+/// The operands of an operation in order, `Nothing` after the last.
 #[derive(Clone, Copy)]
 pub struct Operands {
     pub first: Wanted,

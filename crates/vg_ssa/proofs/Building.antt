@@ -9,6 +9,7 @@ use Rattle.vg_shapes.specs.declared.unit.Unit.{Unit as Work}
 use Rattle.vg_shapes.specs.declared.unit.Unit.TheVariants.{Store}
 use Rattle.vg_shapes.specs.declared.wanted.Wanted.{Wanted}
 use Rattle.vg_shapes.specs.declared.wanted.Wanted.TheVariants.{Value}
+use Rattle.vg_ssa.specs.declared.value_terms.Depth.TheVariants.{Whole}
 use Rattle.vg_ssa.specs.Built.{after_statement, Built, CanTake, numbered_in, Numbers, statement_units, with_units}
 use Rattle.vg_ssa.specs.Fitting.{UnitsFit}
 use Rattle.vg_ssa.specs.Numbering.{found, Numbered, numbered, units_from}
@@ -22,20 +23,20 @@ with-both b us vs =
     λ i. record {
       first = b.first;
       units = append_assoc b.units us vs i;
-      terms = sym (terms-both b.first b.terms us vs) i;
+      terms = sym (terms-both Whole b.first b.terms us vs) i;
       names = b.names;
     }
 
 pub take-front : (b : Built) (us vs : List Work) → CanTake b (us ++ vs) → CanTake b us
 take-front b us vs h = record {
   few = (let l = length-append us vs in let f = h.few in omega arith);
-  fit = fit-front b.first b.terms us vs h.fit;
+  fit = fit-front Whole b.first b.terms us vs h.fit;
 }
 
 pub take-behind : (b : Built) (us vs : List Work) → CanTake b (us ++ vs) → CanTake (with_units b us) vs
 take-behind b us vs h = record {
-  few = (let l = length-append us vs in let m = terms-long b.first b.terms us in let f = h.few in omega arith);
-  fit = fit-behind b.first b.terms us vs h.fit;
+  few = (let l = length-append us vs in let m = terms-long Whole b.first b.terms us in let f = h.few in omega arith);
+  fit = fit-behind Whole b.first b.terms us vs h.fit;
 }
 
 -- ---- one expression after another
@@ -45,7 +46,7 @@ abbrev pub behind_units : Built → List Work → Expression → Numbered
 behind_units b us e = numbered (length b.terms + length us) b.names e
 
 pub numbered-behind : (b : Built) (us : List Work) (e : Expression) → numbered_in (with_units b us) e ≡ behind_units b us e
-numbered-behind b us e = ap (λ n. numbered n b.names e) (terms-long b.first b.terms us)
+numbered-behind b us e = ap (λ n. numbered n b.names e) (terms-long Whole b.first b.terms us)
 
 -- where so many units were numbered, an expression can be, and what it gives
 pub can-number : (b c : Built) (us : List Work) (e : Expression) → c ≡ with_units b us → CanTake b (us ++ (behind_units b us e).units) → CanTake c (numbered_in c e).units
@@ -67,7 +68,7 @@ can-push b c us u v same e h = subst (λ d. CanTake d (v ∷ [])) (sym same) (su
 pub pushed : (b c new : Built) (us : List Work) (u v : Work) (x : Wanted) → c ≡ with_units b us → v ≡ u → new ≡ with_units c (v ∷ []) → x ≡ Value (length c.terms) → Numbers b (found (length b.terms) us u) new x
 pushed b c new us u v x same e h g = record {
   built = h ∙ (λ i. with_units (same i) (e i ∷ [])) ∙ with-both b us (u ∷ []);
-  value = g ∙ ap Value (ap (λ d. length d.terms) same ∙ terms-long b.first b.terms us);
+  value = g ∙ ap Value (ap (λ d. length d.terms) same ∙ terms-long Whole b.first b.terms us);
 }
 
 -- ---- statements
@@ -79,7 +80,7 @@ left_units b ss = units_from (length b.terms) b.names ss
 pub record Left (start : Built) (all : List Statement) (b : Built) (rest : List Statement) : Type 0 where
   pub first : b.first ≡ start.first
   pub units : b.units ++ left_units b rest ≡ start.units ++ left_units start all
-  pub terms : terms_behind b.first b.terms (left_units b rest) ≡ terms_behind start.first start.terms (left_units start all)
+  pub terms : terms_behind Whole b.first b.terms (left_units b rest) ≡ terms_behind Whole start.first start.terms (left_units start all)
   pub room : CanTake b (left_units b rest)
 
 -- two clauses on what a call gives
@@ -91,30 +92,30 @@ ok-both (Err e) P Q R f p q = tt
 statement-split : (b : Built) (s : Statement) (ss : List Statement) → left_units b (s ∷ ss) ≡ statement_units b s ++ left_units (after_statement b s) ss
 statement-split b (assign e) ss =
     let p = numbered_in b e in
-    λ i. p.units ++ units_from (sym (terms-long b.first b.terms p.units) i) (b.names ++ p.value ∷ []) ss
+    λ i. p.units ++ units_from (sym (terms-long Whole b.first b.terms p.units) i) (b.names ++ p.value ∷ []) ss
 statement-split b (store w a e) ss =
     let p = numbered_in b e in
     let us = p.units ++ Store a w p.value ∷ [] in
-    let long : length b.terms + length p.units + 1 ≡ length (terms_behind b.first b.terms us) =
-    (let l = length_push p.units (Store a w p.value) in let e : length b.terms + length p.units + 1 ≡ length b.terms + length us = omega arith in e) ∙ sym (terms-long b.first b.terms us) in
+    let long : length b.terms + length p.units + 1 ≡ length (terms_behind Whole b.first b.terms us) =
+    (let l = length_push p.units (Store a w p.value) in let e : length b.terms + length p.units + 1 ≡ length b.terms + length us = omega arith in e) ∙ sym (terms-long Whole b.first b.terms us) in
     λ i. us ++ units_from (long i) b.names ss
 
 -- what a statement leaves has the terms and units of what it numbered
 record After (b : Built) (s : Statement) : Type 0 where
   first : (after_statement b s).first ≡ b.first
   units : (after_statement b s).units ≡ b.units ++ statement_units b s
-  terms : (after_statement b s).terms ≡ terms_behind b.first b.terms (statement_units b s)
+  terms : (after_statement b s).terms ≡ terms_behind Whole b.first b.terms (statement_units b s)
 
 after-is : (b : Built) (s : Statement) → After b s
 after-is b (assign e) = record { first = refl; units = refl; terms = refl }
 after-is b (store w a e) = record { first = refl; units = refl; terms = refl }
 
-room-after : (b c : Built) (us vs : List Work) → c.first ≡ b.first → c.terms ≡ terms_behind b.first b.terms us → CanTake b (us ++ vs) → CanTake c vs
+room-after : (b c : Built) (us vs : List Work) → c.first ≡ b.first → c.terms ≡ terms_behind Whole b.first b.terms us → CanTake b (us ++ vs) → CanTake c vs
 room-after b c us vs f t h =
     let g = take-behind b us vs h in
     record {
       few = subst (λ l. length l + length vs < 2 ^ 32) (sym t) g.few;
-      fit = subst (λ n. UnitsFit n c.terms vs) (sym f) (subst (λ l. UnitsFit b.first l vs) (sym t) g.fit);
+      fit = subst (λ n. UnitsFit Whole n c.terms vs) (sym f) (subst (λ l. UnitsFit Whole b.first l vs) (sym t) g.fit);
     }
 
 pub left-step : (start : Built) (all : List Statement) (b : Built) (s : Statement) (ss : List Statement) → Left start all b (s ∷ ss) → Left start all (after_statement b s) ss
@@ -126,7 +127,7 @@ left-step start all b s ss h =
     record {
       first = a.first ∙ h.first;
       units = ap (λ l. l ++ rest) a.units ∙ append_assoc b.units us rest ∙ ap (λ l. b.units ++ l) (sym split) ∙ h.units;
-      terms = (λ i. terms_behind (a.first i) (a.terms i) rest) ∙ sym (terms-both b.first b.terms us rest) ∙ ap (terms_behind b.first b.terms) (sym split) ∙ h.terms;
+      terms = (λ i. terms_behind Whole (a.first i) (a.terms i) rest) ∙ sym (terms-both Whole b.first b.terms us rest) ∙ ap (terms_behind Whole b.first b.terms) (sym split) ∙ h.terms;
       room = room-after b (after_statement b s) us rest a.first a.terms (subst (CanTake b) split h.room);
     }
 
@@ -134,7 +135,7 @@ pub left-room : (start : Built) (all : List Statement) (b : Built) (s : Statemen
 left-room start all b s ss h = take-front b (statement_units b s) (left_units (after_statement b s) ss) (subst (CanTake b) (statement-split b s ss) h.room)
 
 -- the same of statements of the code
-behind-first : (s : KStmt) (ss : List KStmt) → take (length (s ∷ ss) - 1) (drop 1 (s ∷ ss)) ≡ ss
+behind-first : {A : Type 0} (s : A) (ss : List A) → take (length (s ∷ ss) - 1) (drop 1 (s ∷ ss)) ≡ ss
 behind-first s ss = let e : suc (length ss) - 1 ≡ length ss = omega arith in ap (λ n. take n ss) e ∙ take-length ss
 
 pub item-room : (start : Built) (all : List Statement) (b : Built) (left : List KStmt) (item : KStmt) → 1 ≤ length left → item ≡ get_or left 0 item → Left start all b (map statement_of left) → CanTake b (statement_units b (statement_of item))

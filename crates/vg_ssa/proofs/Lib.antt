@@ -1,11 +1,13 @@
 pub mod Building
 pub mod Counts
+pub mod Cuts
 pub mod Differences
 pub mod Earlier
 pub mod Enough
 pub mod Environment
 pub mod Meaning
 pub mod OperationTerms
+pub mod OverNames
 pub mod Running
 pub mod SameAccesses
 pub mod Soundness

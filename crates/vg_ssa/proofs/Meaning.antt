@@ -1,6 +1,6 @@
 -- Where a run of units reaches a value, its term has its number.
-use Rattle.std.proofs.Common.{◌≡◌, ℕ, zero, suc, ◌+◌, ◌*◌, ◌%◌, ◌^◌, ◌<◌, ◌≤◌, ◌⊎◌, Bool, true, false, List, [], ◌∷◌, ◌++◌, length, take, drop, Option, Some, None, refl, sym, ap, subst, ◌∙◌, arith, append_assoc, append-nil, inl, inr}
-use Rattle.std.specs.Prelude.{ℤ, pos, negsuc, nat_le, nat_lt, slice_index, slice_index_or, if◌then◌else◌}
+use Rattle.std.proofs.Common.{◌≡◌, ℕ, zero, suc, ◌+◌, ◌*◌, ◌%◌, ◌^◌, ◌<◌, ◌≤◌, ◌⊎◌, Bool, true, false, List, [], ◌∷◌, ◌++◌, length, map, take, drop, Option, Some, None, refl, sym, ap, subst, ◌∙◌, arith, append_assoc, append-nil, inl, inr}
+use Rattle.std.specs.Prelude.{ℤ, pos, negsuc, ◌&&◌, ◌||◌, nat_eq, nat_le, nat_lt, slice_index, slice_index_or, if◌then◌else◌}
 use Rattle.std.proofs.lemmas.List.{get_or_push, length-take, length_push}
 use Rattle.std.proofs.Math.Nat.{mod-eq_of_lt}
 use Rattle.std.proofs.Math.Seq.{drop-append_seam}
@@ -27,11 +27,12 @@ use Rattle.vg_shapes.specs.declared.wanted.Wanted.TheVariants.{Value, Constant, 
 use Rattle.vg_shapes.specs.RunUnits.{number_of, operation_result, Reached, reached, result_of, run_units, unit_run}
 use Rattle.vg_shapes.specs.Sound.{cut_key, unit_bits}
 use Rattle.vg_ssa.specs.Fitting.{IsTermOf}
-use Rattle.vg_ssa.specs.ValueTerm.{cut_term, no_term, operand_term, over_operands, terms_behind, unit_term}
+use Rattle.vg_ssa.specs.declared.value_terms.Depth.{Depth}
+use Rattle.vg_ssa.specs.ValueTerm.{cut_term, looks_in, no_term, operand_term, over_operands, terms_behind, unit_term, writes_bits}
 use Rattle.vg_ssa.proofs.Environment.{ReadUnits}
 use Rattle.vg_ssa.proofs.OperationTerms.{canonical-means}
 use Rattle.vg_ssa.proofs.Terms.{cut-fit, Stand, stand-more, whole-fit}
-use Rattle.vg_ssa.proofs.Typing.{BitIn, NumberIn, OperationIn, UnitIn, UnitsIn}
+use Rattle.vg_ssa.proofs.Typing.{behind, BitIn, NumberIn, OperationIn, UnitIn, UnitsIn}
 use Rattle.vg_terms.specs.declared.value.Env.{Env}
 use Rattle.vg_terms.specs.Term.{Tree, leaf, node_count, width_of}
 use Rattle.vg_terms.specs.Value.{number_at, value}
@@ -88,7 +89,7 @@ stored-bytes memory new (negsuc n) after h g e = absurd (cc)
 
 -- ---- steps
 
-bound : {A B : Type 0} (o : Option A) (f : A → Option B) (y : B) → (o >>= f) ≡ Some y → (x : A) × (o ≡ Some x) × (f x ≡ Some y)
+pub bound : {A B : Type 0} (o : Option A) (f : A → Option B) (y : B) → (o >>= f) ≡ Some y → (x : A) × (o ≡ Some x) × (f x ≡ Some y)
 bound None f y e = absurd (cc)
 bound (Some x) f y e = (x, refl, e)
 
@@ -152,71 +153,72 @@ whole-means env first bits terms numbers (Constant w n) m = refl
 whole-means env first bits terms numbers Nothing m = refl
 
 -- a leaf that stands for the number of a term
-leaf-means : (env : Env) (w v n : ℕ) (t : Tree) → IsTermOf w t → number_at env.pairs (cut_key v) ≡ n → value env t ≡ n → value env (leaf (width_of t) (cut_key v)) ≡ n
+pub leaf-means : (env : Env) (w v n : ℕ) (t : Tree) → IsTermOf w t → number_at env.pairs (cut_key v) ≡ n → value env t ≡ n → value env (leaf (width_of t) (cut_key v)) ≡ n
 leaf-means env w v n t h e f = ap (λ m. m % 2 ^ width_of t) (e ∙ sym f) ∙ mod-eq_of_lt (value-below env t h.well_formed) ∙ f
 
-cut-means : (env : Env) (first : ℕ) (bits : List (Option ℕ)) (terms : List Tree) (numbers : List ℕ) (v w : ℕ) → Stand bits terms → Mean env first bits terms numbers → slice_index_or bits v None ≡ Some w
-    → value env (cut_term first terms (Value v)) ≡ slice_index numbers v
-cut-means env first bits terms numbers v w s m h = by (nat_lt v first) refl
+cut-means : (env : Env) (b : Bool) (first : ℕ) (bits : List (Option ℕ)) (terms : List Tree) (numbers : List ℕ) (v w : ℕ) → Stand bits terms → Mean env first bits terms numbers → slice_index_or bits v None ≡ Some w
+    → value env (cut_term b first terms (Value v)) ≡ slice_index numbers v
+cut-means env b first bits terms numbers v w s m h = by (nat_lt v first) (b && nat_eq (width_of t) 1) refl refl
   where
     t : Tree
     t = slice_index_or terms v no_term
 
-    by : (b : Bool) → nat_lt v first ≡ b → value env (if nat_lt v first then slice_index_or terms v no_term else leaf (width_of (slice_index_or terms v no_term)) (cut_key v)) ≡ slice_index numbers v
-    by true e = ap (λ b. value env (if b then slice_index_or terms v no_term else leaf (width_of (slice_index_or terms v no_term)) (cut_key v))) e ∙ m.each v
-    by false e =
-        ap (λ b. value env (if b then slice_index_or terms v no_term else leaf (width_of (slice_index_or terms v no_term)) (cut_key v))) e
-        ∙ leaf-means env w v (slice_index numbers v) (slice_index_or terms v no_term) (s.each v w h).1 (m.cut v w e h) (m.each v)
+    by : (x y : Bool) → nat_lt v first ≡ x → (b && nat_eq (width_of t) 1) ≡ y → value env (cut_term b first terms (Value v)) ≡ slice_index numbers v
+    by true y e f = ap (λ z. value env (if z || (b && nat_eq (width_of t) 1) then t else leaf (width_of t) (cut_key v))) e ∙ m.each v
+    by false true e f = (λ i. value env (if e i || f i then t else leaf (width_of t) (cut_key v))) ∙ m.each v
+    by false false e f =
+        (λ i. value env (if e i || f i then t else leaf (width_of t) (cut_key v)))
+        ∙ leaf-means env w v (slice_index numbers v) t (s.each v w h).1 (m.cut v w e h) (m.each v)
 
-number-cut : (env : Env) (first : ℕ) (bits : List (Option ℕ)) (terms : List Tree) (numbers : List ℕ) (w : Width) (x : Wanted) → Stand bits terms → Mean env first bits terms numbers → NumberIn bits w x
-    → value env (cut_term first terms x) ≡ number_of (slice_index numbers) x
-number-cut env first bits terms numbers w (Value v) s m h = cut-means env first bits terms numbers v (bits_of w) s m h
-number-cut env first bits terms numbers w (Constant n k) s m h = refl
-number-cut env first bits terms numbers w Nothing s m h = refl
+number-cut : (env : Env) (b : Bool) (first : ℕ) (bits : List (Option ℕ)) (terms : List Tree) (numbers : List ℕ) (w : Width) (x : Wanted) → Stand bits terms → Mean env first bits terms numbers → NumberIn bits w x
+    → value env (cut_term b first terms x) ≡ number_of (slice_index numbers) x
+number-cut env b first bits terms numbers w (Value v) s m h = cut-means env b first bits terms numbers v (bits_of w) s m h
+number-cut env b first bits terms numbers w (Constant n k) s m h = refl
+number-cut env b first bits terms numbers w Nothing s m h = refl
 
-bit-cut : (env : Env) (first : ℕ) (bits : List (Option ℕ)) (terms : List Tree) (numbers : List ℕ) (x : Wanted) → Stand bits terms → Mean env first bits terms numbers → BitIn bits x
-    → value env (cut_term first terms x) ≡ number_of (slice_index numbers) x
-bit-cut env first bits terms numbers (Value v) s m h = cut-means env first bits terms numbers v 1 s m h
-bit-cut env first bits terms numbers (Constant n k) s m h = refl
-bit-cut env first bits terms numbers Nothing s m h = refl
+bit-cut : (env : Env) (b : Bool) (first : ℕ) (bits : List (Option ℕ)) (terms : List Tree) (numbers : List ℕ) (x : Wanted) → Stand bits terms → Mean env first bits terms numbers → BitIn bits x
+    → value env (cut_term b first terms x) ≡ number_of (slice_index numbers) x
+bit-cut env b first bits terms numbers (Value v) s m h = cut-means env b first bits terms numbers v 1 s m h
+bit-cut env b first bits terms numbers (Constant n k) s m h = refl
+bit-cut env b first bits terms numbers Nothing s m h = refl
 
 -- the numbers of cut operands
-cut-result : (env : Env) (first : ℕ) (bits : List (Option ℕ)) (terms : List Tree) (numbers : List ℕ) (op : Operator) (w : Width) (k : ℕ) (xs : Operands) → Stand bits terms → Mean env first bits terms numbers → OperationIn bits op w k xs
-    → operation_result op (bits_of w) k (value env (cut_term first terms xs.first)) (value env (cut_term first terms xs.second)) (value env (cut_term first terms xs.third)) ≡ result_of (slice_index numbers) op (bits_of w) k xs
-cut-result env first bits terms numbers (Two op) w k xs s m h =
-    λ i. two_result op (bits_of w) (number-cut env first bits terms numbers w xs.first s m h.1 i) (number-cut env first bits terms numbers w xs.second s m h.2 i)
-cut-result env first bits terms numbers (Shift op) w k xs s m h = ap (shift_result op (bits_of w) k) (number-cut env first bits terms numbers w xs.first s m h.1)
-cut-result env first bits terms numbers (Resize op v) w k xs s m h = ap (resize_result op (bits_of w) (bits_of v)) (number-cut env first bits terms numbers v xs.first s m h.2)
-cut-result env first bits terms numbers (Compare op) w k xs s m h =
-    λ i. comparison_result op (bits_of w) (number-cut env first bits terms numbers w xs.first s m h.1 i) (number-cut env first bits terms numbers w xs.second s m h.2 i)
-cut-result env first bits terms numbers Select w k xs s m h =
-    λ i. select_result (bit-cut env first bits terms numbers xs.first s m h.1 i) (number-cut env first bits terms numbers w xs.second s m h.2 i) (number-cut env first bits terms numbers w xs.third s m h.3 i)
+cut-result : (env : Env) (b : Bool) (first : ℕ) (bits : List (Option ℕ)) (terms : List Tree) (numbers : List ℕ) (op : Operator) (w : Width) (k : ℕ) (xs : Operands) → Stand bits terms → Mean env first bits terms numbers → OperationIn bits op w k xs
+    → operation_result op (bits_of w) k (value env (cut_term b first terms xs.first)) (value env (cut_term b first terms xs.second)) (value env (cut_term b first terms xs.third)) ≡ result_of (slice_index numbers) op (bits_of w) k xs
+cut-result env b first bits terms numbers (Two op) w k xs s m h =
+    λ i. two_result op (bits_of w) (number-cut env b first bits terms numbers w xs.first s m h.1 i) (number-cut env b first bits terms numbers w xs.second s m h.2 i)
+cut-result env b first bits terms numbers (Shift op) w k xs s m h = ap (shift_result op (bits_of w) k) (number-cut env b first bits terms numbers w xs.first s m h.1)
+cut-result env b first bits terms numbers (Resize op v) w k xs s m h = ap (resize_result op (bits_of w) (bits_of v)) (number-cut env b first bits terms numbers v xs.first s m h.2)
+cut-result env b first bits terms numbers (Compare op) w k xs s m h =
+    λ i. comparison_result op (bits_of w) (number-cut env b first bits terms numbers w xs.first s m h.1 i) (number-cut env b first bits terms numbers w xs.second s m h.2 i)
+cut-result env b first bits terms numbers Select w k xs s m h =
+    λ i. select_result (bit-cut env b first bits terms numbers xs.first s m h.1 i) (number-cut env b first bits terms numbers w xs.second s m h.2 i) (number-cut env b first bits terms numbers w xs.third s m h.3 i)
 
 either-means : (env : Env) (b : Bool) (x y : Tree) (n : ℕ) → value env x ≡ n → value env y ≡ n → value env (if b then x else y) ≡ n
 either-means env true x y n e f = e
 either-means env false x y n e f = f
 
-operation-number : (env : Env) (first : ℕ) (bits : List (Option ℕ)) (terms : List Tree) (numbers : List ℕ) (op : Operator) (w : Width) (k : ℕ) (xs : Operands) → Stand bits terms → Mean env first bits terms numbers → OperationIn bits op w k xs
-    → value env (unit_term first terms (Operation op w k xs)) ≡ result_of (slice_index numbers) op (bits_of w) k xs
-operation-number env first bits terms numbers op w k xs s m h =
+operation-number : (env : Env) (d : Depth) (first : ℕ) (bits : List (Option ℕ)) (terms : List Tree) (numbers : List ℕ) (op : Operator) (w : Width) (k : ℕ) (xs : Operands) → Stand bits terms → Mean env first bits terms numbers → OperationIn bits op w k xs
+    → value env (unit_term d first terms (Operation op w k xs)) ≡ result_of (slice_index numbers) op (bits_of w) k xs
+operation-number env d first bits terms numbers op w k xs s m h =
     let f = whole-means env first bits terms numbers in
-    either-means env (nat_le (node_count (over_operands (operand_term terms) op (bits_of w) k xs)) 128)
-    (over_operands (operand_term terms) op (bits_of w) k xs) (over_operands (cut_term first terms) op (bits_of w) k xs) (result_of (slice_index numbers) op (bits_of w) k xs)
+    either-means env (looks_in d && nat_le (node_count (over_operands (operand_term terms) op (bits_of w) k xs)) 128)
+    (over_operands (operand_term terms) op (bits_of w) k xs) (over_operands (cut_term (writes_bits d) first terms) op (bits_of w) k xs) (result_of (slice_index numbers) op (bits_of w) k xs)
     (canonical-means op env w k (operand_term terms xs.first) (operand_term terms xs.second) (operand_term terms xs.third) (whole-fit bits terms op w k xs s h)
     ∙ (λ i. operation_result op (bits_of w) k (f xs.first m i) (f xs.second m i) (f xs.third m i)))
-    (canonical-means op env w k (cut_term first terms xs.first) (cut_term first terms xs.second) (cut_term first terms xs.third) (cut-fit first bits terms op w k xs s h)
-    ∙ cut-result env first bits terms numbers op w k xs s m h)
+    (canonical-means op env w k (cut_term (writes_bits d) first terms xs.first) (cut_term (writes_bits d) first terms xs.second) (cut_term (writes_bits d) first terms xs.third) (cut-fit (writes_bits d) first bits terms op w k xs s h)
+    ∙ cut-result env (writes_bits d) first bits terms numbers op w k xs s m h)
 
 -- ---- one unit more
 
 abbrev Reads : Env → ℕ → Work → ℕ → Type 0
 Reads env v u n = ReadUnits env.pairs v (u ∷ []) (n ∷ [])
 
-unit-number : (env : Env) (count first : ℕ) (bits : List (Option ℕ)) (terms : List Tree) (numbers : List ℕ) (u : Work) (n : ℕ) → Stand bits terms → Mean env first bits terms numbers → UnitIn count bits u → Gives numbers u n → Reads env (length terms) u n
-    → value env (unit_term first terms u) ≡ n
-unit-number env count first bits terms numbers (Load a w) n s m h g e = ap (λ k. k % 2 ^ bits_of w) e.0.0 ∙ mod-eq_of_lt g
-unit-number env count first bits terms numbers (Store a w x) n s m h g e = sym g
-unit-number env count first bits terms numbers (Operation op w k xs) n s m h g e = operation-number env first bits terms numbers op w k xs s m h ∙ sym g
+unit-number : (env : Env) (d : Depth) (count first : ℕ) (bits : List (Option ℕ)) (terms : List Tree) (numbers : List ℕ) (u : Work) (n : ℕ) → Stand bits terms → Mean env first bits terms numbers → UnitIn count bits u → Gives numbers u n → Reads env (length terms) u n
+    → value env (unit_term d first terms u) ≡ n
+unit-number env d count first bits terms numbers (Load a w) n s m h g e = ap (λ k. k % 2 ^ bits_of w) e.0.0 ∙ mod-eq_of_lt g
+unit-number env d count first bits terms numbers (Store a w x) n s m h g e = sym g
+unit-number env d count first bits terms numbers (Operation op w k xs) n s m h g e = operation-number env d first bits terms numbers op w k xs s m h ∙ sym g
 
 unit-cut : (env : Env) (u : Work) (v w n : ℕ) → unit_bits u ≡ Some w → Reads env v u n → number_at env.pairs (cut_key v) ≡ n
 unit-cut env (Load a m) v w n e h = h.0.1
@@ -244,13 +246,13 @@ before [] n v l = absurd (omega arith)
 before (m ∷ numbers) n zero l = refl
 before (m ∷ numbers) n (suc v) l = before numbers n v (omega arith)
 
-mean-more : (env : Env) (count first : ℕ) (bits : List (Option ℕ)) (terms : List Tree) (numbers : List ℕ) (u : Work) (n : ℕ) → Stand bits terms → Mean env first bits terms numbers → UnitIn count bits u → Gives numbers u n → Reads env (length numbers) u n
-    → Mean env first (bits ++ unit_bits u ∷ []) (terms ++ unit_term first terms u ∷ []) (numbers ++ n ∷ [])
-mean-more env count first bits terms numbers u n s m h g e =
+mean-more : (env : Env) (d : Depth) (count first : ℕ) (bits : List (Option ℕ)) (terms : List Tree) (numbers : List ℕ) (u : Work) (n : ℕ) → Stand bits terms → Mean env first bits terms numbers → UnitIn count bits u → Gives numbers u n → Reads env (length numbers) u n
+    → Mean env first (bits ++ unit_bits u ∷ []) (terms ++ unit_term d first terms u ∷ []) (numbers ++ n ∷ [])
+mean-more env d count first bits terms numbers u n s m h g e =
     let l : length numbers ≡ length terms = m.long ∙ sym s.long in
     record {
       long = (let a = length_push numbers n in let b = length_push bits (unit_bits u) in let c = m.long in omega arith);
-      each = each-more env terms numbers (unit_term first terms u) n l m.each (unit-number env count first bits terms numbers u n s m h g (subst (λ k. Reads env k u n) l e));
+      each = each-more env terms numbers (unit_term d first terms u) n l m.each (unit-number env d count first bits terms numbers u n s m h g (subst (λ k. Reads env k u n) l e));
       cut = λ v w c f. elim (place bits (unit_bits u) v w f) [
         | inl p ↦ m.cut v w c p.1 ∙ sym (before numbers n v (let q = m.long in omega (arith, p.0)))
         | inr p ↦ (
@@ -261,12 +263,14 @@ mean-more env count first bits terms numbers u n s m h g e =
 
 -- ---- the run
 
-pub run-means : (env : Env) (count first : ℕ) (places : List ℕ) (us : List Work) (bits : List (Option ℕ)) (terms : List Tree) (r t : Reached) → Stand bits terms → Mean env first bits terms r.numbers → UnitsIn count bits us → IsBytes r.memory
+pub run-means : (env : Env) (d : Depth) (count first : ℕ) (places : List ℕ) (us : List Work) (bits : List (Option ℕ)) (terms : List Tree) (r t : Reached) → Stand bits terms → Mean env first bits terms r.numbers → UnitsIn count bits us → IsBytes r.memory
     → run_units places us r ≡ Some t → ReadUnits env.pairs (length r.numbers) us (drop (length r.numbers) t.numbers)
-    → (v : ℕ) → value env (slice_index_or (terms_behind first terms us) v no_term) ≡ slice_index t.numbers v
+    → Mean env first (behind bits us) (terms_behind d first terms us) t.numbers
 unfolding run_units
-run-means env count first places [] bits terms r t s m h g e reads v = let same : r ≡ t = cc in m.each v ∙ ap (λ q. slice_index q.numbers v) same
-run-means env count first places (u ∷ us) bits terms r t s m h g e reads v =
+run-means env d count first places [] bits terms r t s m h g e reads =
+    let same : r ≡ t = cc in
+    subst (λ l. Mean env first l terms t.numbers) (sym (append-nil bits)) (subst (λ (q : Reached). Mean env first bits terms q.numbers) same m)
+run-means env d count first places (u ∷ us) bits terms r t s m h g e reads =
     let b = bound (unit_run places u r) (run_units places us) t e in
     let q = b.0 in
     let p = unit-step places u r q g b.1 in
@@ -276,9 +280,12 @@ run-means env count first places (u ∷ us) bits terms r t s m h g e reads v =
     let ahead : drop (length q.numbers) t.numbers ≡ rest.more = ap (drop (length q.numbers)) rest.numbers ∙ drop-append_seam q.numbers rest.more in
     let long : length q.numbers ≡ length r.numbers + 1 = ap length p.numbers ∙ length_push r.numbers p.given in
     let read = subst (ReadUnits env.pairs (length r.numbers) (u ∷ us)) here reads in
-    let next : Mean env first (bits ++ unit_bits u ∷ []) (terms ++ unit_term first terms u ∷ []) q.numbers =
-    subst (Mean env first (bits ++ unit_bits u ∷ []) (terms ++ unit_term first terms u ∷ [])) (sym p.numbers)
-    (mean-more env count first bits terms r.numbers u p.given s m h.0 p.gives (read.0, tt)) in
+    let wider = bits ++ unit_bits u ∷ [] in
+    let more = terms ++ unit_term d first terms u ∷ [] in
+    let next : Mean env first wider more q.numbers =
+    subst (Mean env first wider more) (sym p.numbers)
+    (mean-more env d count first bits terms r.numbers u p.given s m h.0 p.gives (read.0, tt)) in
     let later : ReadUnits env.pairs (length q.numbers) us (drop (length q.numbers) t.numbers) =
     subst (λ n. ReadUnits env.pairs n us (drop (length q.numbers) t.numbers)) (sym long) (subst (ReadUnits env.pairs (length r.numbers + 1) us) (sym ahead) read.1) in
-    run-means env count first places us (bits ++ unit_bits u ∷ []) (terms ++ unit_term first terms u ∷ []) q t (stand-more count first bits terms u s h.0) next h.1 p.memory b.2 later v
+    subst (λ l. Mean env first l (terms_behind d first more us) t.numbers) (append_assoc bits (unit_bits u ∷ []) (map unit_bits us))
+    (run-means env d count first places us wider more q t (stand-more d count first bits terms u s h.0) next h.1 p.memory b.2 later)

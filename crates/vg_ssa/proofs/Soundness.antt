@@ -1,10 +1,10 @@
 -- The numbered values of a well-formed kernel are sound.
-use Rattle.std.proofs.Common.{◌≡◌, ℕ, zero, suc, ◌+◌, ◌-◌, ◌%◌, ◌^◌, ◌<◌, ◌≤◌, Bool, true, false, List, [], ◌∷◌, ◌++◌, length, take, drop, map, Option, Some, None, refl, sym, ap, subst, ◌∙◌, arith, append_assoc, append-nil}
-use Rattle.std.specs.Prelude.{◌&&◌, filter, IsTrue, nat_lt, not, slice_get, slice_index, slice_index_or, sum_by, if◌then◌else◌}
+use Rattle.std.proofs.Common.{◌≡◌, ℕ, zero, suc, ◌+◌, ◌-◌, ◌%◌, ◌^◌, ◌<◌, ◌≤◌, Bool, true, false, List, [], ◌∷◌, ◌++◌, length, take, drop, map, Option, Some, None, refl, sym, ap, subst, ◌∙◌, arith, append_assoc, append-nil, inl, inr}
+use Rattle.std.specs.Prelude.{◌&&◌, filter, IsTrue, nat_eq, nat_lt, not, slice_get, slice_index, slice_index_or, sum_by, if◌then◌else◌}
 use Rattle.std.specs.List.{AllByRecursion, cons_option, IsDistinct}
 use Rattle.std.specs.Option.{option_map}
 use Rattle.std.specs.Str.{bytes_eq}
-use Rattle.std.proofs.lemmas.Bool.{ltb-true, ltb-false}
+use Rattle.std.proofs.lemmas.Bool.{cond-true, cond-false, ltb-true, ltb-false}
 use Rattle.std.proofs.lemmas.List.{get_or_append_left, get_or-append_right, length-append, length-map, take-append-drop}
 use Rattle.std.proofs.lemmas.List.Elements.{filter-append}
 use Rattle.std.proofs.lemmas.List.Sums.{sum_by-cons}
@@ -33,8 +33,10 @@ use Rattle.vg_shapes.specs.declared.unit.Unit.TheVariants.{Load, Store, Operatio
 use Rattle.vg_shapes.specs.declared.wanted.Wanted.{Wanted}
 use Rattle.vg_shapes.specs.declared.wanted.Wanted.TheVariants.{Value, Constant, Nothing}
 use Rattle.vg_shapes.specs.RunUnits.{Reached, run_units, start_of}
-use Rattle.vg_shapes.specs.Sound.{AreArguments, AreArgumentTerms, argument_key, AreUnitTerms, environment, IsNumber, IsOperation, IsBit, IsUnit, is_store, kind_bits, pointers, terms_of, TakeEarlier, TermsMean, unit_bits, value_bits}
-use Rattle.vg_shapes.specs.Units.{arguments, integers, integers_of, is_integer}
+use Rattle.vg_shapes.specs.Sound.{AreArguments, AreArgumentTerms, AreCuts, argument_key, AreUnitTerms, cut_at, cut_key, cuts_of, environment, HaveNumbers, IsNumber, IsOperation, IsBit, IsUnit, is_store, kind_bits, name_at, name_of, pointers, result_bits, terms_of, TakeEarlier, unit_bits, unit_name, value_bits}
+use Rattle.vg_shapes.specs.Units.{arguments, integers, integers_of, is_integer, unit_at}
+use Rattle.vg_ssa.specs.declared.value_terms.Depth.{Depth}
+use Rattle.vg_ssa.specs.declared.value_terms.Depth.TheVariants.{Whole, Cut}
 use Rattle.vg_ssa.specs.Laws.{NumberedValuesAreSound}
 use Rattle.vg_ssa.specs.Numbering.{first_unit, IsNumbering, kind_of, numbered, param_of, units_from, units_of}
 use Rattle.vg_ssa.specs.ValueTerm.{argument_terms, no_term, terms_behind}
@@ -42,14 +44,14 @@ use Rattle.vg_ssa.specs.Fitting.{IsTermOf, UnitsFit}
 use Rattle.vg_ssa.proofs.Counts.{arguments_first, expression-units}
 use Rattle.vg_ssa.proofs.Earlier.{units-take_earlier}
 use Rattle.vg_ssa.proofs.Environment.{of-arguments, of-units, ReadArguments, read-front, ReadUnits}
-use Rattle.vg_ssa.proofs.Meaning.{Mean, run-means, run-more}
+use Rattle.vg_ssa.proofs.Meaning.{bound, leaf-means, Mean, run-means, run-more}
 use Rattle.vg_ssa.proofs.OperationTerms.{bits-width}
-use Rattle.vg_ssa.proofs.Terms.{leaf-term, Stand, terms_after, terms-behind, terms-both, terms-long, unit-terms, units-fit}
+use Rattle.vg_ssa.proofs.Terms.{leaf-term, Stand, stand-behind, terms_after, terms-behind, terms-both, terms-long, unit-terms, units-fit}
 use Rattle.vg_ssa.proofs.TypedUnits.{Held, statements-typed}
-use Rattle.vg_ssa.proofs.Typing.{behind, BitIn, number-stays, NumberIn, bit-stays, OperationIn, UnitIn, UnitsIn}
+use Rattle.vg_ssa.proofs.Typing.{behind, behind-both, behind-long, BitIn, number-stays, NumberIn, bit-stays, OperationIn, UnitIn, UnitsIn}
 use Rattle.vg_terms.specs.declared.value.Env.{Env}
-use Rattle.vg_terms.specs.Term.{Tree, IsWidth, leaf}
-use Rattle.vg_terms.specs.Value.{value}
+use Rattle.vg_terms.specs.Term.{Tree, IsWidth, leaf, width_of}
+use Rattle.vg_terms.specs.Value.{number_at, value}
 
 -- ---- parameters
 
@@ -76,7 +78,7 @@ pointers-same [] = refl
 pointers-same (p ∷ ps) = pointer-more p.kind (param_of p) p (filter (λ p. not (is_integer p.kind)) (map param_of ps)) (kernel_pointers ps) (pointers-same ps)
 
 -- the widths of integer parameters
-abbrev widths : List SsaParam → List (Option ℕ)
+abbrev pub widths : List SsaParam → List (Option ℕ)
 widths ps = map (λ p. Some (kind_bits p.kind)) ps
 
 integer-more : (kind : KParamKind) (name : List ℕ) (qs : List SsaParam) (ws : List Width) → widths qs ≡ map (λ w. Some (bits_of w)) ws
@@ -121,7 +123,7 @@ arguments-each u (x ∷ ws) (suc v) w e = arguments-each (u + 1) ws v w e
 
 -- ---- the rules on units
 
-value-at : (ps : List SsaParam) (us : List Work) (v : ℕ)
+pub value-at : (ps : List SsaParam) (us : List Work) (v : ℕ)
     → (if nat_lt v (length ps) then option_map (λ p. kind_bits p.kind) (slice_get ps v) else (if nat_lt v (length ps) then None else slice_get us (v - length ps)) >>= unit_bits)
     ≡ slice_index_or (behind (widths ps) us) v None
 value-at ps us v = by (nat_lt v (length ps)) refl
@@ -285,7 +287,7 @@ arguments-count [] ns h = ap length h
 arguments-count (p ∷ ps) [] h = absurd h
 arguments-count (p ∷ ps) (n ∷ ns) h = ap suc (arguments-count ps ns h.1)
 
-some-below : (bits : List (Option ℕ)) (v w : ℕ) → slice_index_or bits v None ≡ Some w → v < length bits
+pub some-below : (bits : List (Option ℕ)) (v w : ℕ) → slice_index_or bits v None ≡ Some w → v < length bits
 some-below [] v w e = absurd (cc)
 some-below (b ∷ bits) zero w e = omega arith
 some-below (b ∷ bits) (suc v) w e = let rest = some-below bits v w e in omega arith
@@ -300,23 +302,41 @@ units-front count bits [] vs h = tt
 units-front count bits (u ∷ us) vs h = (h.0, units-front count (bits ++ unit_bits u ∷ []) us vs h.1)
 
 -- the term of a value that the first units reach is theirs
-term-of-front : (first : ℕ) (terms : List Tree) (us vs : List Work) (v : ℕ) → v < length terms + length us → slice_index_or (terms_behind first terms (us ++ vs)) v no_term ≡ slice_index_or (terms_behind first terms us) v no_term
-term-of-front first terms us vs v l =
-    let long = terms-long first terms us in
-    ap (λ t. slice_index_or t v no_term) (terms-both first terms us vs ∙ terms-behind first (terms_behind first terms us) vs)
-    ∙ get_or_append_left (terms_behind first terms us) (terms_after first (terms_behind first terms us) vs) no_term v (omega arith)
+term-of-front : (d : Depth) (first : ℕ) (terms : List Tree) (us vs : List Work) (v : ℕ) → v < length terms + length us → slice_index_or (terms_behind d first terms (us ++ vs)) v no_term ≡ slice_index_or (terms_behind d first terms us) v no_term
+term-of-front d first terms us vs v l =
+    let long = terms-long d first terms us in
+    ap (λ t. slice_index_or t v no_term) (terms-both d first terms us vs ∙ terms-behind d first (terms_behind d first terms us) vs)
+    ∙ get_or_append_left (terms_behind d first terms us) (terms_after d first (terms_behind d first terms us) vs) no_term v (omega arith)
 
-record Typed (ssa : Ssa) (terms : List Tree) : Type 0 where
-  units : UnitsIn (length (pointers ssa)) (widths (integers ssa)) ssa.units
-  stand : Stand (widths (integers ssa)) terms
-  leaves : AreArgumentTerms 0 (integers ssa) terms
-  all : terms_of ssa ≡ terms_behind (arguments ssa) terms ssa.units
+-- and so is its width
+width-of-front : (bits : List (Option ℕ)) (us vs : List Work) (v : ℕ) → v < length bits + length us → slice_index_or (behind bits us) v None ≡ slice_index_or (behind bits (us ++ vs)) v None
+width-of-front bits us vs v l =
+    let long = behind-long bits us in
+    sym (ap (λ b. slice_index_or b v None) (behind-both bits us vs) ∙ get_or_append_left (behind bits us) (map unit_bits vs) None v (omega arith))
+
+-- units that take what they may behind the terms of the parameters
+pub record Typed (ssa : Ssa) (terms : List Tree) : Type 0 where
+  pub units : UnitsIn (length (pointers ssa)) (widths (integers ssa)) ssa.units
+  pub stand : Stand (widths (integers ssa)) terms
+  pub leaves : AreArgumentTerms 0 (integers ssa) terms
+
+-- the terms of all values, and their widths
+abbrev pub all_terms : Depth → Ssa → List Tree → List Tree
+all_terms d ssa terms = terms_behind d (arguments ssa) terms ssa.units
+
+abbrev pub all_widths : Ssa → List (Option ℕ)
+all_widths ssa = behind (widths (integers ssa)) ssa.units
+
+-- in the environment of these numbers, which are those of the first values, their terms and their cut
+-- leaves have them
+record FrontMeans (d : Depth) (ssa : Ssa) (terms : List Tree) (numbers : List ℕ) : Type 0 where
+  each : (v : ℕ) → v < length numbers → value (environment ssa numbers) (slice_index_or (all_terms d ssa terms) v no_term) ≡ slice_index numbers v
+  leaf : (v w : ℕ) → v < length numbers → nat_lt v (arguments ssa) ≡ false → slice_index_or (all_widths ssa) v None ≡ Some w → number_at (environment ssa numbers).pairs (cut_key v) ≡ slice_index numbers v
 
 -- in the environment of a run of some of the units
-front-means : (ssa : Ssa) (terms : List Tree) (us vs : List Work) (places memory args : List ℕ) (r : Reached) → Typed ssa terms → us ++ vs ≡ ssa.units → IsBytes memory → AreArguments (integers ssa) args
-    → run_units places us (start_of memory args) ≡ Some r
-    → (v : ℕ) → v < length r.numbers → value (environment ssa r.numbers) (slice_index_or (terms_of ssa) v no_term) ≡ slice_index r.numbers v
-front-means ssa terms us vs places memory args r h split bytes fit run v l =
+front-means : (d : Depth) (ssa : Ssa) (terms : List Tree) (us vs : List Work) (places memory args : List ℕ) (r : Reached) → Typed ssa terms → us ++ vs ≡ ssa.units → IsBytes memory → AreArguments (integers ssa) args
+    → run_units places us (start_of memory args) ≡ Some r → FrontMeans d ssa terms r.numbers
+front-means d ssa terms us vs places memory args r h split bytes fit run =
     let first = arguments ssa in
     let bits = widths (integers ssa) in
     let more = run-more places us (start_of memory args) r bytes run in
@@ -335,22 +355,29 @@ front-means ssa terms us vs places memory args r h split bytes fit run v l =
       cut = λ j w c e. let below = some-below bits j w e in let above = ltb-false j first c in absurd (omega arith);
     } in
     let typed = units-front (length (pointers ssa)) bits us vs (subst (UnitsIn (length (pointers ssa)) bits) (sym split) h.units) in
-    let means = run-means env (length (pointers ssa)) first places us bits terms (start_of memory args) r h.stand begun typed bytes run reads v in
+    let means : Mean env first (behind bits us) (terms_behind d first terms us) r.numbers = run-means env d (length (pointers ssa)) first places us bits terms (start_of memory args) r h.stand begun typed bytes run reads in
     let size = ap length more.numbers ∙ length-append args more.more in
     let long = more.long in
     let stood = h.stand.long in
-    let near : v < length terms + length us = omega arith in
-    ap (λ t. value env (slice_index_or t v no_term)) (h.all ∙ ap (terms_behind first terms) (sym split)) ∙ ap (value env) (term-of-front first terms us vs v near) ∙ means
+    record {
+      each = λ v l.
+          let near : v < length terms + length us = omega arith in
+          ap (λ t. value env (slice_index_or t v no_term)) (ap (terms_behind d first terms) (sym split)) ∙ ap (value env) (term-of-front d first terms us vs v near) ∙ means.each v;
+      leaf = λ v w l c e.
+          let near : v < length bits + length us = omega arith in
+          means.cut v w c (width-of-front bits us vs v near ∙ ap (λ l. slice_index_or (behind bits l) v None) split ∙ e);
+    }
 
-terms-mean : (ssa : Ssa) (terms : List Tree) → Typed ssa terms → TermsMean ssa
-terms-mean ssa terms h places memory args k r bytes fit run v t l e =
-    sym (ap (value (environment ssa r.numbers)) (index-at (terms_of ssa) v t e))
-    ∙ front-means ssa terms (take k ssa.units) (drop k ssa.units) places memory args r h (take-append-drop k ssa.units) bytes fit run v l
+terms-mean : (d : Depth) (ssa : Ssa) (terms made : List Tree) → Typed ssa terms → made ≡ all_terms d ssa terms → HaveNumbers ssa (slice_get made)
+terms-mean d ssa terms made h same places memory args k r bytes fit run v t l e =
+    let means = front-means d ssa terms (take k ssa.units) (drop k ssa.units) places memory args r h (take-append-drop k ssa.units) bytes fit run in
+    let at : slice_get (all_terms d ssa terms) v ≡ Some t = ap (λ ts. slice_get ts v) (sym same) ∙ e in
+    sym (ap (value (environment ssa r.numbers)) (index-at (all_terms d ssa terms) v t at)) ∙ means.each v l
 
 -- ---- all of it
 
 -- the widths of the parameters, and the units behind them
-numbered-typed : (k : Kernel) (ssa : Ssa) → IsWellFormed k → IsNumbering k ssa → Typed ssa (argument_terms 0 (integer_widths k.params))
+pub numbered-typed : (k : Kernel) (ssa : Ssa) → IsWellFormed k → IsNumbering k ssa → Typed ssa (argument_terms 0 (integer_widths k.params))
 numbered-typed k ssa good is =
     let first = first_unit k in
     let ws = integer_widths k.params in
@@ -365,38 +392,112 @@ numbered-typed k ssa good is =
         each = arguments-each 0 ws;
       });
       leaves = subst (λ l. AreArgumentTerms 0 (integers_of l) (argument_terms 0 ws)) (sym is.params) (argument-terms k.params 0);
-      all = is.terms ∙ (λ i. terms_behind (sym (arguments_first k ssa is) i) (argument_terms 0 ws) (sym is.units i));
     }
+
+-- the terms of a kernel are those of its units behind those of its parameters
+pub made-terms : (d : Depth) (k : Kernel) (ssa : Ssa) (made : List Tree) → IsNumbering k ssa → made ≡ terms_behind d (first_unit k) (argument_terms 0 (integer_widths k.params)) (units_of k)
+    → made ≡ all_terms d ssa (argument_terms 0 (integer_widths k.params))
+made-terms d k ssa made is e = e ∙ (λ i. terms_behind d (sym (arguments_first k ssa is) i) (argument_terms 0 (integer_widths k.params)) (sym is.units i))
 
 typed-sound : (ssa : Ssa) (terms : List Tree) → Typed ssa terms → AllByRecursion (IsUnit ssa) ssa.units
 typed-sound ssa terms h = units-sound ssa (widths (integers ssa)) ssa.units (value-at (integers ssa) ssa.units) h.units
 
-argument-terms-first : (ssa : Ssa) (terms : List Tree) → Typed ssa terms → length terms ≡ arguments ssa → AreArgumentTerms 0 (integers ssa) (take (arguments ssa) (terms_of ssa))
-argument-terms-first ssa terms h e =
-    let same : take (arguments ssa) (terms_of ssa) ≡ terms = (λ i. take (sym e i) ((h.all ∙ terms-behind (arguments ssa) terms ssa.units) i)) ∙ take-append_seam terms (terms_after (arguments ssa) terms ssa.units) in
+argument-terms-first : (d : Depth) (ssa : Ssa) (terms made : List Tree) → Typed ssa terms → length terms ≡ arguments ssa → made ≡ all_terms d ssa terms → AreArgumentTerms 0 (integers ssa) (take (arguments ssa) made)
+argument-terms-first d ssa terms made h e is =
+    let same : take (arguments ssa) made ≡ terms = (λ i. take (sym e i) ((is ∙ terms-behind d (arguments ssa) terms ssa.units) i)) ∙ take-append_seam terms (terms_after d (arguments ssa) terms ssa.units) in
     subst (AreArgumentTerms 0 (integers ssa)) (sym same) h.leaves
 
-unit-terms-behind : (ssa : Ssa) (terms : List Tree) → Typed ssa terms → length terms ≡ arguments ssa → AreUnitTerms (arguments ssa) ssa.units (drop (arguments ssa) (terms_of ssa))
-unit-terms-behind ssa terms h e =
-    let same : drop (arguments ssa) (terms_of ssa) ≡ terms_after (arguments ssa) terms ssa.units = (λ i. drop (sym e i) ((h.all ∙ terms-behind (arguments ssa) terms ssa.units) i)) ∙ drop-append_seam terms (terms_after (arguments ssa) terms ssa.units) in
-    let fit = units-fit (length (pointers ssa)) (arguments ssa) (widths (integers ssa)) terms ssa.units h.stand h.units in
-    subst (AreUnitTerms (arguments ssa) ssa.units) (sym same) (subst (λ n. AreUnitTerms n ssa.units (terms_after (arguments ssa) terms ssa.units)) e (unit-terms (arguments ssa) terms ssa.units fit))
+unit-terms-behind : (d : Depth) (ssa : Ssa) (terms made : List Tree) → Typed ssa terms → length terms ≡ arguments ssa → made ≡ all_terms d ssa terms → AreUnitTerms (arguments ssa) ssa.units (drop (arguments ssa) made)
+unit-terms-behind d ssa terms made h e is =
+    let after = terms_after d (arguments ssa) terms ssa.units in
+    let same : drop (arguments ssa) made ≡ after = (λ i. drop (sym e i) ((is ∙ terms-behind d (arguments ssa) terms ssa.units) i)) ∙ drop-append_seam terms after in
+    let fit = units-fit d (length (pointers ssa)) (arguments ssa) (widths (integers ssa)) terms ssa.units h.stand h.units in
+    subst (AreUnitTerms (arguments ssa) ssa.units) (sym same) (subst (λ n. AreUnitTerms n ssa.units after) e (unit-terms d (arguments ssa) terms ssa.units fit))
 
 -- the units of a well-formed kernel fit behind the terms of its parameters
-pub kernel-fits : (k : Kernel) → IsWellFormed k → UnitsFit (first_unit k) (argument_terms 0 (integer_widths k.params)) (units_of k)
-kernel-fits k good =
+pub kernel-fits : (d : Depth) (k : Kernel) → IsWellFormed k → UnitsFit d (first_unit k) (argument_terms 0 (integer_widths k.params)) (units_of k)
+kernel-fits d k good =
     let ws = integer_widths k.params in
     let bits = map (λ w. Some (bits_of w)) ws in
     let held : Held k.params [] [] bits = record { args = width-at ws; count = refl; named = λ j t e. absurd (cc) } in
     let long = length-map ws (λ w. Some (bits_of w)) in
     let stand : Stand bits (argument_terms 0 ws) = record { long = arguments-long 0 ws ∙ sym long; each = arguments-each 0 ws } in
-    units-fit (length (kernel_pointers k.params)) (first_unit k) bits (argument_terms 0 ws) (units_of k) stand
+    units-fit d (length (kernel_pointers k.params)) (first_unit k) bits (argument_terms 0 ws) (units_of k) stand
     (statements-typed k.params [] [] (first_unit k) bits k.statements good.each held (sym long))
 
+-- ---- names
+
+-- the value of a unit has this width, and so has its cut term
+record Made (ssa : Ssa) (terms : List Tree) (v w : ℕ) : Type 0 where
+  width : slice_index_or (all_widths ssa) v None ≡ Some w
+  term : IsTermOf w (slice_index_or (all_terms Cut ssa terms) v no_term)
+
+made-of : (ssa : Ssa) (terms : List Tree) (v : ℕ) (u : Work) (w : ℕ) → Typed ssa terms → nat_lt v (arguments ssa) ≡ false → unit_at ssa v ≡ Some u → unit_bits u ≡ Some w → Made ssa terms v w
+made-of ssa terms v u w h past at bits =
+    let all = stand-behind Cut (length (pointers ssa)) (arguments ssa) (widths (integers ssa)) terms ssa.units h.stand h.units in
+    let here : value_bits ssa v ≡ Some w = cond-false (nat_lt v (arguments ssa)) (option_map (λ p. kind_bits p.kind) (slice_get (integers ssa) v)) (unit_at ssa v >>= unit_bits) past ∙ ap (λ o. o >>= unit_bits) at ∙ bits in
+    let is : slice_index_or (all_widths ssa) v None ≡ Some w = sym (value-at (integers ssa) ssa.units v) ∙ here in
+    record { width = is; term = (all.each v w is).1 }
+
+-- a bit that is written out, or a cut leaf
+either-name : (env : Env) (b : Bool) (c t : Tree) (v n : ℕ) → value env c ≡ n → value env (leaf (width_of c) (cut_key v)) ≡ n → Some (if b then c else leaf (width_of c) (cut_key v)) ≡ Some t → value env t ≡ n
+either-name env true c t v n e f g = let same : c ≡ t = cc in ap (value env) (sym same) ∙ e
+either-name env false c t v n e f g = let same : leaf (width_of c) (cut_key v) ≡ t = cc in ap (value env) (sym same) ∙ f
+
+module _ (ssa : Ssa) (terms : List Tree) (typed : Typed ssa terms) (numbers : List ℕ) (means : FrontMeans Cut ssa terms numbers) where
+  abbrev env : Env
+  env = environment ssa numbers
+
+  -- the cut leaf of a value
+  cut-leaf : (v w : ℕ) (c : Tree) → v < length numbers → nat_lt v (arguments ssa) ≡ false → slice_index_or (all_terms Cut ssa terms) v no_term ≡ c → Made ssa terms v w
+      → value env (leaf (width_of c) (cut_key v)) ≡ slice_index numbers v
+  cut-leaf v w c l past is x =
+      leaf-means env w v (slice_index numbers v) c (subst (IsTermOf w) is x.term) (means.leaf v w l past x.width) (ap (value env) (sym is) ∙ means.each v l)
+
+  unit-name-means : (v : ℕ) (c t : Tree) (u : Work) → v < length numbers → nat_lt v (arguments ssa) ≡ false → slice_index_or (all_terms Cut ssa terms) v no_term ≡ c
+      → unit_at ssa v ≡ Some u → unit_name v c u ≡ Some t → value env t ≡ slice_index numbers v
+  unit-name-means v c t (Load a w) l past is at e =
+      let x = made-of ssa terms v (Load a w) (bits_of w) typed past at refl in
+      let wide : width_of c ≡ bits_of w = ap width_of (sym is) ∙ x.term.width in
+      let same : leaf (bits_of w) (cut_key v) ≡ t = cc in
+      ap (value env) (sym same) ∙ ap (λ n. value env (leaf n (cut_key v))) (sym wide) ∙ cut-leaf v (bits_of w) c l past is x
+  unit-name-means v c t (Store a w y) l past is at e = absurd (cc)
+  unit-name-means v c t (Operation op w k xs) l past is at e =
+      let x = made-of ssa terms v (Operation op w k xs) (result_bits op w) typed past at refl in
+      either-name env (nat_eq (width_of c) 1) c t v (slice_index numbers v) (ap (value env) (sym is) ∙ means.each v l) (cut-leaf v (result_bits op w) c l past is x) e
+
+  name-means : (v : ℕ) (c t : Tree) → v < length numbers → slice_index_or (all_terms Cut ssa terms) v no_term ≡ c → name_of ssa v c ≡ Some t → value env t ≡ slice_index numbers v
+  name-means v c t l is e = by (nat_lt v (arguments ssa)) refl
+    where
+      by : (b : Bool) → nat_lt v (arguments ssa) ≡ b → value env t ≡ slice_index numbers v
+      by true g =
+          let own : Some c ≡ Some t = sym (cond-true (nat_lt v (arguments ssa)) (Some c) (unit_at ssa v >>= unit_name v c) g) ∙ e in
+          let same : c ≡ t = cc in
+          ap (value env) (sym same) ∙ ap (value env) (sym is) ∙ means.each v l
+      by false g =
+          let b = bound (unit_at ssa v) (unit_name v c) t (sym (cond-false (nat_lt v (arguments ssa)) (Some c) (unit_at ssa v >>= unit_name v c) g) ∙ e) in
+          unit-name-means v c t b.0 l g is b.1 b.2
+
+names-mean : (ssa : Ssa) (terms : List Tree) → Typed ssa terms → cuts_of ssa ≡ all_terms Cut ssa terms → HaveNumbers ssa (name_at ssa)
+names-mean ssa terms h same places memory args k r bytes fit run v t l e =
+    let means = front-means Cut ssa terms (take k ssa.units) (drop k ssa.units) places memory args r h (take-append-drop k ssa.units) bytes fit run in
+    let b = bound (cut_at ssa v) (name_of ssa v) t e in
+    let at : slice_get (all_terms Cut ssa terms) v ≡ Some b.0 = ap (λ ts. slice_get ts v) (sym same) ∙ b.1 in
+    name-means ssa terms h r.numbers means v b.0 t l (index-at (all_terms Cut ssa terms) v b.0 at) b.2
+
+cuts-sound : (ssa : Ssa) (terms : List Tree) → Typed ssa terms → length terms ≡ arguments ssa → cuts_of ssa ≡ all_terms Cut ssa terms → AreCuts ssa
+cuts-sound ssa terms h first same = record {
+  argument_terms = argument-terms-first Cut ssa terms (cuts_of ssa) h first same;
+  unit_terms = unit-terms-behind Cut ssa terms (cuts_of ssa) h first same;
+  meaning = terms-mean Cut ssa terms (cuts_of ssa) h same;
+  names = names-mean ssa terms h same;
+}
+
 pub numbered-values-are-sound : NumberedValuesAreSound
-numbered-values-are-sound k ssa good is =
+numbered-values-are-sound k ssa good is cuts =
     let terms = argument_terms 0 (integer_widths k.params) in
     let typed = numbered-typed k ssa good is in
+    let made = made-terms Whole k ssa (terms_of ssa) is is.terms in
     let first : length terms ≡ arguments ssa = arguments-long 0 (integer_widths k.params) ∙ sym (arguments_first k ssa is) in
     record {
       name = subst (λ n. IsTrue (is_name_text n)) (sym is.name) (and-left (is_name_text k.name) (not (is_reserved k.name)) good.name);
@@ -407,7 +508,11 @@ numbered-values-are-sound k ssa good is =
       uses = (let same = ap (λ us. length (others_of us)) is.units in let count = others-counted (first_unit k) [] k.statements in let most = good.uses in omega arith);
       units = typed-sound ssa terms typed;
       earlier = subst (λ n. TakeEarlier n ssa.units) (sym (arguments_first k ssa is)) (subst (TakeEarlier (first_unit k)) (sym is.units) (units-take_earlier k good));
-      argument_terms = argument-terms-first ssa terms typed first;
-      unit_terms = unit-terms-behind ssa terms typed first;
-      meaning = terms-mean ssa terms typed;
+      argument_terms = argument-terms-first Whole ssa terms (terms_of ssa) typed first made;
+      unit_terms = unit-terms-behind Whole ssa terms (terms_of ssa) typed first made;
+      meaning = terms-mean Whole ssa terms (terms_of ssa) typed made;
+      cuts = elim cuts [
+        | inl none ↦ inl none
+        | inr are ↦ inr (cuts-sound ssa terms typed first (made-terms Cut k ssa (cuts_of ssa) is are))
+      ];
     }

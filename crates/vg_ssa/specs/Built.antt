@@ -8,6 +8,8 @@ use Rattle.vg_shapes.specs.declared.unit.Unit.{Unit as Work}
 use Rattle.vg_shapes.specs.declared.unit.Unit.TheVariants.{Operation, Store}
 use Rattle.vg_shapes.specs.declared.wanted.Wanted.{Wanted}
 use Rattle.vg_shapes.specs.declared.wanted.Wanted.TheVariants.{Nothing}
+use Rattle.vg_ssa.specs.declared.value_terms.Depth.TheVariants.{Whole}
+use Rattle.vg_ssa.specs.declared.value_terms.ValueTerms.{ValueTerms}
 use Rattle.vg_ssa.specs.declared.values.Values.{Values}
 use Rattle.vg_ssa.specs.Fitting.{UnitsFit}
 use Rattle.vg_ssa.specs.Numbering.{found, Numbered, numbered, operands}
@@ -22,13 +24,17 @@ pub record Built : Type 0 where
   pub terms : List Tree
   pub names : List Wanted
 
+-- the terms that the code has so far
+abbrev pub trees_of : ValueTerms → List Tree
+trees_of known = map tree known.terms.items
+
 -- what values of the code hold
 abbrev pub built : Values → Built
 built v =
     record {
-      first = v.first;
+      first = v.known.first;
       units = v.units.items;
-      terms = map tree v.terms.items;
+      terms = trees_of v.known;
       names = v.names.items;
     }
 
@@ -38,7 +44,7 @@ with_units b us =
     record {
       first = b.first;
       units = b.units ++ us;
-      terms = terms_behind b.first b.terms us;
+      terms = terms_behind Whole b.first b.terms us;
       names = b.names;
     }
 
@@ -49,7 +55,7 @@ with_name b x = record b { names = b.names ++ x ∷ [] }
 -- there are numbers for these units, and their operands have the terms that they need
 pub record CanTake (b : Built) (us : List Work) : Type 0 where
   pub few : length b.terms + length us < 2 ^ 32
-  pub fit : UnitsFit b.first b.terms us
+  pub fit : UnitsFit Whole b.first b.terms us
 
 -- what was numbered is behind the rest, and this stands for its value
 pub record Numbers (b : Built) (p : Numbered) (new : Built) (x : Wanted) : Type 0 where

@@ -10,7 +10,8 @@ use Rattle.vg_shapes.specs.declared.unit.Unit.{Unit as Work}
 use Rattle.vg_shapes.specs.declared.unit.Unit.TheVariants.{Load, Store, Operation}
 use Rattle.vg_shapes.specs.declared.wanted.Wanted.{Wanted}
 use Rattle.vg_shapes.specs.Sound.{IsChange}
-use Rattle.vg_ssa.specs.ValueTerm.{cut_term, operand_term, unit_term}
+use Rattle.vg_ssa.specs.declared.value_terms.Depth.{Depth}
+use Rattle.vg_ssa.specs.ValueTerm.{cut_term, operand_term, unit_term, writes_bits}
 use Rattle.vg_terms.specs.Term.{Tree, width_of, WellFormed}
 
 -- a canonical term of this width
@@ -32,14 +33,14 @@ abbrev pub Fit : (Wanted → Tree) → Operator → Width → ℕ → Operands �
 Fit term op w k xs = OperandsFit op w k (term xs.first) (term xs.second) (term xs.third)
 
 -- the operands of a unit, whole and cut, where the first unit has this number
-abbrev pub UnitFits : ℕ → List Tree → Work → Type 0
-UnitFits first terms (Load a w) = Unit {0}
-UnitFits first terms (Store a w x) = Unit {0}
-UnitFits first terms (Operation op w k xs) =
-    Fit (operand_term terms) op w k xs × Fit (cut_term first terms) op w k xs
+abbrev pub UnitFits : Depth → ℕ → List Tree → Work → Type 0
+UnitFits d first terms (Load a w) = Unit {0}
+UnitFits d first terms (Store a w x) = Unit {0}
+UnitFits d first terms (Operation op w k xs) =
+    Fit (operand_term terms) op w k xs × Fit (cut_term (writes_bits d) first terms) op w k xs
 
 -- units, each behind the terms so far
-abbrev pub UnitsFit : ℕ → List Tree → List Work → Type 0
-UnitsFit first terms [] = Unit {0}
-UnitsFit first terms (u ∷ us) =
-    UnitFits first terms u × UnitsFit first (terms ++ unit_term first terms u ∷ []) us
+abbrev pub UnitsFit : Depth → ℕ → List Tree → List Work → Type 0
+UnitsFit d first terms [] = Unit {0}
+UnitsFit d first terms (u ∷ us) =
+    UnitFits d first terms u × UnitsFit d first (terms ++ unit_term d first terms u ∷ []) us

@@ -1,5 +1,5 @@
 -- What the numbered values of a kernel promise.
-use Rattle.std.specs.Prelude.{◌≡◌, ◌↔◌, ℕ, List, length, map, Some}
+use Rattle.std.specs.Prelude.{◌≡◌, ◌↔◌, ◌⊎◌, ℕ, List, [], length, map, Some}
 use Rattle.vg_base.specs.Trap.{◌>>=◌}
 use Rattle.vg_kernel.specs.Cost.{scalar_cost}
 use Rattle.vg_kernel.specs.Layout.{Access as KernelAccess, accesses as kernel_accesses, Respects as RespectsKernel}
@@ -12,6 +12,7 @@ use Rattle.vg_shapes.specs.Layout.{accesses, Respects}
 use Rattle.vg_shapes.specs.RunUnits.{run_units, start_of}
 use Rattle.vg_shapes.specs.Sound.{IsSound, TakeEarlier}
 use Rattle.vg_shapes.specs.Units.{arguments}
+use Rattle.vg_ssa.specs.Cuts.{HasCuts}
 use Rattle.vg_ssa.specs.Numbering.{first_unit, IsNumbering, units_of}
 
 -- the units of a kernel leave the memory that the kernel leaves, and trap where it traps
@@ -49,7 +50,10 @@ ArgumentsFirst = (k : Tree) (ssa : Ssa) → IsNumbering k ssa → arguments ssa 
 abbrev pub UnitsTakeEarlier : Type 0
 UnitsTakeEarlier = (k : Tree) → IsWellFormed k → TakeEarlier (first_unit k) (units_of k)
 
--- what a well-formed kernel is numbered as is sound: above all, where a run of the units reaches a
--- value, the term of the value has its number
+-- what a well-formed kernel is numbered as is sound, with cut terms or without: above all, where a
+-- run of the units reaches a value, the term of the value has its number, and so have its cut term and
+-- its name
 abbrev pub NumberedValuesAreSound : Type 0
-NumberedValuesAreSound = (k : Tree) (ssa : Ssa) → IsWellFormed k → IsNumbering k ssa → IsSound ssa
+NumberedValuesAreSound =
+    (k : Tree) (ssa : Ssa) → IsWellFormed k → IsNumbering k ssa →
+    (ssa.cuts ≡ []) ⊎ HasCuts k ssa → IsSound ssa

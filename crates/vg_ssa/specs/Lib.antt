@@ -1,4 +1,5 @@
 pub mod Built
+pub mod Cuts
 pub mod Fitting
 pub mod Laws
 pub mod Numbering

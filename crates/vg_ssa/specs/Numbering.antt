@@ -18,6 +18,7 @@ use Rattle.vg_shapes.specs.declared.unit.Unit.TheVariants.{Load, Store, Operatio
 use Rattle.vg_shapes.specs.declared.wanted.Wanted.{Wanted}
 use Rattle.vg_shapes.specs.declared.wanted.Wanted.TheVariants.{Value, Constant, Nothing}
 use Rattle.vg_shapes.specs.Sound.{terms_of}
+use Rattle.vg_ssa.specs.declared.value_terms.Depth.TheVariants.{Whole}
 use Rattle.vg_ssa.specs.ValueTerm.{argument_terms, terms_behind}
 
 -- units, and what stands for the value that they find
@@ -91,4 +92,4 @@ pub record IsNumbering (k : Tree) (ssa : Ssa) : Type 0 where
   pub units : ssa.units ≡ units_of k
   pub terms :
       terms_of ssa
-      ≡ terms_behind (first_unit k) (argument_terms 0 (integer_widths k.params)) (units_of k)
+      ≡ terms_behind Whole (first_unit k) (argument_terms 0 (integer_widths k.params)) (units_of k)

@@ -1,5 +1,5 @@
 -- The terms of values.
-use Rattle.std.specs.Prelude.{ℕ, ◌+◌, ◌-◌, ◌^◌, List, [], ◌∷◌, ◌++◌, length, nat_le, nat_lt, slice_index_or, if◌then◌else◌}
+use Rattle.std.specs.Prelude.{ℕ, ◌+◌, ◌-◌, ◌^◌, ◌&&◌, ◌||◌, Bool, true, false, List, [], ◌∷◌, ◌++◌, length, nat_eq, nat_le, nat_lt, slice_index_or, if◌then◌else◌}
 use Rattle.vg_base.specs.declared.width.Width.{Width}
 use Rattle.vg_base.specs.Width.{bits_of}
 use Rattle.vg_canon.specs.Canonical.{canonical}
@@ -22,6 +22,8 @@ use Rattle.vg_shapes.specs.declared.unit.Unit.TheVariants.{Load, Store, Operatio
 use Rattle.vg_shapes.specs.declared.wanted.Wanted.{Wanted}
 use Rattle.vg_shapes.specs.declared.wanted.Wanted.TheVariants.{Value, Constant, Nothing}
 use Rattle.vg_shapes.specs.Sound.{argument_key, cut_key, load_key}
+use Rattle.vg_ssa.specs.declared.value_terms.Depth.{Depth}
+use Rattle.vg_ssa.specs.declared.value_terms.Depth.TheVariants.{Whole, Cut}
 
 -- a difference is a sum with the other number times -1
 abbrev pub two_term : TwoOp → ℕ → Tree → Tree → Tree
@@ -71,27 +73,38 @@ operand_term terms (Value v) = slice_index_or terms v no_term
 operand_term terms (Constant w n) = constant w n
 operand_term terms Nothing = no_term
 
--- the same, where the value of a unit is a leaf; the first unit has this number
-abbrev pub cut_term : ℕ → List Tree → Wanted → Tree
-cut_term first terms (Value v) =
-    if nat_lt v first then slice_index_or terms v no_term
-    else leaf (width_of (slice_index_or terms v no_term)) (cut_key v)
-cut_term first terms (Constant w n) = constant w n
-cut_term first terms Nothing = no_term
+-- the same, where the value of a unit is a leaf; the first unit has this number, and this says whether
+-- a bit is written out
+abbrev pub cut_term : Bool → ℕ → List Tree → Wanted → Tree
+cut_term bits first terms (Value v) =
+    let t = slice_index_or terms v no_term in
+    if nat_lt v first || (bits && nat_eq (width_of t) 1) then t else leaf (width_of t) (cut_key v)
+cut_term bits first terms (Constant w n) = constant w n
+cut_term bits first terms Nothing = no_term
 
 -- an operation over what stands for its operands
 abbrev pub over_operands : (Wanted → Tree) → Operator → ℕ → ℕ → Operands → Tree
 over_operands term op w k xs =
     canonical (operation_term op w k (term xs.first) (term xs.second) (term xs.third))
 
--- the term of the next value; an operation of more than 128 nodes is cut at its operands
-abbrev pub unit_term : ℕ → List Tree → Work → Tree
-unit_term first terms (Load a w) = leaf (bits_of w) (load_key a (length terms))
-unit_term first terms (Store a w x) = no_term
-unit_term first terms (Operation op w k xs) =
+-- whether the terms of operands are looked into, where they make no more than 128 nodes, and whether
+-- a bit is written out where they are not
+abbrev pub looks_in : Depth → Bool
+looks_in Whole = true
+looks_in Cut = false
+
+abbrev pub writes_bits : Depth → Bool
+writes_bits Whole = false
+writes_bits Cut = true
+
+-- the term of the next value; an operation that is not looked into is cut at its operands
+abbrev pub unit_term : Depth → ℕ → List Tree → Work → Tree
+unit_term d first terms (Load a w) = leaf (bits_of w) (load_key a (length terms))
+unit_term d first terms (Store a w x) = no_term
+unit_term d first terms (Operation op w k xs) =
     let whole = over_operands (operand_term terms) op (bits_of w) k xs in
-    if nat_le (node_count whole) 128 then whole
-    else over_operands (cut_term first terms) op (bits_of w) k xs
+    if looks_in d && nat_le (node_count whole) 128 then whole
+    else over_operands (cut_term (writes_bits d) first terms) op (bits_of w) k xs
 
 -- the terms of integer parameters of these widths, of which the first has this number
 abbrev pub argument_terms : ℕ → List Width → List Tree
@@ -99,7 +112,7 @@ argument_terms v [] = []
 argument_terms v (w ∷ ws) = leaf (bits_of w) (argument_key v) ∷ argument_terms (v + 1) ws
 
 -- the terms so far, and those of the units behind them
-abbrev pub terms_behind : ℕ → List Tree → List Work → List Tree
-terms_behind first terms [] = terms
-terms_behind first terms (u ∷ us) =
-    terms_behind first (terms ++ unit_term first terms u ∷ []) us
+abbrev pub terms_behind : Depth → ℕ → List Tree → List Work → List Tree
+terms_behind d first terms [] = terms
+terms_behind d first terms (u ∷ us) =
+    terms_behind d first (terms ++ unit_term d first terms u ∷ []) us

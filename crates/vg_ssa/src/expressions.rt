@@ -6,6 +6,7 @@ ghost use Rattle.vg_ssa.specs.Built.{CanTake, Numbers, after_statement, built, c
 ghost use Rattle.vg_ssa.specs.Numbering.{units_from};
 ghost use Rattle.vg_ssa.specs.ValueTerm.{terms_behind};
 
+use crate::value_terms::Depth;
 use crate::values::Values;
 use std::alloc::{AllocError, Global};
 use vg_base::{Address, Width};
@@ -207,7 +208,7 @@ impl Values {
         Ok(())
     }
 
-    // Numbers a store behind the expression whose value it stores.
+    // Numbers a store after the expression whose value it stores.
     fn number_store(
         &mut self,
         alloc: Global,
@@ -246,7 +247,7 @@ impl Values {
             ++ units_from (length (built self.old).terms) (built self.old).names
             (map statement_of statements.now)) }
         ensures terms { OnOk result ((built self.new).terms
-            ≡ terms_behind (built self.old).first (built self.old).terms
+            ≡ terms_behind Depth.Whole (built self.old).first (built self.old).terms
             (units_from (length (built self.old).terms) (built self.old).names
             (map statement_of statements.now))) }
     {

@@ -15,7 +15,7 @@ pub fn layouts_are_the_same()
     ensures layouts { SameLayouts }
 {}
 
-/// A law: a kernel has as many units as its scalar cost, and they are numbered behind the integer
+/// A law: a kernel has as many units as its scalar cost, and they are numbered after the integer
 /// parameters.
 pub fn units_are_counted()
     ensures cost { UnitsAreTheCost }

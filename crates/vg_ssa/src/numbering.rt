@@ -1,12 +1,14 @@
 //! Kernels as numbered values.
 
-ghost use Rattle.std.specs.Prelude.{◌≡◌, IfOk, map};
+ghost use Rattle.std.specs.Prelude.{◌≡◌, [], IfOk, map};
 ghost use Rattle.vg_kernel.specs.Tree.{tree_of};
 ghost use Rattle.vg_kernel.specs.WellFormed.{IsWellFormed};
 ghost use Rattle.vg_shapes.specs.Sound.{IsSound};
+ghost use Rattle.vg_ssa.specs.Cuts.{AreOverNames, HasCuts};
 ghost use Rattle.vg_ssa.specs.Numbering.{IsNumbering, kind_of, param_of};
 ghost use Rattle.vg_ssa.specs.StandsFor.{StandsFor};
 
+use crate::value_terms::{ValueTerms, cut_terms};
 use crate::values::Values;
 use std::alloc::{AllocError, Global};
 use vg_base::Items;
@@ -14,13 +16,15 @@ use vg_kernel::{KParam, KParamKind, Kernel};
 use vg_shapes::{Ssa, SsaParam, SsaParamKind};
 
 /// A kernel as numbered values: its loads, operations and stores in the order in which they run,
-/// and for each value its canonical term, in which operands are cut past 128 nodes.
+/// and for each value its canonical term, in which operands are cut past 128 nodes. No value has a
+/// cut term.
 ///
 /// The units leave the memory that the kernel leaves and trap where it traps, the accesses are the
 /// same, and the layouts that respect noalias are the same. Fails for want of memory alone.
 pub fn number_values(alloc: Global, kernel: &Kernel) -> Result<Ssa, AllocError>
     requires { IsWellFormed (tree_of kernel.now) }
     ensures exact { IfOk result (IsNumbering (tree_of kernel.now)) }
+    ensures uncut { IfOk result (λ ssa. ssa.cuts ≡ []) }
     ensures sound { IfOk result IsSound }
     ensures stands_for { IfOk result (StandsFor (tree_of kernel.now)) }
 {
@@ -29,16 +33,49 @@ pub fn number_values(alloc: Global, kernel: &Kernel) -> Result<Ssa, AllocError>
     let mut values = Values::new(alloc, kernel.params.as_slice())?;
     values.number_statements(alloc, kernel.statements.as_slice())?;
     let Values {
-        first: _,
+        known,
         units,
-        terms,
         names: _,
     } = values;
+    let ValueTerms { first: _, terms } = known;
     Ok(Ssa {
         name,
         params: Items::from_vec(params),
         units: Items::from_vec(units),
         terms: Items::from_vec(terms),
+        cuts: Items::from_vec(Vec::new(alloc)),
+    })
+}
+
+/// The same numbered values, and for each its cut term: that of an operation is its canonical form
+/// over the names of its operands. A value of more than one bit is named by a leaf of its own, a
+/// bit by its cut term.
+///
+/// Name, parameters, units and terms are those that `number_values` gives, and what that promises
+/// holds here too. Fails for want of memory alone.
+pub fn number_more(alloc: Global, kernel: &Kernel) -> Result<Ssa, AllocError>
+    requires { IsWellFormed (tree_of kernel.now) }
+    ensures exact { IfOk result (IsNumbering (tree_of kernel.now)) }
+    ensures cuts { IfOk result (HasCuts (tree_of kernel.now)) }
+    ensures over_names { IfOk result AreOverNames }
+    ensures sound { IfOk result IsSound }
+    ensures stands_for { IfOk result (StandsFor (tree_of kernel.now)) }
+{
+    let ssa = number_values(alloc, kernel)?;
+    let cuts = cut_terms(alloc, kernel.params.as_slice(), ssa.units.as_slice())?;
+    let Ssa {
+        name,
+        params,
+        units,
+        terms,
+        cuts: _,
+    } = ssa;
+    Ok(Ssa {
+        name,
+        params,
+        units,
+        terms,
+        cuts: Items::from_vec(cuts),
     })
 }
 

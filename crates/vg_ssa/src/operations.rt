@@ -15,7 +15,7 @@ use vg_scalar::{Comparison, Resize, Shift, TwoOp};
 use vg_shapes::Operator;
 use vg_terms::{OneOp, Term, TwoOp as TermOp, make_const, make_one, make_sel, make_two};
 
-/// The canonical form of an operation over canonical terms. Those behind the operands that it has
+/// The canonical form of an operation over canonical terms. Those after the operands that it has
 /// count for nothing.
 pub(crate) fn operation(
     alloc: Global,

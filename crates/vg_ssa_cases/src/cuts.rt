@@ -5,7 +5,7 @@ use std::alloc::Global;
 use std::test::Fail;
 use vg_shapes::Ssa;
 
-// A sum of words, behind what is given as its first part: `s1`, `s2` and so on have so many words
+// A sum of words, after what is given as its first part: `s1`, `s2` and so on have so many words
 // more.
 fn sum(alloc: Global, params: &str, first: &str, words: u32, last: &str) -> Result<String, Fail> {
     let mut text = String::new(alloc);

@@ -5,8 +5,8 @@ use std::alloc::Global;
 use std::process::Abort;
 use std::test::Fail;
 
-// A kernel of many statements. Statement i has the number i + 1 behind the first piece, i behind
-// the second and 8 i behind the third.
+// A kernel of many statements. Statement i has the number i + 1 after the first piece, i after
+// the second and 8 i after the third.
 struct Large {
     head: &'static str,
     pieces: [&'static str; 4],

@@ -1,6 +1,8 @@
-//! Cases of numbered values: the terms of the values of kernels, as printed text.
+//! Cases of numbered values: the terms and cut terms of the values of kernels, as printed text.
 #![tactic(auto)]
 
+#[cfg(test)]
+mod cut_terms;
 #[cfg(test)]
 mod cuts;
 #[cfg(test)]

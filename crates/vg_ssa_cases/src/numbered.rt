@@ -8,7 +8,7 @@ use std::test::Fail;
 use vg_base::{Items, Name};
 use vg_kernel::parse_kernel;
 use vg_shapes::{Ssa, SsaParam};
-use vg_ssa::number_values;
+use vg_ssa::{number_more, number_values};
 use vg_terms::{Names, Term, print_term};
 
 /// The numbered values of a kernel that is written so.
@@ -40,6 +40,15 @@ pub(crate) fn names(alloc: Global, ssa: &Ssa) -> Result<Names, AllocError> {
     })
 }
 
+/// The same with cut terms.
+pub(crate) fn numbered_more(alloc: Global, text: &[u8]) -> Result<Ssa, Fail>
+    ensures { IfOk result (λ ssa. IsSound ssa) }
+{
+    let kernel = parse_kernel(alloc, text)?;
+    let ssa = number_more(alloc, &kernel)?;
+    Ok(ssa)
+}
+
 /// The text of a term.
 pub(crate) fn spell(alloc: Global, ssa: &Ssa, term: &Term) -> Result<Vec<u8>, AllocError> {
     let names = names(alloc, ssa)?;
@@ -48,11 +57,11 @@ pub(crate) fn spell(alloc: Global, ssa: &Ssa, term: &Term) -> Result<Vec<u8>, Al
     Ok(text)
 }
 
-/// The terms of all values, each in a line of its own.
-pub(crate) fn lines(alloc: Global, ssa: &Ssa) -> Result<Vec<u8>, AllocError> {
+/// These terms of values, each in a line of its own.
+pub(crate) fn lines(alloc: Global, ssa: &Ssa, terms: &[Term]) -> Result<Vec<u8>, AllocError> {
     let names = names(alloc, ssa)?;
     let mut text = Vec::new(alloc);
-    for term in ssa.terms.as_slice() {
+    for term in terms {
         print_term(alloc, term, &names, &mut text)?;
         text.push(b'\n')?;
     }

@@ -101,7 +101,7 @@ fn key(low: i64) -> LeafKey {
     }
 }
 
-// Over a node's term, so many times a shift and behind it the sum with that term: two levels each.
+// Over a node's term, so many times a shift and after it the sum with that term: two levels each.
 fn raised(pool: &mut Pool, node: usize, times: u32) -> Result<usize, AllocError>
     requires node { node < length pool.old }
     requires width { width_of (tree_at pool.old node) ≡ 8 }

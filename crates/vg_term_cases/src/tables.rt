@@ -121,7 +121,7 @@ pub fn assert_values(rt: &impl Abort, alloc: Global, env: &Env, rows: &str) -> R
     Ok(())
 }
 
-/// The two numbers behind a row's arrow.
+/// The two numbers after a row's arrow.
 fn numbers(words: &str) -> Result<(u64, u64), Fail> {
     match words.split_once(' ') {
         Some((first, second)) => Ok((first.parse::<u64>()?, second.parse::<u64>()?)),

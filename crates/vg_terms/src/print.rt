@@ -10,7 +10,7 @@ use crate::text::Names;
 use std::alloc::{AllocError, Global};
 use vg_base::{Items, Name};
 
-/// Appends the text of a term, as `(add32 X Y)`. A number behind a `:` is a width in bits. Leaves are
+/// Appends the text of a term, as `(add32 X Y)`. A number after a `:` is a width in bits. Leaves are
 /// bits of a parameter, `name.low:width`, a load, `name+offset@number:width` or `name-offset@..`, an
 /// argument, `name:width`, or a value that was cut off, `#number:width`; what has no name in `names`
 /// is written with an empty one. An operation shows its width, a comparison that of its children.

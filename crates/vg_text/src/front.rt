@@ -80,7 +80,7 @@ fn hexadecimal_len(text: &[u8]) -> usize
     text.iter().take_while(|byte| is_hex_digit(**byte)).count()
 }
 
-/// A comment, with what stands on its line behind `//`.
+/// A comment, with what stands on its line after `//`.
 fn comment_front(text: &[u8]) -> Front
     requires { 2 ≤ length text.now }
     ensures front { result ≡ comment_front text.now }

@@ -90,7 +90,7 @@ impl<'a> Lexer<'a> {
         Ok(self.end())
     }
 
-    /// The next token with its bytes, and the lexer behind it. Takes no memory.
+    /// The next token with its bytes, and the lexer after it. Takes no memory.
     pub fn word(self) -> Result<(Word<'a>, Lexer<'a>), Place>
         ensures word { MatchResult result
             (λ x. word_at (reading self.entry) ≡ Ok (spelled_of x.0, reading x.1))

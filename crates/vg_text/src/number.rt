@@ -22,7 +22,7 @@ pub fn digit_value(byte: u8) -> u8
     }
 }
 
-/// One digit more behind those that made `value`. None where that is 2^128 or more.
+/// One digit more after those that made `value`. None where that is 2^128 or more.
 fn shifted(base: u8, value: u128, digit: u8) -> Option<u128>
     ensures { SomeIff result (value * base + digit_value digit < 2 ^ 128)
         (value * base + digit_value digit) }

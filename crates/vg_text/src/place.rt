@@ -10,7 +10,7 @@ pub struct Place {
     pub column: u32,
 }
 
-/// The place of the byte behind `byte`, which stands at `place`.
+/// The place of the byte after `byte`, which stands at `place`.
 fn place_behind(place: Place, byte: u8) -> Place
     requires line { place.line < 2 ^ 32 - 1 }
     requires column { place.column < 2 ^ 32 - 1 }
@@ -31,7 +31,7 @@ fn place_behind(place: Place, byte: u8) -> Place
     }
 }
 
-/// The place behind `bytes`, the first of which stands at `place`.
+/// The place after `bytes`, the first of which stands at `place`.
 pub fn place_after(place: Place, bytes: &[u8]) -> Place
     requires line { place.line + length bytes.now < 2 ^ 32 }
     requires column { place.column + length bytes.now + 1 < 2 ^ 32 }

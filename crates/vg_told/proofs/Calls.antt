@@ -7,7 +7,7 @@ use Rattle.vg_pseudo.specs.Tree.{Operation}
 use Rattle.vg_shapes.specs.Lane.{Lane, known, big, dynamic}
 use Rattle.vg_lift.specs.Instances.{MeanLanes}
 use Rattle.vg_lanes.specs.Described.{AreLanes, canonical_lane, description}
-use Rattle.vg_listing.proofs.Lanes.{all-may-be}
+use Rattle.vg_entry_lanes.proofs.Lanes.{all-may-be}
 use Rattle.vg_catalog.specs.Called.{called_by, entry_named}
 use Rattle.vg_catalog.specs.Entries.{Entry, name_of}
 use Rattle.vg_emission.specs.Truth.{IsTrueOf}

@@ -12,22 +12,22 @@ use Rattle.vg_names.specs.Written.{IsWritten, ResolvedAreProper}
 use Rattle.vg_names.specs.Views.{resolved_of}
 use Rattle.vg_range.specs.declared.checked.Checked.{Checked}
 use Rattle.vg_range.specs.Immediates.{has_instance, immediate_of, IsByte}
-use Rattle.vg_range.specs.Kept.{AcceptedAreWritten}
-use Rattle.vg_range.specs.Meant.{InstancesMean}
 use Rattle.vg_lift.specs.Instances.{HasLanes}
 use Rattle.vg_lanes.specs.Described.{immediate}
 use Rattle.vg_catalog.specs.Called.{called_by, entry_named, imm_number}
 use Rattle.vg_catalog.specs.Catalogs.{entries_in}
 use Rattle.vg_catalog.specs.Entries.{Entry, entry_of, name_of}
 use Rattle.vg_catalog.specs.Written.{AllWritten}
-use Rattle.vg_listing.specs.Listed.{HaveLanes}
+use Rattle.vg_catalog.proofs.Kept.{catalog-written}
+use Rattle.vg_entry_lanes.specs.Laws.{HaveLanes}
+use Rattle.vg_entry_lanes.proofs.Headers.{catalog-lanes}
 use Rattle.vg_program.specs.Valid.{IsImm}
 use Rattle.vg_program.proofs.Steps.{same_bytes}
 use Rattle.vg_known.specs.Calls.{is_opaque, lanes_of}
 use Rattle.vg_known.specs.Laws.{IsTold}
 use Rattle.vg_told.specs.Told.{CatalogsAreTold}
 use Rattle.vg_told.proofs.Accepted.{accepted, Accepts}
-use Rattle.vg_told.proofs.Lanes.{lanes-fill, lanes-mean, Scripts}
+use Rattle.vg_told.proofs.Lanes.{lanes-fill, lanes-mean}
 use Rattle.vg_told.proofs.Calls.{are-lanes, are-true}
 
 -- ---- immediates
@@ -79,12 +79,12 @@ found (c ∷ cs) name e written lanes is = elim (cases_Bool (bytes_eq (entry_of 
 
 -- ---- what is told
 
-told : Scripts → (entries : List Entry) (e : Entry) (name : List ℕ) (imm : Option ℕ) → Found e name → entry_named entries name ≡ Some e → IsImm e.header.imm imm
+told : ResolvedAreProper → (entries : List Entry) (e : Entry) (name : List ℕ) (imm : Option ℕ) → Found e name → entry_named entries name ≡ Some e → IsImm e.header.imm imm
     → list_any is_opaque (lanes_of e imm) ≡ false → IsTold (called_by entries) e imm
-told laws entries e name imm f is at clear =
+told proper entries e name imm f is at clear =
     let h = e.header in
     let n = imm_number imm in
-    let means = lanes-mean laws h e.operation n f.accepts f.written f.lanes (has-it h.imm imm at) (is-byte h.imm imm at) in
+    let means = lanes-mean proper h e.operation n f.accepts f.written f.lanes (has-it h.imm imm at) (is-byte h.imm imm at) in
     let fill = lanes-fill h e.operation n f.lanes in
     let named : entry_named entries (name_of e) ≡ Some e = subst (λ x. entry_named entries x ≡ Some e) (sym (same_bytes h.name name f.named)) is in
     record {
@@ -94,8 +94,8 @@ told laws entries e name imm f is at clear =
       means = are-true entries e n (lanes_of e imm) named (number-kept h.imm imm at) means fill clear;
     }
 
-pub catalogs-are-told : AcceptedAreWritten → InstancesMean → ResolvedAreProper → CatalogsAreTold
-catalogs-are-told kept mean proper catalog written lanes name e imm is at clear =
+pub catalogs-are-told : ResolvedAreProper → CatalogsAreTold
+catalogs-are-told proper catalog name e imm is at clear =
     let cs = catalog.entries.items in
-    told (record { written = kept; mean = mean; proper = proper }) (entries_in catalog) e name imm
-    (found cs name e written lanes is) is at clear
+    told proper (entries_in catalog) e name imm
+    (found cs name e (catalog-written catalog) (catalog-lanes catalog) is) is at clear

@@ -4,6 +4,5 @@ pub mod Checks
 pub mod Endings
 pub mod Few
 pub mod Fronts
-pub mod Ready
 pub mod Works
 mod Steps

@@ -18,7 +18,8 @@ use Rattle.vg_loops.specs.CompiledLoop.{IsCompiledLoop}
 use Rattle.vg_request.specs.Options.{Choices}
 
 -- a kernel, the entries that there are, and what the options say: how many plans the search keeps of
--- each size, and the extensions whose entries a program for the kernel may call
+-- each size, the extensions whose entries a program for the kernel may call, and whether more plans are
+-- asked for
 pub record Source : Type 0 where
   pub entries : List Entry
   pub kernel : Tree
@@ -52,7 +53,7 @@ pair entries kernel program =
 pub record Answer (s : Source) (bytes : List ℕ) : Type 0 where
   pub program : Program
   pub text : bytes ≡ text_of program
-  pub compiled : IsCompiled s.entries s.choices.allowed s.kernel s.choices.width program
+  pub compiled : IsCompiled s.entries s.choices.allowed s.kernel s.choices.width s.choices.more program
 
 -- The text of a guarded program whose checks are the kernel's, which means the kernel in each layout that
 -- keeps what the kernel itself says of `noalias`. Each side is what is compiled of the kernel, the fast
@@ -60,7 +61,7 @@ pub record Answer (s : Source) (bytes : List ℕ) : Type 0 where
 pub record GuardedAnswer (s : Source) (bytes : List ℕ) : Type 0 where
   pub guarded : Guarded
   pub text : bytes ≡ guarded_text guarded
-  pub compiled : IsCompiledGuarded s.entries s.choices.allowed s.kernel s.choices.width guarded
+  pub compiled : IsCompiledGuarded s.entries s.choices.allowed s.kernel s.choices.width s.choices.more guarded
 
 -- The text of a block of as many turns as one kernel may have and of a rest of one turn, which leaves
 -- what the loop leaves in each layout in which the accesses of all turns keep what it says of
@@ -68,12 +69,13 @@ pub record GuardedAnswer (s : Source) (bytes : List ℕ) : Type 0 where
 pub record LoopedAnswer (s : LoopSource) (bytes : List ℕ) : Type 0 where
   pub looped : Looped
   pub text : bytes ≡ looped_text looped
-  pub compiled : IsCompiledLoop s.entries s.choices.allowed s.loop s.choices.width looped
+  pub compiled : IsCompiledLoop s.entries s.choices.allowed s.loop s.choices.width s.choices.more looped
 
 -- the lines on the chosen plan of the kernel, which the code emits for it: `Answer` tells that a
 -- program costs what this plan does, not that it has these packs
 abbrev pub Explanation : Source → List ℕ → Type 0
-Explanation s bytes = IsExplained s.entries s.choices.allowed s.kernel s.choices.width bytes
+Explanation s bytes =
+    IsExplained s.entries s.choices.allowed s.kernel s.choices.width s.choices.more bytes
 
 abbrev pub same_text : List ℕ
 same_text = codes "same" ++ 10 ∷ []

@@ -3,10 +3,8 @@
 ghost use Rattle.std.specs.Prelude.{◌≡◌, Some, IfSome, IfErr, IfOk};
 ghost use Rattle.vg_catalog.specs.Called.{headers_of};
 ghost use Rattle.vg_catalog.specs.Catalogs.{entries_in};
-ghost use Rattle.vg_catalog.specs.Written.{AllWritten};
 ghost use Rattle.vg_kernel.specs.Tree.{tree_of};
 ghost use Rattle.vg_kernel.specs.WellFormed.{IsWellFormed};
-ghost use Rattle.vg_listing.specs.Listed.{HaveLanes};
 ghost use Rattle.vg_program.specs.Valid.{KeepsRules};
 ghost use Rattle.vg_request.specs.Request.{check as check_asked};
 ghost use Rattle.vg_top.specs.Answer.{same_text};
@@ -45,8 +43,6 @@ fn compared(
 ) -> Result<Vec<u8>, Ending>
     requires kernel { IsWellFormed (tree_of kernel.now) }
     requires rules { KeepsRules (headers_of (entries_in catalog.now)) program.now }
-    requires written { AllWritten (entries_in catalog.now) }
-    requires lanes { HaveLanes (entries_in catalog.now) }
     ensures told { Tells VecAnswers result
         (compared (entries_in catalog.now) (tree_of kernel.now) program.now) }
     ensures refusal { IfErr result IsOfComparison }

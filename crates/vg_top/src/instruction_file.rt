@@ -1,11 +1,7 @@
 //! The entries of an instruction file of a request.
 
-ghost use Rattle.std.specs.Prelude.{IfErr, IfOk};
-ghost use Rattle.vg_catalog.specs.Catalogs.{entries_in};
+ghost use Rattle.std.specs.Prelude.{IfErr};
 ghost use Rattle.vg_catalog.specs.Files.{file_of};
-ghost use Rattle.vg_catalog.specs.Written.{AllWritten};
-ghost use Rattle.vg_instances.specs.Proper.{AreProper};
-ghost use Rattle.vg_listing.specs.Listed.{HaveLanes};
 ghost use Rattle.vg_top.specs.Files.{Tells};
 ghost use Rattle.vg_top.specs.InstructionFile.{entries_or_refusal, AreEntries};
 ghost use Rattle.vg_top.specs.Works.{IsOfInstructions};
@@ -19,9 +15,6 @@ use vg_catalog::{Catalog, CatalogFault, parse_file};
 pub fn catalog_of_text(alloc: Global, number: FileNumber, text: &[u8]) -> Result<Catalog, Ending>
     ensures told { Tells AreEntries result (entries_or_refusal number (file_of text.now)) }
     ensures refusal { IfErr result (IsOfInstructions number) }
-    ensures written { IfOk result (λ c. AllWritten (entries_in c)) }
-    ensures lanes { IfOk result (λ c. HaveLanes (entries_in c)) }
-    ensures proper { IfOk result (λ c. AreProper (entries_in c)) }
 {
     match parse_file(alloc, text) {
         Ok(catalog) => Ok(catalog),

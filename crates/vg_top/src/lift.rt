@@ -24,7 +24,7 @@ fn lines_of_text(alloc: Global, text: &[u8]) -> Result<Vec<u8>, Ending>
         Ok(catalog) => catalog,
         Err(ending) => return Err(ending),
     };
-    match list_entries(alloc, catalog.entries()) {
+    match list_entries(alloc, &catalog) {
         Ok(bytes) => Ok(bytes),
         Err(_) => Err(Ending::Memory),
     }

@@ -153,7 +153,7 @@ fn write_tail<E: Sink>(
     }
 }
 
-/// What stands behind the head of the line.
+/// What stands after the head of the line.
 #[tactic(auto, using(crate::proofs::Fronts::cut_first, crate::proofs::Fronts::cut_second, crate::proofs::Fronts::appends_both))]
 fn write_rest<E: Sink>(
     err: &mut E,

@@ -3,11 +3,8 @@
 ghost use Rattle.std.specs.Prelude.{◌≡◌, ◌≤◌, length, List, Some, IfSome, IfErr, IfOk};
 ghost use Rattle.vg_catalog.specs.Catalogs.{entries_in};
 ghost use Rattle.vg_catalog.specs.Entries.{Entry};
-ghost use Rattle.vg_catalog.specs.Written.{AllWritten};
-ghost use Rattle.vg_instances.specs.Proper.{AreProper};
 ghost use Rattle.vg_kernel.specs.Tree.{tree_of};
 ghost use Rattle.vg_kernel.specs.WellFormed.{IsWellFormed};
-ghost use Rattle.vg_listing.specs.Listed.{HaveLanes};
 ghost use Rattle.vg_loop_laws.specs.Limits.{turns_of};
 ghost use Rattle.vg_loop_laws.specs.Unrolled.{unrolled};
 ghost use Rattle.vg_loops.specs.Formed.{IsLoop};
@@ -26,7 +23,7 @@ use crate::instruction_file::catalog_of_text;
 use crate::kernel_file::{KernelFile, kernel_alone_of_text, kernel_file_of_text};
 use std::alloc::{AllocError, Global};
 use vg_catalog::Catalog;
-use vg_compile::{compile, explain};
+use vg_compile::{compile_by, explain_by};
 use vg_guard::{compile_guarded, print_guarded};
 use vg_kernel::Kernel;
 use vg_looped::print_looped;
@@ -54,13 +51,17 @@ fn program_text(
     options: Options,
 ) -> Result<Vec<u8>, AllocError>
     requires kernel { IsWellFormed (tree_of kernel.now) }
-    requires written { AllWritten (entries_in catalog.now) }
-    requires lanes { HaveLanes (entries_in catalog.now) }
-    requires proper { AreProper (entries_in catalog.now) }
     ensures { IfOk result (λ bytes. Answer
         (source (entries_in catalog.now) (tree_of kernel.now) (choices_seen options)) bytes.items) }
 {
-    let program = compile(alloc, catalog, options.allowed, kernel, options.width)?;
+    let program = compile_by(
+        alloc,
+        catalog,
+        options.allowed,
+        kernel,
+        options.width,
+        options.more,
+    )?;
     print_program(alloc, &program)
 }
 
@@ -72,13 +73,17 @@ fn guarded_text(
     options: Options,
 ) -> Result<Vec<u8>, AllocError>
     requires kernel { IsWellFormed (tree_of kernel.now) }
-    requires written { AllWritten (entries_in catalog.now) }
-    requires lanes { HaveLanes (entries_in catalog.now) }
-    requires proper { AreProper (entries_in catalog.now) }
     ensures { IfOk result (λ bytes. GuardedAnswer
         (source (entries_in catalog.now) (tree_of kernel.now) (choices_seen options)) bytes.items) }
 {
-    let guarded = compile_guarded(alloc, catalog, options.allowed, kernel, options.width)?;
+    let guarded = compile_guarded(
+        alloc,
+        catalog,
+        options.allowed,
+        kernel,
+        options.width,
+        options.more,
+    )?;
     print_guarded(alloc, &guarded)
 }
 
@@ -90,14 +95,39 @@ fn looped_text(
     options: Options,
 ) -> Result<Vec<u8>, AllocError>
     requires counted { IsLoop (loop_of counted.now) }
-    requires written { AllWritten (entries_in catalog.now) }
-    requires lanes { HaveLanes (entries_in catalog.now) }
-    requires proper { AreProper (entries_in catalog.now) }
     ensures { IfOk result (λ bytes. LoopedAnswer
         (loop_source (entries_in catalog.now) (loop_of counted.now) (choices_seen options)) bytes.items) }
 {
-    let looped = compile_loop(alloc, catalog, options.allowed, counted, options.width)?;
+    let looped = compile_loop(
+        alloc,
+        catalog,
+        options.allowed,
+        counted,
+        options.width,
+        options.more,
+    )?;
     print_looped(alloc, &looped)
+}
+
+/// The lines on the plan of a kernel, as the options say.
+fn plan_lines(
+    alloc: Global,
+    catalog: &Catalog,
+    kernel: &Kernel,
+    options: Options,
+) -> Result<Vec<u8>, AllocError>
+    requires kernel { IsWellFormed (tree_of kernel.now) }
+    ensures { IfOk result (λ bytes. Explanation
+        (source (entries_in catalog.now) (tree_of kernel.now) (choices_seen options)) bytes.items) }
+{
+    explain_by(
+        alloc,
+        catalog,
+        options.allowed,
+        kernel,
+        options.width,
+        options.more,
+    )
 }
 
 /// The lines on the plan of the kernel of the turns that a block of a loop has.
@@ -108,14 +138,11 @@ fn block_plan(
     options: Options,
 ) -> Result<Vec<u8>, AllocError>
     requires counted { IsLoop (loop_of counted.now) }
-    requires written { AllWritten (entries_in catalog.now) }
-    requires lanes { HaveLanes (entries_in catalog.now) }
-    requires proper { AreProper (entries_in catalog.now) }
     ensures { IfOk result (λ bytes. Explanation (source (entries_in catalog.now)
         (unrolled (loop_of counted.now) (turns_of (loop_of counted.now))) (choices_seen options)) bytes.items) }
 {
     let kernel = unroll(alloc, counted, turns_of(counted))?;
-    explain(alloc, catalog, options.allowed, &kernel, options.width)
+    plan_lines(alloc, catalog, &kernel, options)
 }
 
 /// The text of the program of a kernel, or the looped text of a loop.
@@ -126,9 +153,6 @@ fn compiled(
     options: Options,
 ) -> Result<Vec<u8>, AllocError>
     requires file { IsFormed (file_seen file.now) }
-    requires written { AllWritten (entries_in catalog.now) }
-    requires lanes { HaveLanes (entries_in catalog.now) }
-    requires proper { AreProper (entries_in catalog.now) }
     ensures { IfOk result (λ bytes. IsAnswer
         (compiled_of (entries_in catalog.now) (choices_seen options) (file_seen file.now)) bytes.items) }
 {
@@ -146,16 +170,11 @@ fn planned(
     options: Options,
 ) -> Result<Vec<u8>, AllocError>
     requires file { IsFormed (file_seen file.now) }
-    requires written { AllWritten (entries_in catalog.now) }
-    requires lanes { HaveLanes (entries_in catalog.now) }
-    requires proper { AreProper (entries_in catalog.now) }
     ensures { IfOk result (λ bytes. IsAnswer
         (planned_of (entries_in catalog.now) (choices_seen options) (file_seen file.now)) bytes.items) }
 {
     match file {
-        KernelFile::Plain(kernel) => {
-            explain(alloc, catalog, options.allowed, kernel, options.width)
-        }
+        KernelFile::Plain(kernel) => plan_lines(alloc, catalog, kernel, options),
         KernelFile::Counted(counted) => block_plan(alloc, catalog, counted, options),
     }
 }
@@ -168,9 +187,6 @@ fn compiled_of_text(
     text: &[u8],
 ) -> Result<Vec<u8>, Ending>
     requires small { length text.now ≤ 262144 }
-    requires written { AllWritten (entries_in catalog.now) }
-    requires lanes { HaveLanes (entries_in catalog.now) }
-    requires proper { AreProper (entries_in catalog.now) }
     ensures told { (entries : List Entry) → entries_in catalog.now ≡ entries → Tells VecAnswers result
         (told_of Task.Program entries (choices_seen options) text.now) }
     ensures refusal { IfErr result (IsOfKernel second_file) }
@@ -193,9 +209,6 @@ fn guarded_of_text(
     text: &[u8],
 ) -> Result<Vec<u8>, Ending>
     requires small { length text.now ≤ 262144 }
-    requires written { AllWritten (entries_in catalog.now) }
-    requires lanes { HaveLanes (entries_in catalog.now) }
-    requires proper { AreProper (entries_in catalog.now) }
     ensures told { (entries : List Entry) → entries_in catalog.now ≡ entries → Tells VecAnswers result
         (told_of Task.Guarded entries (choices_seen options) text.now) }
     ensures refusal { IfErr result (IsOfKernel second_file) }
@@ -218,9 +231,6 @@ fn planned_of_text(
     text: &[u8],
 ) -> Result<Vec<u8>, Ending>
     requires small { length text.now ≤ 262144 }
-    requires written { AllWritten (entries_in catalog.now) }
-    requires lanes { HaveLanes (entries_in catalog.now) }
-    requires proper { AreProper (entries_in catalog.now) }
     ensures told { (entries : List Entry) → entries_in catalog.now ≡ entries → Tells VecAnswers result
         (told_of Task.Plan entries (choices_seen options) text.now) }
     ensures refusal { IfErr result (IsOfKernel second_file) }
@@ -244,9 +254,6 @@ fn text_of(
     text: &[u8],
 ) -> Result<Vec<u8>, Ending>
     requires small { length text.now ≤ 262144 }
-    requires written { AllWritten (entries_in catalog.now) }
-    requires lanes { HaveLanes (entries_in catalog.now) }
-    requires proper { AreProper (entries_in catalog.now) }
     ensures told { (entries : List Entry) → entries_in catalog.now ≡ entries → Tells VecAnswers result
         (told_of task entries (choices_seen options) text.now) }
     ensures refusal { IfErr result (IsOfKernel second_file) }

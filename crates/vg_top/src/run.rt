@@ -1,9 +1,8 @@
 //! The command `run`.
 
-ghost use Rattle.std.specs.Prelude.{Some, IfSome, IfErr, map};
+ghost use Rattle.std.specs.Prelude.{Some, IfSome, IfErr};
 ghost use Rattle.vg_catalog.specs.Called.{called_by, headers_of};
-ghost use Rattle.vg_catalog.specs.Entries.{entry_of};
-ghost use Rattle.vg_catalog.specs.Written.{AllWritten};
+ghost use Rattle.vg_catalog.specs.Catalogs.{entries_in};
 ghost use Rattle.vg_guard.specs.Guarded.{guarded_meaning, IsGuarded};
 ghost use Rattle.vg_looped.specs.Looped.{IsLooped};
 ghost use Rattle.vg_loops.specs.Inputs.{looped_meaning};
@@ -24,30 +23,30 @@ use crate::inputs::{Inputs, bind};
 use crate::instruction_file::catalog_of_text;
 use crate::program_file::{ProgramFile, program_of_text};
 use std::alloc::Global;
+use vg_catalog::Catalog;
 use vg_guard::{Guarded, checks_hold};
 use vg_looped::Looped;
 use vg_loops::{run_looped, stay_near, turns_asked};
 use vg_machine::{Machine, Outcome};
 use vg_outside::{Bytes, Shelf};
 use vg_program::Program;
-use vg_range::Checked;
 use vg_request::binding::bindings_of;
 
-/// What a program leaves of a memory, where it may call these entries.
+/// What a program leaves of a memory, where it may call the instructions of a catalogue.
 fn run_program(
     alloc: Global,
-    entries: &[Checked],
+    catalog: &Catalog,
     program: &Program,
     inputs: &Inputs,
     memory: Vec<u8>,
 ) -> Result<Vec<u8>, Ending>
-    requires rules { KeepsRules (headers_of (map entry_of entries.now)) program.now }
-    requires written { AllWritten (map entry_of entries.now) }
+    requires rules { KeepsRules (headers_of (entries_in catalog.now)) program.now }
     ensures told { Tells AreLeft result (memory_or_trap (meaning
-        (called_by (map entry_of entries.now)) program.now memory.items
+        (called_by (entries_in catalog.now)) program.now memory.items
         inputs.now.places.items inputs.now.args.items)) }
     ensures refusal { IfErr result IsOfRun }
 {
+    let entries = catalog.entries();
     let Ok(machine) = Machine::new(alloc, entries, program) else {
         return Err(Ending::Memory);
     };
@@ -66,22 +65,21 @@ fn run_program(
 /// What a guarded program leaves of a memory: what the side leaves that its checks name.
 fn run_guarded(
     alloc: Global,
-    entries: &[Checked],
+    catalog: &Catalog,
     guarded: &Guarded,
     inputs: &Inputs,
     memory: Vec<u8>,
 ) -> Result<Vec<u8>, Ending>
-    requires rules { IsGuarded (headers_of (map entry_of entries.now)) guarded.now }
-    requires written { AllWritten (map entry_of entries.now) }
+    requires rules { IsGuarded (headers_of (entries_in catalog.now)) guarded.now }
     ensures told { Tells AreLeft result (memory_or_trap (guarded_meaning
-        (called_by (map entry_of entries.now)) guarded.now memory.items
+        (called_by (entries_in catalog.now)) guarded.now memory.items
         inputs.now.places.items inputs.now.args.items)) }
     ensures refusal { IfErr result IsOfRun }
 {
     if checks_hold(guarded, inputs.places.as_slice()) {
-        run_program(alloc, entries, &guarded.fast, inputs, memory)
+        run_program(alloc, catalog, &guarded.fast, inputs, memory)
     } else {
-        run_program(alloc, entries, &guarded.slow, inputs, memory)
+        run_program(alloc, catalog, &guarded.slow, inputs, memory)
     }
 }
 
@@ -89,15 +87,14 @@ fn run_guarded(
 #[tactic(auto, using(crate::proofs::Few::looped_few))]
 fn run_turns(
     alloc: Global,
-    entries: &[Checked],
+    catalog: &Catalog,
     looped: &Looped,
     inputs: &Inputs,
     memory: Vec<u8>,
 ) -> Result<Vec<u8>, Ending>
-    requires rules { IsLooped (headers_of (map entry_of entries.now)) looped.now }
-    requires written { AllWritten (map entry_of entries.now) }
+    requires rules { IsLooped (headers_of (entries_in catalog.now)) looped.now }
     ensures told { Tells AreLeft result (left_by
-        (looped_meaning (called_by (map entry_of entries.now)) looped.now) memory.items
+        (looped_meaning (called_by (entries_in catalog.now)) looped.now) memory.items
         (near_inputs looped.now.times looped.now.steps (inputs_seen inputs.now))) }
     ensures refusal { IfErr result IsOfRun }
 {
@@ -107,6 +104,7 @@ fn run_turns(
     if !stay_near(looped.steps.as_slice(), turns, places) {
         return Err(Ending::Bindings);
     }
+    let entries = catalog.entries();
     let Ok(block) = Machine::new(alloc, entries, &looped.block) else {
         return Err(Ending::Memory);
     };
@@ -134,14 +132,13 @@ fn run_turns(
 #[tactic(auto, unfolding(crate::specs::Run::ran_on))]
 fn run_on(
     alloc: Global,
-    entries: &[Checked],
+    catalog: &Catalog,
     program: &ProgramFile,
     memory: Vec<u8>,
     words: &[Bytes],
 ) -> Result<Vec<u8>, Ending>
-    requires rules { KeepsAll (headers_of (map entry_of entries.now)) (program_seen program.now) }
-    requires written { AllWritten (map entry_of entries.now) }
-    ensures told { Tells AreLeft result (ran_on (map entry_of entries.now)
+    requires rules { KeepsAll (headers_of (entries_in catalog.now)) (program_seen program.now) }
+    ensures told { Tells AreLeft result (ran_on (entries_in catalog.now)
         (bindings_in words.now) (program_seen program.now) memory.items) }
     ensures refusal { IfErr result IsOfRun }
 {
@@ -155,9 +152,9 @@ fn run_on(
         return Err(Ending::Bindings);
     };
     match program {
-        ProgramFile::Plain(program) => run_program(alloc, entries, program, &inputs, memory),
-        ProgramFile::Guarded(guarded) => run_guarded(alloc, entries, guarded, &inputs, memory),
-        ProgramFile::Looped(looped) => run_turns(alloc, entries, looped, &inputs, memory),
+        ProgramFile::Plain(program) => run_program(alloc, catalog, program, &inputs, memory),
+        ProgramFile::Guarded(guarded) => run_guarded(alloc, catalog, guarded, &inputs, memory),
+        ProgramFile::Looped(looped) => run_turns(alloc, catalog, looped, &inputs, memory),
     }
 }
 
@@ -189,5 +186,5 @@ pub fn run<S: Shelf>(
     let text = fetch(alloc, shelf, second, program, PROGRAM_LIMIT)?;
     let program = program_of_text(alloc, second, text.as_slice(), catalog.headers())?;
     let memory = fetch(alloc, shelf, FileNumber(3), memory, MEMORY_LIMIT)?;
-    run_on(alloc, catalog.entries(), &program, memory, words)
+    run_on(alloc, &catalog, &program, memory, words)
 }

@@ -1,5 +1,5 @@
 -- The line on the trial of a number.
-use Rattle.std.specs.Prelude.{◌≡◌, ℕ, ◌%◌, ◌^◌, List, [], ◌++◌, length, Some, Ok, codes, sum}
+use Rattle.std.specs.Prelude.{◌≡◌, false, ℕ, ◌%◌, ◌^◌, List, [], ◌++◌, length, Some, Ok, codes, sum}
 use Rattle.std.specs.Fmt.{decimal}
 use Rattle.vg_catalog.specs.Called.{called_by}
 use Rattle.vg_catalog.specs.Entries.{Entry}
@@ -34,7 +34,7 @@ pub record IsTrialLine (entries : List Entry) (n : ℕ) (text : List ℕ) : Type
   pub kernel : Tree
   pub spelled : kernel_of (kernel_text n) ≡ Ok kernel
   pub program : Program
-  pub compiled : IsCompiled entries all_extensions kernel width program
+  pub compiled : IsCompiled entries all_extensions kernel width false program
   pub left : List ℕ
   pub by_kernel : of_kernels.meaning kernel (memory n) (places n) [] ≡ Some left
   pub by_program :

@@ -2,9 +2,6 @@
 
 ghost use Rattle.std.specs.Prelude.{◌≡◌, IfOk};
 ghost use Rattle.vg_catalog.specs.Catalogs.{entries_in};
-ghost use Rattle.vg_catalog.specs.Written.{AllWritten};
-ghost use Rattle.vg_instances.specs.Proper.{AreProper};
-ghost use Rattle.vg_listing.specs.Listed.{HaveLanes};
 ghost use Rattle.vg_trial_line.specs.TrialLine.{IsTrialLine};
 
 use crate::kernel::trial_kernel;
@@ -26,9 +23,6 @@ const WIDTH: u32 = 32;
 /// The kernel and the program are run, each on a memory of its own, and leave the same bytes. Fails
 /// for want of memory, also at the bounds of `vg_compile::compile` and `vg_machine::Machine::new`.
 pub fn trial_line(alloc: Global, catalog: &Catalog, number: u32) -> Result<Vec<u8>, AllocError>
-    requires written { AllWritten (entries_in catalog.now) }
-    requires lanes { HaveLanes (entries_in catalog.now) }
-    requires proper { AreProper (entries_in catalog.now) }
     ensures { IfOk result (λ bytes. IsTrialLine (entries_in catalog.now) number bytes.items) }
 {
     let kernel = trial_kernel(alloc, number)?;

@@ -3,7 +3,6 @@
 ghost use Rattle.std.specs.Prelude.{◌≡◌, [], IfOk, Some};
 ghost use Rattle.vg_catalog.specs.Called.{called_by, headers_of};
 ghost use Rattle.vg_catalog.specs.Catalogs.{entries_in};
-ghost use Rattle.vg_catalog.specs.Written.{AllWritten};
 ghost use Rattle.vg_compile.specs.Means.{Means};
 ghost use Rattle.vg_kernel.specs.Meaning.{meaning};
 ghost use Rattle.vg_kernel.specs.Tree.{tree_of};
@@ -53,7 +52,6 @@ pub(crate) fn left_by_program(
     program: &Program,
     number: u32,
 ) -> Result<Vec<u8>, AllocError>
-    requires written { AllWritten (entries_in catalog.now) }
     requires rules { KeepsRules (headers_of (entries_in catalog.now)) program.now }
     requires means { Means (called_by (entries_in catalog.now)) program.now
         (kernel_of_trial number) }

@@ -22,7 +22,7 @@ pub(crate) struct Figures {
     pub(crate) sum: u32,
 }
 
-/// Appends words and the number behind them.
+/// Appends words and the number after them.
 fn put_figure(alloc: Global, to: &mut Vec<u8>, words: &str, number: u64) -> Result<(), AllocError>
     ensures { OnOk result (to.new.items ≡ to.old.items ++ (words.now ++ decimal number)) }
 {
@@ -30,7 +30,7 @@ fn put_figure(alloc: Global, to: &mut Vec<u8>, words: &str, number: u64) -> Resu
     put_number(alloc, to, number)
 }
 
-/// The line with LF behind it. `Err` for want of memory alone.
+/// The line with LF after it. `Err` for want of memory alone.
 pub(crate) fn print_line(alloc: Global, figures: Figures) -> Result<Vec<u8>, AllocError>
     ensures { IfOk result (λ text. text.items ≡ trial_text figures.number figures.statements
         figures.scalar figures.cost figures.sum) }

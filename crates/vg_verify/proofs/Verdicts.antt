@@ -10,7 +10,6 @@ use Rattle.vg_catalog.specs.declared.catalog.Catalog.{Catalog}
 use Rattle.vg_catalog.specs.Called.{called_by, headers_of}
 use Rattle.vg_catalog.specs.Catalogs.{entries_in}
 use Rattle.vg_catalog.specs.Entries.{Entry}
-use Rattle.vg_catalog.specs.Written.{AllWritten}
 use Rattle.vg_emission.specs.Laws.{MeansUnits}
 use Rattle.vg_emission.specs.Scalar.{scalar_program}
 use Rattle.vg_events.specs.Events.{kernel_labels}
@@ -20,7 +19,6 @@ use Rattle.vg_known.specs.Difference.{difference, lines_by_rank, opaque_line, ot
 use Rattle.vg_known.specs.Laws.{SameMeansUnits}
 use Rattle.vg_known.specs.Params.{same_head}
 use Rattle.vg_known_scalar.specs.Laws.{ScalarProgramsAreSame}
-use Rattle.vg_listing.specs.Listed.{HaveLanes}
 use Rattle.vg_told.specs.Told.{CatalogsAreTold}
 use Rattle.vg_verify.specs.declared.verdict.Verdict.{Verdict}
 use Rattle.vg_verify.specs.declared.verdict.Verdict.TheVariants.{Same, Differs}
@@ -64,10 +62,10 @@ other_heads entries ssa p t = sym (cond-false _ _ _ t)
 -- ---- where there is none
 
 pub means_same : SameMeansUnits → CatalogsAreTold → (catalog : Catalog) (ssa : Ssa) (p : Program) (v : Verdict)
-    → AllWritten (entries_in catalog) → HaveLanes (entries_in catalog) → IsSound ssa → verdict_of v ≡ difference (entries_in catalog) ssa p
+    → IsSound ssa → verdict_of v ≡ difference (entries_in catalog) ssa p
     → v ≡ Same → KeepsRules (headers_of (entries_in catalog)) p → MeansUnits (called_by (entries_in catalog)) p ssa
-means_same law told catalog ssa p v written lanes sound exact same rules =
-    law (called_by (entries_in catalog)) (entries_in catalog) ssa p sound rules (told catalog written lanes)
+means_same law told catalog ssa p v sound exact same rules =
+    law (called_by (entries_in catalog)) (entries_in catalog) ssa p sound rules (told catalog)
     (sym exact ∙ ap verdict_of same)
 
 none_same : (v : Verdict) → verdict_of v ≡ None → v ≡ Same

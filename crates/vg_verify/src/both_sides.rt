@@ -15,7 +15,7 @@ use vg_forms::Form;
 use vg_program::Program;
 use vg_shapes::Ssa;
 
-/// The terms of the values of a kernel, and what is known behind the lines of a program.
+/// The terms of the values of a kernel, and what is known after the lines of a program.
 #[derive(Drop)]
 pub struct Sides {
     pub terms: Vec<Form>,

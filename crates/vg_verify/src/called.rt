@@ -3,7 +3,6 @@
 ghost use Rattle.std.specs.Prelude.{◌≡◌, ◌<◌, IfOk, IfSome, OnOk, Some, length, map, slice_get};
 ghost use Rattle.vg_catalog.specs.Catalogs.{entries_in};
 ghost use Rattle.vg_catalog.specs.Entries.{entry_of};
-ghost use Rattle.vg_catalog.specs.Written.{AllWritten};
 ghost use Rattle.vg_verify.specs.Instances.{Answers, AreKept};
 
 use crate::instance::{Instance, Lanes, imm_number, lanes_for};
@@ -74,7 +73,6 @@ fn keep(
     instances: &mut IndexMap<Instance, Lanes>,
     instance: Instance,
 ) -> Result<(), AllocError>
-    requires written { AllWritten (entries_in catalog.now) }
     requires kept { AreKept (entries_in catalog.now) instances.old.entries }
     ensures { OnOk result (AreKept (entries_in catalog.now) instances.new.entries) }
 {
@@ -99,7 +97,6 @@ fn keep_line(
     instances: &mut IndexMap<Instance, Lanes>,
     line: &Line,
 ) -> Result<(), AllocError>
-    requires written { AllWritten (entries_in catalog.now) }
     requires kept { AreKept (entries_in catalog.now) instances.old.entries }
     ensures { OnOk result (AreKept (entries_in catalog.now) instances.new.entries) }
 {
@@ -122,7 +119,6 @@ fn instances_of(
     maker: &mut Maker,
     lines: &[Line],
 ) -> Result<IndexMap<Instance, Lanes>, AllocError>
-    requires { AllWritten (entries_in catalog.now) }
     ensures { IfOk result (λ m. AreKept (entries_in catalog.now) m.entries) }
 {
     let mut instances = IndexMap::new(alloc);
@@ -141,7 +137,6 @@ impl<'a> Called<'a> {
         catalog: &'a Catalog,
         program: &Program,
     ) -> Result<Called<'a>, AllocError>
-        requires written { AllWritten (entries_in catalog.now) }
         ensures entries { IfOk result (λ c. c ≡ entries_in catalog.now) }
     {
         let mut maker = Maker::new(alloc, MOST_MADE);

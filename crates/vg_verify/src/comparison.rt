@@ -4,11 +4,9 @@ ghost use Rattle.std.specs.Prelude.{◌≡◌, IfOk};
 ghost use Rattle.std.specs.Option.{option_map};
 ghost use Rattle.vg_catalog.specs.Called.{called_by, headers_of};
 ghost use Rattle.vg_catalog.specs.Catalogs.{entries_in};
-ghost use Rattle.vg_catalog.specs.Written.{AllWritten};
 ghost use Rattle.vg_emission.specs.Laws.{MeansUnits};
 ghost use Rattle.vg_emission.specs.Scalar.{scalar_program};
 ghost use Rattle.vg_known.specs.Difference.{difference, other_value};
-ghost use Rattle.vg_listing.specs.Listed.{HaveLanes};
 ghost use Rattle.vg_program.specs.Valid.{KeepsRules};
 ghost use Rattle.vg_shapes.specs.Sound.{IsSound};
 ghost use Rattle.vg_verify.specs.Heads.{HasHead};
@@ -45,7 +43,7 @@ fn valued_difference(
     other_value(alloc, ssa, sides)
 }
 
-// The first difference behind the numbers of events: of order, then of values.
+// The first difference after the numbers of events: of order, then of values.
 fn ordered_difference(
     alloc: Global,
     called: &Called,
@@ -64,7 +62,7 @@ fn ordered_difference(
     }
 }
 
-// The first difference behind what is called: of the numbers of events, then of their order and values.
+// The first difference after what is called: of the numbers of events, then of their order and values.
 fn event_difference(
     alloc: Global,
     called: &Called,
@@ -88,7 +86,6 @@ fn inner_difference(
     ssa: &Ssa,
     program: &Program,
 ) -> Result<Option<Difference>, AllocError>
-    requires written { AllWritten (entries_in catalog.now) }
     requires sound { IsSound ssa.now }
     ensures { IfOk result (λ found. option_map difference_of found
         ≡ inner_difference (entries_in catalog.now) ssa.now program.now) }
@@ -107,7 +104,6 @@ fn first_difference(
     ssa: &Ssa,
     program: &Program,
 ) -> Result<Option<Difference>, AllocError>
-    requires written { AllWritten (entries_in catalog.now) }
     requires sound { IsSound ssa.now }
     ensures { IfOk result (λ found. option_map difference_of found
         ≡ difference (entries_in catalog.now) ssa.now program.now) }
@@ -144,8 +140,6 @@ pub fn verify(
     ssa: &Ssa,
     program: &Program,
 ) -> Result<Verdict, AllocError>
-    requires written { AllWritten (entries_in catalog.now) }
-    requires lanes { HaveLanes (entries_in catalog.now) }
     requires sound { IsSound ssa.now }
     ensures exact { IfOk result
         (λ v. verdict_of v ≡ difference (entries_in catalog.now) ssa.now program.now) }

@@ -111,7 +111,7 @@ fn either(holds: bool, number: u32, other: u32) -> u32
 }
 
 /// The number of the first load that reads what a load of the number `own` reads: of the units before it, of
-/// which the first has the number `first`, the first load of its address and width behind which no unit is one
+/// which the first has the number `first`, the first load of its address and width after which no unit is one
 /// on which it depends; its own number where there is none. Takes a step for each unit back to the last on which
 /// it depends.
 #[tactic(auto, using(crate::proofs::Loads::looked_none, crate::proofs::Loads::looked_out, crate::proofs::Loads::looked_end, crate::proofs::Loads::looked_more))]

@@ -83,7 +83,7 @@ impl EventBits {
         }
     }
 
-    /// The bits of events, one behind the other. Fails for want of memory alone.
+    /// The bits of events, one after the other. Fails for want of memory alone.
     pub(crate) fn read(&self, alloc: Global, events: &[usize]) -> Result<Vec<Run>, AllocError>
         ensures { IfOk result (λ v. bits_in v.items
             ≡ event_bits (bits_at (pairs_in self.now.table.entries)) events.now) }

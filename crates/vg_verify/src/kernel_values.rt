@@ -93,7 +93,7 @@ impl KernelTerms {
         Ok(())
     }
 
-    // The term of a unit behind these.
+    // The term of a unit after these.
     fn unit_term(
         &mut self,
         alloc: Global,

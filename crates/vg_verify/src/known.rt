@@ -1,4 +1,4 @@
-//! What is known of scalars and registers behind the lines of a program.
+//! What is known of scalars and registers after the lines of a program.
 
 ghost use Rattle.std.specs.Prelude.{◌≡◌, ◌+◌, ◌-◌, ◌*◌, ◌++◌, IfOk, OnOk, get_or, length, replicate, take};
 ghost use Rattle.vg_base.specs.Width.{bits_of};
@@ -29,7 +29,7 @@ pub(crate) struct Given<'a> {
     pub reads: &'a EventBits,
 }
 
-/// What is known behind lines: the terms of scalars, the bits of registers, those of the events that were
+/// What is known after lines: the terms of scalars, the bits of registers, those of the events that were
 /// stored, and what makes terms, with the terms that were met.
 #[derive(Drop)]
 pub struct Knowing {
@@ -336,7 +336,7 @@ fn sum(a: u32, b: u32) -> Result<u32, AllocError>
     }
 }
 
-// Runs with so many zeros behind them.
+// Runs with so many zeros after them.
 #[tactic(auto, using(crate::proofs::Lines::zeros_behind))]
 fn with_zeros(old: Vec<Run>, count: u32) -> Result<Vec<Run>, AllocError>
     ensures { IfOk result (λ v. bits_in v.items ≡ bits_in old.items ++ replicate count clear) }

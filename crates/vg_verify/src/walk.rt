@@ -1,4 +1,4 @@
-//! What is known behind the lines of a program.
+//! What is known after the lines of a program.
 
 ghost use Rattle.std.specs.Prelude.{◌≡◌, ◌*◌, ◌<◌, IfOk, OnOk, get_or, length};
 ghost use Rattle.vg_base.specs.Bits.{bits_of_bytes, num};
@@ -160,7 +160,7 @@ impl Knowing {
     }
 }
 
-/// What is known behind the lines of a program, for each of which there are the numbers of its events: by what
+/// What is known after the lines of a program, for each of which there are the numbers of its events: by what
 /// they call, the terms of the integer parameters, the bits that events of loads read, and what makes terms with
 /// those that were met. Fails for want of memory, also where a line has no events.
 #[tactic(auto, using(crate::proofs::Walking::known_same))]

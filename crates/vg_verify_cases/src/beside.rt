@@ -4,7 +4,6 @@ use std::alloc::Global;
 use std::test::Fail;
 use vg_catalog::parse_file;
 use vg_kernel::parse_kernel;
-use vg_listing::files_have_lanes;
 use vg_program::parse_program;
 use vg_ssa::number_values;
 use vg_verify::{Difference, Verdict, verify};
@@ -66,7 +65,6 @@ pub fn compared(
     kernel: &[u8],
     program: &[u8],
 ) -> Result<Expected, Fail> {
-    files_have_lanes();
     let catalog = parse_file(alloc, entries)?;
     let kernel = parse_kernel(alloc, kernel)?;
     let program = parse_program(alloc, program, catalog.headers())?;

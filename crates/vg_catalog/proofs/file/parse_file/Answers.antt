@@ -1,5 +1,4 @@
 use Rattle.vg_catalog.proofs.Laws.{sound, complete}
-use Rattle.vg_catalog.proofs.WrittenEntries.{written}
 use Rattle.vg_catalog.proofs.file.parse_file.Goals as goal
 
 pub returns-clause-sound : goal.returns-clause-sound
@@ -7,6 +6,3 @@ returns-clause-sound c = sound c.args.text.now c.read.result c.read.ensures.exac
 
 pub returns-clause-complete : goal.returns-clause-complete
 returns-clause-complete c = complete c.args.text.now c.read.result c.read.ensures.exact
-
-pub returns-clause-written : goal.returns-clause-written
-returns-clause-written c = written c.operations_that_are_read_are_written.ensures c.narrow_headers_are_written.ensures c.args.text.now c.read.result c.read.ensures.exact

@@ -1,14 +1,14 @@
 use Rattle.std.proofs.Common.{map}
 use Rattle.vg_shapes.specs.Description.{description_of}
 use Rattle.vg_compile.proofs.Carried.{chosen-plan, picked-by}
-use Rattle.vg_compile.proofs.Near.{matches-near}
+use Rattle.vg_emit_laws.proofs.Near.{matches-are-near}
 use Rattle.vg_compile.proofs.Ordered.{known, short_packs}
 use Rattle.vg_compile.proofs.choosing.choose_plan.Goals as goal
 
 pub choose-requires-clause-near : goal.choose-requires-clause-near
 choose-requires-clause-near c =
     let ds = map description_of c.args.descriptions.now in
-    matches-near ds c.in_ok-table.table c.args.ssa.now
+    matches-are-near ds c.in_ok-table.table c.args.ssa.now
     (known ds c.in_ok-table.table c.args.ssa.now c.requires.sound c.requires.callable c.in_ok-table.ensures.matches)
 
 pub choose-requires-clause-short : goal.choose-requires-clause-short

@@ -1,11 +1,11 @@
 use Rattle.std.proofs.Common.{map}
 use Rattle.vg_shapes.specs.Description.{description_of}
-use Rattle.vg_compile.proofs.Near.{matches-near, plan-short}
+use Rattle.vg_emit_laws.proofs.Near.{matches-are-near, packs-are-short}
 use Rattle.vg_compile.proofs.emitting.emit_plan.Goals as goal
 
 pub emit-requires-clause-short : goal.emit-requires-clause-short
 emit-requires-clause-short c =
-    plan-short (map description_of c.args.descriptions.now) c.args.table.now c.args.ssa.now c.args.deps.now c.args.plan.now c.requires.known c.requires.plan
+    packs-are-short (map description_of c.args.descriptions.now) c.args.table.now c.args.ssa.now c.args.deps.now c.args.plan.now c.requires.known c.requires.plan
 
 pub emit-requires-clause-near : goal.emit-requires-clause-near
-emit-requires-clause-near c = matches-near (map description_of c.args.descriptions.now) c.args.table.now c.args.ssa.now c.requires.known
+emit-requires-clause-near c = matches-are-near (map description_of c.args.descriptions.now) c.args.table.now c.args.ssa.now c.requires.known

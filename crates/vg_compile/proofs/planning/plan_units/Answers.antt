@@ -1,8 +1,8 @@
 use Rattle.std.proofs.Common.{map}
 use Rattle.vg_shapes.specs.Depends.{dependences}
 use Rattle.vg_shapes.specs.Description.{description_of}
+use Rattle.vg_emit_laws.proofs.Near.{matches-are-near, packs-are-short}
 use Rattle.vg_compile.proofs.Carried.{plan-grows, planned-is}
-use Rattle.vg_compile.proofs.Near.{matches-near, plan-short}
 use Rattle.vg_compile.proofs.Ordered.{known, names_earlier, plain_short, plain-cost}
 use Rattle.vg_compile.proofs.planning.plan_units.Goals as goal
 
@@ -13,21 +13,21 @@ pub plain_plan-requires-clause-near : goal.plain_plan-requires-clause-near
 plain_plan-requires-clause-near c =
     let ds = map description_of c.args.descriptions.now in
     let chosen = c.in_ok-chosen.ensures.plan in
-    matches-near ds c.in_ok-chosen.chosen.table c.args.ssa.now
+    matches-are-near ds c.in_ok-chosen.chosen.table c.args.ssa.now
     (known ds c.in_ok-chosen.chosen.table c.args.ssa.now c.requires.sound c.requires.callable chosen.table.matched)
 
 pub plan_cost-requires-clause-near : goal.plan_cost-requires-clause-near
 plan_cost-requires-clause-near c =
     let ds = map description_of c.args.descriptions.now in
     let chosen = c.in_ok-chosen.ensures.plan in
-    matches-near ds c.in_ok-chosen.chosen.table c.args.ssa.now
+    matches-are-near ds c.in_ok-chosen.chosen.table c.args.ssa.now
     (known ds c.in_ok-chosen.chosen.table c.args.ssa.now c.requires.sound c.requires.callable chosen.table.matched)
 
 pub plan_cost-requires-2-clause-near : goal.plan_cost-requires-2-clause-near
 plan_cost-requires-2-clause-near c =
     let ds = map description_of c.args.descriptions.now in
     let chosen = c.in_ok-chosen.ensures.plan in
-    matches-near ds c.in_ok-chosen.chosen.table c.args.ssa.now
+    matches-are-near ds c.in_ok-chosen.chosen.table c.args.ssa.now
     (known ds c.in_ok-chosen.chosen.table c.args.ssa.now c.requires.sound c.requires.callable chosen.table.matched)
 
 pub plan_cost-requires-clause-short : goal.plan_cost-requires-clause-short
@@ -35,7 +35,7 @@ plan_cost-requires-clause-short c =
     let ds = map description_of c.args.descriptions.now in
     let chosen = c.in_ok-chosen.ensures.plan in
     let all = known ds c.in_ok-chosen.chosen.table c.args.ssa.now c.requires.sound c.requires.callable chosen.table.matched in
-    plan-short ds c.in_ok-chosen.chosen.table c.args.ssa.now c.in_ok-chosen.chosen.deps c.in_ok-chosen.chosen.plan all
+    packs-are-short ds c.in_ok-chosen.chosen.table c.args.ssa.now c.in_ok-chosen.chosen.deps c.in_ok-chosen.chosen.plan all
     (plan-grows ds c.in_ok-chosen.chosen.table c.args.ssa.now c.in_ok-chosen.chosen.deps c.args.width c.in_ok-chosen.chosen.plan all
     c.in_ok-chosen.ensures.deps chosen)
 
@@ -47,8 +47,8 @@ plan_cost-requires-2-clause-short c =
     (known ds c.in_ok-chosen.chosen.table c.args.ssa.now c.requires.sound c.requires.callable chosen.table.matched)
     c.in_ok-plain.ensures.plain
 
-pub returns : goal.returns
-returns c =
+pub returns-clause-planned : goal.returns-clause-planned
+returns-clause-planned c =
     let ds = map description_of c.args.descriptions.now in
     let matches = c.in_ok-chosen.chosen.table in
     let ssa = c.args.ssa.now in

@@ -3,7 +3,7 @@ use Rattle.std.proofs.lemmas.List.{length-map}
 use Rattle.std.proofs.lemmas.Result.{on_ok_weaker}
 use Rattle.vg_catalog.specs.Entries.{entry_of}
 use Rattle.vg_lanes.specs.Described.{AreLanes}
-use Rattle.vg_listing.proofs.Lanes.{are_lanes}
+use Rattle.vg_entry_lanes.proofs.Lanes.{are_lanes}
 use Rattle.vg_range.specs.Checks.{header_in, operation_in}
 use Rattle.vg_shapes.specs.Lane.{lane_of}
 use Rattle.vg_instances.proofs.Adding.{added, stays}

@@ -2,7 +2,7 @@ use Rattle.std.proofs.Common.{map, arith}
 use Rattle.vg_catalog.specs.Entries.{entry_of}
 use Rattle.vg_range.specs.Checks.{header_in, operation_in}
 use Rattle.vg_shapes.specs.Description.{description_of}
-use Rattle.vg_listing.proofs.Ranges.{lines-more}
+use Rattle.vg_entry_lanes.proofs.Ranges.{lines-more}
 use Rattle.vg_instances.specs.Descriptions.{instance_description}
 use Rattle.vg_instances.proofs.Entries.{stay-on}
 use Rattle.vg_instances.proofs.descriptions.add_range.Goals as goal

@@ -2,7 +2,7 @@ use Rattle.std.proofs.Common.{map, subst, sym}
 use Rattle.vg_lanes.specs.Described.{AreLanes}
 use Rattle.vg_range.specs.Checks.{header_in, operation_in}
 use Rattle.vg_shapes.specs.Lane.{lane_of}
-use Rattle.vg_listing.proofs.Lanes.{are_lanes}
+use Rattle.vg_entry_lanes.proofs.Lanes.{are_lanes}
 use Rattle.vg_listing.proofs.entries.list_lanes.Goals as goal
 
 pub list_instance-requires : goal.list_instance-requires

@@ -3,7 +3,7 @@ use Rattle.std.specs.List.{flat_map}
 use Rattle.vg_range.specs.Checks.{header_in, operation_in}
 use Rattle.vg_shapes.specs.Order.{numbers_from}
 use Rattle.vg_listing.specs.Listed.{lines_of}
-use Rattle.vg_listing.proofs.Ranges.{lines-more}
+use Rattle.vg_entry_lanes.proofs.Ranges.{lines-more}
 use Rattle.vg_listing.proofs.entries.list_range.Goals as goal
 
 pub immediates-preserved : goal.immediates-preserved

@@ -68,6 +68,6 @@ returns-clause-told g c =
     let entries = subst (λ v. Tells AreEntries (Ok catalog) (entries_or_refusal first_file (entries_of v))) c.as_slice.ensures.value c.in_ok-catalog.ensures.told in
     let judged = subst (λ v. Tells IsProgram (Ok program) (program_or_refusal second_file (program_file (headers_of (entries_in catalog)) v))) c.as_slice-2.ensures.value
     (subst (λ v. Tells IsProgram (Ok program) (program_or_refusal second_file (program_file v c.as_slice-2.result.now))) c.headers.ensures.headers c.in_ok-program.ensures.told) in
-    let left = subst (λ v. Tells AreLeft c.run_on.result (ran_on v (bindings_in c.args.words.now) (program_seen program) c.in_ok-memory.memory.items)) c.entries.ensures.entries c.run_on.ensures.told in
+    let left = c.run_on.ensures.told in
     some-told (s.holds c.args.shelf.now) _ _ _ _ _ _ first (c.in_ok-text.ensures.shelf.keeps ∙ first) c.in_ok-file.ensures.told c.in_ok-text.ensures.told c.in_ok-memory.ensures.told
     (λ held a b d. ran-told held c.args.instructions.now c.args.program.now c.args.memory.now (bindings_in c.args.words.now) file text c.in_ok-memory.memory catalog program c.run_on.result a entries b judged d left)

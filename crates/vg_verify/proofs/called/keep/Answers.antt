@@ -1,11 +1,12 @@
 use Rattle.std.proofs.Common.{sym, ◌∙◌}
 use Rattle.vg_catalog.specs.Catalogs.{entries_in}
 use Rattle.vg_catalog.specs.Entries.{entry_of}
+use Rattle.vg_catalog.proofs.Kept.{catalog-written}
 use Rattle.vg_verify.proofs.Calling.{kept_more, new_last, written_at}
 use Rattle.vg_verify.proofs.called.keep.Goals as goal
 
 pub lanes_for-requires : goal.lanes_for-requires
-lanes_for-requires c = written_at (entries_in c.args.catalog.now) c.args.instance.entry (entry_of c.in-Some.entry.now) c.requires.written c.in-Some.ensures
+lanes_for-requires c = written_at (entries_in c.args.catalog.now) c.args.instance.entry (entry_of c.in-Some.entry.now) (catalog-written c.args.catalog.now) c.in-Some.ensures
 
 pub returns-in_ok-insert-in-Some : goal.returns-in_ok-insert-in-Some
 returns-in_ok-insert-in-Some c =

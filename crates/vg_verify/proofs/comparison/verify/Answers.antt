@@ -7,7 +7,7 @@ use Rattle.vg_verify.proofs.comparison.verify.Goals as goal
 pub returns-clause-same : goal.returns-clause-same
 returns-clause-same c =
     means_same c.same_means_units.ensures c.catalogs_are_told.ensures c.args.catalog.now c.args.ssa.now c.args.program.now c.verdict_for.result
-    c.requires.written c.requires.lanes c.requires.sound (c.verdict_for.ensures ∙ c.in_ok-found.ensures)
+    c.requires.sound (c.verdict_for.ensures ∙ c.in_ok-found.ensures)
 
 pub returns-clause-scalar : goal.returns-clause-scalar
 returns-clause-scalar c =

@@ -8,6 +8,7 @@ use Rattle.vg_range.specs.Checks.{header_in}
 use Rattle.vg_catalog.specs.Catalogs.{entries_in}
 use Rattle.vg_catalog.specs.Entries.{entry_of, name_of, is_known, instances_of}
 use Rattle.vg_catalog.proofs.EntryLists.{any-map, kept_more, names_more}
+use Rattle.vg_catalog.proofs.Kept.{read-more}
 use Rattle.vg_catalog.proofs.catalog.Catalog.and.Goals as goal
 
 pub invariant_of-result : goal.invariant_of-result
@@ -24,4 +25,7 @@ invariant_of-result c =
     let names = names_more vec_items _ keys c.insert.new.self.keys new fresh c.in_ok-insert.ensures.keys in
     let count = c.instances_of.ensures.count ∙ ap (λ (h : Header). instances_of h.imm) header in
     let more = kept_more entries self.headers.items (map vec_items keys) self.instances (entry_of c.args.checked) c.in_ok-header.header (vec_items new) c.instances_of.result self.kept header name count c.requires.room in
-    record { kept = rw (c.in_ok-push-2.ensures.items, c.in_ok-push.ensures.items, names, map-append) more }
+    record {
+      kept = rw (c.in_ok-push-2.ensures.items, c.in_ok-push.ensures.items, names, map-append) more;
+      read = rw (c.in_ok-push-2.ensures.items, map-append) (read-more entries (entry_of c.args.checked) self.read c.requires.read c.requires.fresh);
+    }

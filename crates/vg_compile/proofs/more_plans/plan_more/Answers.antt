@@ -1,0 +1,19 @@
+use Rattle.std.proofs.Common.{map}
+use Rattle.vg_kernel.specs.Tree.{tree_of}
+use Rattle.vg_shapes.specs.Description.{description_of}
+use Rattle.vg_compile.specs.Chosen.{AreWhole, AreWide}
+use Rattle.vg_compile.proofs.More.{more-is, valued}
+use Rattle.vg_compile.proofs.more_plans.plan_more.Goals as goal
+
+pub returns : goal.returns
+returns c =
+    let ds = map description_of c.args.descriptions.now in
+    let k = tree_of c.args.kernel.now in
+    let whole = c.in_ok-whole_values.ensures in
+    let wide = c.in_ok-wide_values.ensures in
+    more-is ds k c.args.width c.in_ok-whole.whole c.in_ok-wide.wide c.cheaper-values.result
+    (valued AreWhole ds k c.args.width c.in_ok-whole_values.whole_values c.in_ok-whole.whole (whole.exact, whole.uncut) whole.exact whole.sound whole.stands_for
+    c.in_ok-whole.ensures.ssa c.in_ok-whole.ensures.planned c.in_ok-whole.ensures.deps)
+    (valued AreWide ds k c.args.width c.in_ok-wide_values.wide_values c.in_ok-wide.wide (wide.exact, wide.cuts) wide.exact wide.sound wide.stands_for
+    c.in_ok-wide.ensures.ssa c.in_ok-wide.ensures.planned c.in_ok-wide.ensures.deps)
+    c.cheaper-values.ensures

@@ -1,3 +1,0 @@
-pub mod FileLanes
-pub mod Lanes
-pub mod Ranges
