@@ -15,10 +15,10 @@ ghost use Rattle.vg_beam.specs.Board.{
 ghost use Rattle.vg_beam.specs.Key.{first_place};
 ghost use Rattle.vg_beam.specs.SearchSpace.{described};
 
-use crate::packs::copy_pack;
 use crate::search_space::SearchSpace;
 use std::alloc::{AllocError, Global};
 use vg_base::Items;
+use vg_packing::copies::copy_pack;
 use vg_packing::same::is_same_pack;
 use vg_packs::produced;
 use vg_shapes::Pack;

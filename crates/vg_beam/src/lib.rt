@@ -11,7 +11,6 @@ mod choosing;
 mod kept;
 mod key;
 mod met;
-mod packs;
 mod priced_plan;
 mod search;
 mod search_space;

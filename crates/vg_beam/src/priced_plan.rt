@@ -15,10 +15,10 @@ ghost use Rattle.vg_beam.specs.SearchSpace.{described};
 use crate::board::Board;
 use crate::candidate::{Candidate, least_below};
 use crate::kept::{Kept, kept_at};
-use crate::packs::{copy_pack, copy_packs};
 use crate::search_space::SearchSpace;
 use std::alloc::{AllocError, Global};
 use vg_cost::plan_cost;
+use vg_packing::copies::{copy_pack, copy_packs};
 use vg_packs::plain_plan;
 use vg_shapes::Plan;
 

@@ -1,35 +1,11 @@
-//! Packs and operands a second time.
+//! Packs with one after them, and operands, a second time.
 
-ghost use Rattle.std.specs.Prelude.{◌≡◌, ◌++◌, ◌∷◌, [], IfOk, take};
+ghost use Rattle.std.specs.Prelude.{◌≡◌, ◌++◌, ◌∷◌, [], IfOk};
 
 use std::alloc::{AllocError, Global};
 use vg_base::Items;
+use vg_packing::copies::{copy_pack, copy_packs};
 use vg_shapes::{Operand, Pack};
-
-/// The same pack a second time. Fails only for want of memory.
-fn copy_pack(alloc: Global, pack: &Pack) -> Result<Pack, AllocError>
-    ensures { IfOk result (λ p. p ≡ pack.now) }
-{
-    match pack {
-        Pack::Stores(units) => Ok(Pack::Stores(units.copy(alloc)?)),
-        Pack::Loads(units) => Ok(Pack::Loads(units.copy(alloc)?)),
-        Pack::Call { description, lanes } => Ok(Pack::Call {
-            description: *description,
-            lanes: lanes.copy(alloc)?,
-        }),
-    }
-}
-
-/// The same packs a second time. Fails only for want of memory.
-fn copy_packs(alloc: Global, packs: &[Pack]) -> Result<Vec<Pack>, AllocError>
-    ensures { IfOk result (λ copies. copies.items ≡ packs.now) }
-{
-    let mut copies = Vec::new(alloc);
-    'packs: for pack in packs {
-        copies.push(copy_pack(alloc, pack)?)?;
-    }
-    Ok(copies)
-}
 
 /// The same packs a second time, with one after them. Fails only for want of memory.
 pub(crate) fn longer(alloc: Global, packs: &[Pack], pack: &Pack) -> Result<Vec<Pack>, AllocError>

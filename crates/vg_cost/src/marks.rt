@@ -5,14 +5,8 @@ ghost use Rattle.vg_cost.specs.Marks.{Has, Marked};
 ghost use Rattle.vg_shapes.specs.Pack.{units_of};
 
 use std::alloc::{AllocError, Global};
+use vg_packing::marks::clear_marks;
 use vg_shapes::Pack;
-
-/// No marks, for so many numbers.
-pub(crate) fn clear_marks(alloc: Global, count: usize) -> Result<Vec<bool>, AllocError>
-    ensures { IfOk result (λ marks. marks.items ≡ replicate count false) }
-{
-    vec![in alloc; false; count]
-}
 
 /// Clears all marks.
 pub(crate) fn clear(marks: &mut [bool])

@@ -10,10 +10,10 @@ ghost use Rattle.vg_shapes.specs.Leaves.{bit_number};
 ghost use Rattle.vg_terms.specs.Term.{tree};
 
 use crate::lines::end_of_units;
-use crate::marks::clear_marks;
-use crate::shuffle::lane_of;
 use std::alloc::{AllocError, Global};
 use vg_packing::held::lane_width_of;
+use vg_packing::lane::lane_of;
+use vg_packing::marks::clear_marks;
 use vg_packing::wants::is_wanted;
 use vg_shapes::{Description, Operand, Pack, Slot, Ssa, Wanted};
 use vg_terms::Term;

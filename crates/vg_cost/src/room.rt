@@ -4,10 +4,11 @@ ghost use Rattle.std.specs.Prelude.{IfOk};
 ghost use Rattle.vg_cost.specs.Room.{IsRoomFor};
 
 use crate::lines::end_of_units;
-use crate::marks::{clear_marks, packed_marks};
+use crate::marks::packed_marks;
 use crate::tried::Tried;
 use std::alloc::{AllocError, Global};
 use std::marker::Model;
+use vg_packing::marks::clear_marks;
 use vg_shapes::{Pack, Ssa};
 
 /// Room in which packs are tried after a plan, one after the other. Contracts see the marks of the

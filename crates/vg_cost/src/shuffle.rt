@@ -1,6 +1,6 @@
 //! Shuffles that can make an operand.
 
-ghost use Rattle.std.specs.Prelude.{◌≡◌, ◌==◌, ◌++◌, ◌/◌, ◌%◌, [], ◌∷◌, IfOk, OnOk, Some, filter, flat_map, length, map, nat_eq, slice_get};
+ghost use Rattle.std.specs.Prelude.{◌≡◌, ◌==◌, ◌++◌, ◌%◌, [], ◌∷◌, IfOk, OnOk, Some, filter, flat_map, length, map, nat_eq, slice_get};
 ghost use Rattle.std.specs.List.{list_all};
 ghost use Rattle.vg_cost.specs.Had.{shuffle_list};
 ghost use Rattle.vg_packing.specs.Shuffles.{is_lane_slot, moved_from, moved_leaf, parts_from, shuffle_of};
@@ -10,6 +10,7 @@ ghost use Rattle.vg_terms.specs.Term.{tree};
 
 use std::alloc::{AllocError, Global};
 use vg_base::Items;
+use vg_packing::lane::lane_of;
 use vg_packing::shuffles::is_shuffle;
 use vg_packing::wants::{wanted_slots, wants_value};
 use vg_shapes::{Description, Operand, Slot};
@@ -21,14 +22,6 @@ use vg_terms::Term;
 pub struct Shuffle {
     pub cost: u32,
     pub parts: Vec<Operand>,
-}
-
-#[tactic(auto, using(crate::proofs::Zero::divided_by_none))]
-/// The number of the lane in which a bit stands, or 0 where lanes have no width.
-pub(crate) fn lane_of(low: u32, width: u32) -> u32
-    ensures { result ≡ low / width }
-{
-    if width == 0 { 0 } else { low / width }
 }
 
 #[tactic(auto, using(crate::proofs::Zero::left_by_none))]

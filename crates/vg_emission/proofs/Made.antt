@@ -37,7 +37,7 @@ use Rattle.vg_emission.specs.Program.{all_inserted, has_value, job_of, needed_be
 use Rattle.vg_emission.proofs.Jobs.{unit-number}
 use Rattle.vg_emission.proofs.Marks.{inserted-in, needed-keeps, stands-in, used-needed}
 use Rattle.vg_emission.proofs.Needs.{IsJob}
-use Rattle.vg_emission.proofs.Standing.{found-stands}
+use Rattle.vg_order_laws.proofs.Plans.{found-stands}
 
 -- ---- operands by their numbers
 

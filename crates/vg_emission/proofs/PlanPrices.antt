@@ -39,7 +39,7 @@ use Rattle.vg_emission.proofs.Jobs.{calls-at, each, get-there, given-valued, IsN
 use Rattle.vg_emission.proofs.Needs.{HasBits, number-bits, operation-bits, unit-is, width-known}
 use Rattle.vg_emission.proofs.PlanCosts.{has-stands, total-each}
 use Rattle.vg_emission.proofs.Readiness.{Valued, values-loads}
-use Rattle.vg_emission.proofs.Standing.{found-stands}
+use Rattle.vg_order_laws.proofs.Plans.{found-stands}
 use Rattle.vg_emission.proofs.Totals.{falling-total, scalars-total, total, total-append, total-counted, total-flat, total-sum, unit_price}
 use Rattle.vg_emission.proofs.Uses.{wanted-slot}
 

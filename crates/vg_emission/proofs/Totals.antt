@@ -24,7 +24,7 @@ use Rattle.vg_order_laws.proofs.Sequences.{in_order-numbers}
 use Rattle.vg_emission.specs.Program.{is_scalar, needed_behind}
 use Rattle.vg_emission.proofs.Jobs.{get-there, unit-number}
 use Rattle.vg_emission.proofs.Marks.{in-after, needed-keeps, needed-later, stands-in, units_below}
-use Rattle.vg_emission.proofs.Standing.{found-stands}
+use Rattle.vg_order_laws.proofs.Plans.{found-stands}
 
 abbrev pub total : {X : Type 0} → (X → ℕ) → List X → ℕ
 total f [] = 0

@@ -1,12 +1,12 @@
 //! Values taken out of registers.
 
-ghost use Rattle.std.specs.Prelude.{◌≡◌, ◌<◌, ◌^◌, ◌∷◌, [], Some, IfOk, OnOk, length, map};
+ghost use Rattle.std.specs.Prelude.{◌≡◌, ◌<◌, ◌^◌, ◌∷◌, [], OnOk, length};
 ghost use Rattle.vg_emission.specs.Emission.{extracts};
 ghost use Rattle.vg_emit.specs.Views.{behind, job_of, known, made_of};
 
 use crate::draft::{Draft, put_named};
 use crate::job::{Job, is_needed};
-use std::alloc::{AllocError, Global};
+use std::alloc::AllocError;
 use vg_base::Width;
 use vg_program::Line;
 
@@ -59,11 +59,4 @@ pub(crate) fn put_extracts(
         lane += 1;
     }
     Ok(())
-}
-
-/// A lane for each unit.
-pub(crate) fn some_lanes(alloc: Global, units: &[u32]) -> Result<Vec<Option<u32>>, AllocError>
-    ensures { IfOk result (λ lanes. lanes.items ≡ map Some units.now) }
-{
-    units.iter().map(|unit| Some(*unit)).collect(alloc)
 }

@@ -8,13 +8,14 @@ ghost use Rattle.vg_emit.specs.Packing.{own_lines};
 ghost use Rattle.vg_emit.specs.Views.{behind, job_of, known, made_of};
 
 use crate::draft::{Draft, put_held, put_line};
-use crate::extracts::{put_extracts, some_lanes};
+use crate::extracts::put_extracts;
 use crate::job::Job;
 use crate::placing::{build_all, call_of};
 use crate::scalars::width_for;
 use std::alloc::{AllocError, Global};
 use vg_base::Address;
 use vg_packing::held::lane_width_of;
+use vg_packing::lane::some_lanes;
 use vg_packing::units::{first_width, unit_at};
 use vg_program::{Line, VectorSize};
 use vg_shapes::{Pack, Ssa, Unit};

@@ -30,7 +30,7 @@ and-parts false b h = absurd (cc)
 
 -- ---- a test of some number of a list
 
-any-there : (P : ℕ → Bool) (es : List ℕ) (e : ℕ) → Stands e es → P e ≡ true → list_any P es ≡ true
+pub any-there : (P : ℕ → Bool) (es : List ℕ) (e : ℕ) → Stands e es → P e ≡ true → list_any P es ≡ true
 any-there P [] e s h = absurd (omega arith)
 any-there P (x ∷ es) e s h = elim (cases_Bool (nat_eq e x)) [
   | inl t ↦ ap (λ b. b || list_any P es) (ap P (sym (eqb-true e x t)) ∙ h)
@@ -60,14 +60,14 @@ any-found P (x ∷ es) h = elim (cases_Bool (P x)) [
 overlaps : (o s : ℤ) (i j n : ℕ) → j < n → (o +ℤ pos i) ≡ (s +ℤ pos j) → o <ℤ (s +ℤ pos n)
 overlaps o s i j n h e = omega (arith, ints, h, e)
 
-shared-offset : (a b : ℤ) → a <ℤ (b +ℤ pos 1) → b <ℤ (a +ℤ pos 1) → a ≡ b
+pub shared-offset : (a b : ℤ) → a <ℤ (b +ℤ pos 1) → b <ℤ (a +ℤ pos 1) → a ≡ b
 shared-offset a b h g = omega (arith, ints)
 
-int-lt : (a b : ℤ) → int_lt a b ≡ true → a <ℤ b
+pub int-lt : (a b : ℤ) → int_lt a b ≡ true → a <ℤ b
 int-lt a b h = grind (arith, ints)
 
 -- bytes that conflict may meet, and what they are bytes of conflicts
-byte-conflict : (flags : List Bool) (a b : Access) (i j : ℕ) → i < a.size → j < b.size →
+pub byte-conflict : (flags : List Bool) (a b : Access) (i j : ℕ) → i < a.size → j < b.size →
     let l : Label = record { writes = a.writes; address = moved a.address i } in
     let m : Label = record { writes = b.writes; address = moved b.address j } in
     conflict flags (byte_access l) (byte_access m) ≡ true → (conflict flags a b ≡ true) × (may_meet l m ≡ true)
@@ -95,7 +95,7 @@ byte-conflict flags a b i j p q h =
     ]
 
 -- and bytes of accesses that conflict do where they may meet
-conflict-byte : (flags : List Bool) (a b : Access) (i j : ℕ) →
+pub conflict-byte : (flags : List Bool) (a b : Access) (i j : ℕ) →
     let l : Label = record { writes = a.writes; address = moved a.address i } in
     let m : Label = record { writes = b.writes; address = moved b.address j } in
     conflict flags a b ≡ true → may_meet l m ≡ true → conflict flags (byte_access l) (byte_access m) ≡ true

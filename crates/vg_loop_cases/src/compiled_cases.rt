@@ -103,7 +103,6 @@ fn expect_same_turns(
     memory: &[u8],
     counts: &[u64],
 ) -> Result<(), Fail>
-    requires written { AllWritten (entries_in case.now.catalog) }
     requires rules { IsLooped (headers_of (entries_in case.now.catalog)) case.now.looped }
 {
     for count in counts {

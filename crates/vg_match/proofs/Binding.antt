@@ -1,5 +1,5 @@
 -- What leaves are bound to, and what one leaf more leaves as it was.
-use Rattle.std.proofs.Common.{◌≡◌, ℕ, ◌⊎◌, Bool, true, false, List, [], ◌∷◌, ◌++◌, Some, None, refl, sym, ap, subst, ◌∙◌, inl, inr, append-nil}
+use Rattle.std.proofs.Common.{◌≡◌, ℕ, ◌⊎◌, Bool, true, false, List, [], ◌∷◌, ◌++◌, Some, None, refl, sym, subst, ◌∙◌, inl, inr, append-nil}
 use Rattle.std.specs.Prelude.{◌&&◌, nat_eq}
 use Rattle.std.specs.Ordering.{int_eq}
 use Rattle.std.specs.List.{AllByRecursion}
@@ -10,31 +10,15 @@ use Rattle.vg_terms.specs.declared.term.LeafKey.{LeafKey}
 use Rattle.vg_terms.specs.Value.{same_key}
 use Rattle.vg_shapes.specs.declared.match_table.Bound.{Bound}
 use Rattle.vg_shapes.specs.declared.wanted.Wanted.{Wanted}
-use Rattle.vg_shapes.specs.declared.wanted.Wanted.TheVariants.{Value, Constant, Nothing}
+use Rattle.vg_shapes.specs.declared.wanted.Wanted.TheVariants.{Nothing}
 use Rattle.vg_shapes.specs.Fits.{same_leaf, wanted_for}
-use Rattle.vg_match.specs.Fit.{bind, same_wanted}
+use Rattle.vg_shapes.specs.Wanted.{same_wanted}
+use Rattle.vg_shapes.proofs.SameWanted.{wanted-same}
+use Rattle.vg_match.specs.Fit.{bind}
 use Rattle.std.proofs.lemmas.Option.{none-some}
 use Rattle.vg_match.proofs.Members.{some-same}
 
 -- ---- tests that hold of one thing alone
-
-pub wanted-same : (a b : Wanted) → same_wanted a b ≡ true → a ≡ b
-wanted-same (Value v) (Value u) t = ap Value (eqb-true v u t)
-wanted-same (Value v) (Constant x m) t = absurd (cc)
-wanted-same (Value v) Nothing t = absurd (cc)
-wanted-same (Constant w n) (Value u) t = absurd (cc)
-wanted-same (Constant w n) (Constant x m) t =
-    let p = and_parts (nat_eq w x) (nat_eq n m) t in
-    λ i. Constant (eqb-true w x p.0 i) (eqb-true n m p.1 i)
-wanted-same (Constant w n) Nothing t = absurd (cc)
-wanted-same Nothing (Value u) t = absurd (cc)
-wanted-same Nothing (Constant x m) t = absurd (cc)
-wanted-same Nothing Nothing t = refl
-
-pub wanted-itself : (a : Wanted) → same_wanted a a ≡ true
-wanted-itself (Value v) = eq-eqb v v refl
-wanted-itself (Constant w n) = and_from (nat_eq w w) (nat_eq n n) (eq-eqb w w refl) (eq-eqb n n refl)
-wanted-itself Nothing = refl
 
 key-same : (a b : LeafKey) → same_key a b ≡ true → a ≡ b
 key-same a b t =

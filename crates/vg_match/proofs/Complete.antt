@@ -12,8 +12,10 @@ use Rattle.vg_terms.proofs.Orders.{same_term-means}
 use Rattle.vg_shapes.specs.declared.match_table.Bound.{Bound}
 use Rattle.vg_shapes.specs.declared.wanted.Wanted.TheVariants.{Nothing}
 use Rattle.vg_shapes.specs.Fits.{EachLeaf, replaced, wanted_for}
-use Rattle.vg_match.specs.Fit.{bind, fit, same_wanted, standing}
-use Rattle.vg_match.proofs.Binding.{behind, bind-again, bind-new, entry, wanted-itself}
+use Rattle.vg_shapes.specs.Wanted.{same_wanted}
+use Rattle.vg_shapes.proofs.SameWanted.{wanted-itself}
+use Rattle.vg_match.specs.Fit.{bind, fit, standing}
+use Rattle.vg_match.proofs.Binding.{behind, bind-again, bind-new, entry}
 
 module _ (terms : List Tree) (v : ℕ) (by : ℕ → LeafKey → Tree) where
   -- each leaf that is bound is bound to what stands for its term

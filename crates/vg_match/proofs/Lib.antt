@@ -1,5 +1,6 @@
 pub mod Binding
 pub mod Complete
+pub mod InOrder
 pub mod Lanes
 pub mod Laws
 pub mod Members

@@ -14,17 +14,18 @@ use Rattle.vg_shapes.specs.declared.match_table.Bound.{Bound}
 use Rattle.vg_shapes.specs.declared.wanted.Wanted.{Wanted}
 use Rattle.vg_shapes.specs.declared.wanted.Wanted.TheVariants.{Value, Constant, Nothing}
 use Rattle.vg_shapes.specs.Fits.{EachLeaf, FitsBy, has_leaf, is_compound, replaced, StandsFor, wanted_for}
-use Rattle.vg_match.specs.Fit.{bind, fit, same_wanted, standing}
+use Rattle.vg_shapes.specs.Wanted.{same_wanted}
+use Rattle.vg_match.specs.Fit.{bind, fit, standing}
 use Rattle.vg_match.proofs.Binding.{bind-binds, Good, IsBound, leaf-itself}
 use Rattle.vg_match.proofs.Standing.{Lists, stands-is, stands-only, stands-something}
 use Rattle.vg_match.proofs.Members.{all-append, all-weaker, some-same}
 use Rattle.vg_match.proofs.Complete.{fits, MayStand}
 
-then-some : {X Y : Type 0} (f : X → Option Y) (o : Option X) (y : Y) → option_and_then f o ≡ Some y → (x : X) × (o ≡ Some x) × (f x ≡ Some y)
+pub then-some : {X Y : Type 0} (f : X → Option Y) (o : Option X) (y : Y) → option_and_then f o ≡ Some y → (x : X) × (o ≡ Some x) × (f x ≡ Some y)
 then-some f None y e = absurd (none-some y e)
 then-some f (Some x) y e = (x, refl, e)
 
-if-some : {X : Type 0} (c : Bool) (o : Option X) (y : X) → (if c then o else None) ≡ Some y → (c ≡ true) × (o ≡ Some y)
+pub if-some : {X : Type 0} (c : Bool) (o : Option X) (y : X) → (if c then o else None) ≡ Some y → (c ≡ true) × (o ≡ Some y)
 if-some true o y e = (refl, e)
 if-some false o y e = absurd (none-some y e)
 

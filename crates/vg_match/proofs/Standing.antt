@@ -14,7 +14,8 @@ use Rattle.vg_shapes.specs.declared.wanted.Wanted.{Wanted}
 use Rattle.vg_shapes.specs.declared.wanted.Wanted.TheVariants.{Value, Constant, Nothing}
 use Rattle.vg_shapes.specs.Fits.{StandsFor}
 use Rattle.vg_match.specs.Least.{least_with}
-use Rattle.vg_match.specs.Fit.{same_wanted, standing, value_below}
+use Rattle.vg_shapes.specs.Wanted.{same_wanted}
+use Rattle.vg_match.specs.Fit.{standing, value_below}
 
 no_term : Tree
 no_term = constant 8 0

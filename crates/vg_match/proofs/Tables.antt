@@ -50,7 +50,7 @@ like-all : (P : LaneAt → Type 0) (all : List LaneAt) (o : Option Tree) → All
 like-all P all None h = tt
 like-all P all (Some t) h = all-filter P (has_root (root_of t)) all h
 
-near-all : (P : LaneAt → Type 0) (all : List LaneAt) (o n : Option Tree) → AllByRecursion P all → AllByRecursion P (lanes_near all o n)
+pub near-all : (P : LaneAt → Type 0) (all : List LaneAt) (o n : Option Tree) → AllByRecursion P all → AllByRecursion P (lanes_near all o n)
 near-all P all o n h = all-merged P (lanes_like all o) (lanes_like all n) (like-all P all o h) (like-all P all n h)
 
 -- lanes that are sorted by their roots, each root in its order, are tried as all are

@@ -1,6 +1,6 @@
 -- When the term of a lane fits the term of a value, as it is tried: from left to right, with what the
 -- leaves so far are bound to.
-use Rattle.std.specs.Prelude.{ℕ, ◌&&◌, Bool, true, false, List, [], ◌∷◌, ◌++◌, Option, Some, None, nat_eq, nat_lt, if◌then◌else◌}
+use Rattle.std.specs.Prelude.{ℕ, ◌&&◌, List, [], ◌∷◌, ◌++◌, Option, Some, None, nat_eq, nat_lt, if◌then◌else◌}
 use Rattle.std.specs.Option.{option_and_then}
 use Rattle.vg_base.specs.Trap.{◌>>=◌}
 use Rattle.vg_terms.specs.declared.term.LeafKey.{LeafKey}
@@ -10,6 +10,7 @@ use Rattle.vg_shapes.specs.declared.match_table.Bound.{Bound}
 use Rattle.vg_shapes.specs.declared.wanted.Wanted.{Wanted}
 use Rattle.vg_shapes.specs.declared.wanted.Wanted.TheVariants.{Value, Constant, Nothing}
 use Rattle.vg_shapes.specs.Fits.{turned, wanted_for}
+use Rattle.vg_shapes.specs.Wanted.{same_wanted}
 use Rattle.vg_match.specs.Least.{least_with}
 
 -- a value where it is below another, else nothing
@@ -24,12 +25,6 @@ standing terms v (leaf w k) = value_below v (least_with terms (leaf w k))
 standing terms v (one op w k x) = value_below v (least_with terms (one op w k x))
 standing terms v (two op w x y) = value_below v (least_with terms (two op w x y))
 standing terms v (sel w c x y) = value_below v (least_with terms (sel w c x y))
-
-abbrev pub same_wanted : Wanted → Wanted → Bool
-same_wanted (Value v) (Value u) = nat_eq v u
-same_wanted (Constant w n) (Constant x m) = nat_eq w x && nat_eq n m
-same_wanted Nothing Nothing = true
-same_wanted _ _ = false
 
 -- A leaf is bound to this behind what is bound so far; it may stand there already with the same.
 unfoldable pub bind : ℕ → LeafKey → Wanted → List Bound → Option (List Bound)

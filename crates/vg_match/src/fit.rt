@@ -2,48 +2,27 @@
 
 ghost use Rattle.std.specs.Prelude.{◌≡◌, ◌<◌, ◌^◌, IfOk, map};
 ghost use Rattle.std.specs.Option.{option_map};
-ghost use Rattle.vg_match.specs.Fit.{bind, fit, fit_turned, same_wanted, standing};
+ghost use Rattle.vg_match.specs.Fit.{bind, fit, fit_turned, standing};
 ghost use Rattle.vg_match.specs.Least.{AreByTerm};
 ghost use Rattle.vg_shapes.specs.Fits.{wanted_for};
 ghost use Rattle.vg_terms.specs.Term.{tree};
-ghost use Rattle.vg_terms.specs.Value.{same_key};
 
 use crate::least::LeastValues;
 use std::alloc::{AllocError, Global};
+use vg_shapes::wanted::is_same_wanted;
 use vg_shapes::{Bound, Wanted};
 use vg_terms::{LeafKey, Term};
-
-// Whether the two keys are one.
-fn is_same_key(a: &LeafKey, b: &LeafKey) -> bool
-    ensures { result ≡ same_key a.now b.now }
-{
-    a.kind == b.kind && a.first == b.first && a.second == b.second && a.third == b.third
-}
 
 // What a leaf is bound to, or nothing.
 fn wanted_for(bound: &[Bound], width: u32, key: &LeafKey) -> Wanted
     ensures { result ≡ wanted_for bound.now width key.now }
 {
     for b in bound {
-        if width == b.width && is_same_key(key, &b.key) {
+        if width == b.width && *key == b.key {
             return b.wanted;
         }
     }
     Wanted::Nothing
-}
-
-// Whether the two are the same.
-fn is_same_wanted(a: Wanted, b: Wanted) -> bool
-    ensures { result ≡ same_wanted a b }
-{
-    match (a, b) {
-        (Wanted::Value(v), Wanted::Value(u)) => v == u,
-        (Wanted::Constant { width: w, value: n }, Wanted::Constant { width: x, value: m }) => {
-            w == x && n == m
-        }
-        (Wanted::Nothing, Wanted::Nothing) => true,
-        _ => false,
-    }
 }
 
 // What stands for a term below a value: the constant that it is, else the least value that has it.

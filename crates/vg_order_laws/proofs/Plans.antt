@@ -36,7 +36,7 @@ count_of-units : {N : Type 0} (units : N → List ℕ) (x : ℕ) (ns : List N) �
 count_of-units units x [] = refl
 count_of-units units x (n ∷ ns) = count_of-append x (units n) (flat_map units ns) ∙ ap (λ k. count_of x (units n) + k) (count_of-units units x ns) ∙ sym (sum_by-cons (λ m. count_of x (units m)) n ns)
 
-count_of-permuted : {N : Type 0} (units : N → List ℕ) (x : ℕ) (ns ms : List N) → IsPermutation ns ms → count_of x (flat_map units ms) ≡ count_of x (flat_map units ns)
+pub count_of-permuted : {N : Type 0} (units : N → List ℕ) (x : ℕ) (ns ms : List N) → IsPermutation ns ms → count_of x (flat_map units ms) ≡ count_of x (flat_map units ns)
 count_of-permuted units x ns ms p = count_of-units units x ms ∙ sum_by-IsPermutation (λ n. count_of x (units n)) ns ms p ∙ sym (count_of-units units x ns)
 
 seam : (done : List Packed) (p : Packed) (rest : List Packed) → slice_get (done ++ p ∷ rest) (length done) ≡ Some p
@@ -56,13 +56,13 @@ unit-units : (packs : List Packed) (vs : List ℕ) → flat_map (units_at packs)
 unit-units packs [] = refl
 unit-units packs (v ∷ vs) = ap (λ l. v ∷ l) (unit-units packs vs)
 
-node-units : (ssa : Ssa) (packs : List Packed) → flat_map (units_at packs) (nodes ssa packs) ≡ packed packs ++ filter (λ v. not (is_packed packs v)) (unit_numbers ssa)
+pub node-units : (ssa : Ssa) (packs : List Packed) → flat_map (units_at packs) (nodes ssa packs) ≡ packed packs ++ filter (λ v. not (is_packed packs v)) (unit_numbers ssa)
 node-units ssa packs =
     flat_map-append (units_at packs) (map PackAt (numbers_from 0 (length packs))) _
     ∙ (λ i. pack-units packs [] packs refl i ++ unit-units packs (filter (λ v. not (is_packed packs v)) (unit_numbers ssa)) i)
 
 -- what stands in a list is found there
-found-stands : (x : ℕ) (ys : List ℕ) → list_any (nat_eq x) ys ≡ true → Stands x ys
+pub found-stands : (x : ℕ) (ys : List ℕ) → list_any (nat_eq x) ys ≡ true → Stands x ys
 found-stands x [] e = absurd (cc)
 found-stands x (y ∷ ys) e = elim (cases_Bool (nat_eq x y)) [
   | inl t ↦ (let one : one_if (x == y) ≡ 1 = ap one_if t in omega arith)

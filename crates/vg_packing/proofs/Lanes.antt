@@ -8,7 +8,7 @@ use Rattle.std.proofs.lemmas.Bool.Decides.{nat_tests}
 use Rattle.vg_shapes.specs.declared.operand.Slot.{Slot}
 use Rattle.vg_shapes.specs.declared.wanted.Wanted.TheVariants.{Value}
 use Rattle.vg_packing.specs.Held.{is_at_lane, is_here, lanes_from}
-use Rattle.vg_packing.specs.SameAs.{same_slot, same_wanted}
+use Rattle.vg_packing.specs.SameAs.{same_slot}
 use Rattle.vg_packing.specs.Wants.{slot}
 
 -- a lane at another bit is another slot

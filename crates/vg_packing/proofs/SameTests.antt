@@ -8,8 +8,9 @@ use Rattle.vg_shapes.specs.declared.operand.Slot.{Slot}
 use Rattle.vg_shapes.specs.declared.pack.Pack.{Pack as Packed}
 use Rattle.vg_shapes.specs.declared.pack.Pack.TheVariants.{Stores, Loads, Call}
 use Rattle.vg_shapes.specs.declared.wanted.Wanted.{Wanted}
-use Rattle.vg_shapes.specs.declared.wanted.Wanted.TheVariants.{Value, Constant, Nothing}
-use Rattle.vg_packing.specs.SameAs.{same_lane, same_operand, same_pack, same_slot, same_wanted}
+use Rattle.vg_shapes.specs.Wanted.{same_wanted}
+use Rattle.vg_shapes.proofs.SameWanted.{wanted-itself, wanted-same}
+use Rattle.vg_packing.specs.SameAs.{same_lane, same_operand, same_pack, same_slot}
 use Rattle.vg_packing.specs.Wants.{slot}
 
 eq-is : (a b : ℕ) → nat_eq a b ≡ true → a ≡ b
@@ -21,26 +22,6 @@ eq-itself a = grind (arith, nat_tests)
 pub both-true : (a b : Bool) → (a && b) ≡ true → (a ≡ true) × (b ≡ true)
 both-true true b e = (refl, e)
 both-true false b e = absurd (cc)
-
-wanted-is : (a b : Wanted) → same_wanted a b ≡ true → a ≡ b
-wanted-is (Value v) (Value u) t = ap Value (eq-is v u t)
-wanted-is (Value v) (Constant x m) t = absurd (cc)
-wanted-is (Value v) Nothing t = absurd (cc)
-wanted-is (Constant w n) (Value u) t = absurd (cc)
-wanted-is (Constant w n) (Constant x m) t =
-    let k = both-true _ _ t in
-    let e = eq-is w x k.0 in
-    let f = eq-is n m k.1 in
-    cc
-wanted-is (Constant w n) Nothing t = absurd (cc)
-wanted-is Nothing (Value u) t = absurd (cc)
-wanted-is Nothing (Constant x m) t = absurd (cc)
-wanted-is Nothing Nothing t = refl
-
-wanted-itself : (a : Wanted) → same_wanted a a ≡ true
-wanted-itself (Value v) = eq-itself v
-wanted-itself (Constant w n) = rw (eq-itself w) (eq-itself n)
-wanted-itself Nothing = refl
 
 pub list-is : {X : Type 0} (same : X → X → Bool) → ((x y : X) → same x y ≡ true → x ≡ y)
     → (xs ys : List X) → pointwise same xs ys ≡ true → xs ≡ ys
@@ -93,7 +74,7 @@ slot-is a b t =
     let k = both-true (nat_eq a.low b.low) (nat_eq a.width b.width && same_wanted a.wanted b.wanted) t in
     let m = both-true (nat_eq a.width b.width) (same_wanted a.wanted b.wanted) k.1 in
     slot-from a.low b.low a.width b.width a.wanted b.wanted (eq-is a.low b.low k.0)
-    (eq-is a.width b.width m.0) (wanted-is a.wanted b.wanted m.1)
+    (eq-is a.width b.width m.0) (wanted-same a.wanted b.wanted m.1)
   where
     slot-from : (l m w x : ℕ) (y z : Wanted) → l ≡ m → w ≡ x → y ≡ z → slot l w y ≡ slot m x z
     slot-from l m w x y z e f g = rw (e, f, g) refl

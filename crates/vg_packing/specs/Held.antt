@@ -10,7 +10,8 @@ use Rattle.vg_shapes.specs.declared.ssa.Ssa.{Ssa}
 use Rattle.vg_shapes.specs.declared.wanted.Wanted.TheVariants.{Value}
 use Rattle.vg_shapes.specs.Description.{Description}
 use Rattle.vg_shapes.specs.Operands.{lanes_of}
-use Rattle.vg_packing.specs.SameAs.{same_slot, same_wanted}
+use Rattle.vg_shapes.specs.Wanted.{same_wanted}
+use Rattle.vg_packing.specs.SameAs.{same_slot}
 use Rattle.vg_packing.specs.Taken.{first_width, register_for}
 use Rattle.vg_packing.specs.Wants.{is_wanted, slot, wants_value}
 

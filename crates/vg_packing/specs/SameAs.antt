@@ -5,14 +5,7 @@ use Rattle.vg_shapes.specs.declared.operand.Operand.{Operand}
 use Rattle.vg_shapes.specs.declared.operand.Slot.{Slot}
 use Rattle.vg_shapes.specs.declared.pack.Pack.{Pack as Packed}
 use Rattle.vg_shapes.specs.declared.pack.Pack.TheVariants.{Stores, Loads, Call}
-use Rattle.vg_shapes.specs.declared.wanted.Wanted.{Wanted}
-use Rattle.vg_shapes.specs.declared.wanted.Wanted.TheVariants.{Value, Constant, Nothing}
-
-abbrev pub same_wanted : Wanted → Wanted → Bool
-same_wanted (Value v) (Value u) = nat_eq v u
-same_wanted (Constant w n) (Constant x m) = nat_eq w x && nat_eq n m
-same_wanted Nothing Nothing = true
-same_wanted _ _ = false
+use Rattle.vg_shapes.specs.Wanted.{same_wanted}
 
 abbrev pub same_slot : Slot → Slot → Bool
 same_slot a b = nat_eq a.low b.low && (nat_eq a.width b.width && same_wanted a.wanted b.wanted)

@@ -5,12 +5,12 @@ ghost use Rattle.std.specs.List.{list_all, list_any};
 ghost use Rattle.vg_shapes.specs.declared.wanted.Wanted.TheVariants.{Value};
 ghost use Rattle.vg_shapes.specs.Description.{description_of};
 ghost use Rattle.vg_packing.specs.Held.{held_slots, holds, is_at_lane, is_filled, is_here, lane_width_of, lanes_from, register_of};
-ghost use Rattle.vg_packing.specs.SameAs.{same_slot, same_wanted};
+ghost use Rattle.vg_packing.specs.SameAs.{same_slot};
 ghost use Rattle.vg_packing.specs.Wants.{is_wanted, slot, wanted_slots, wants_value};
 
-use crate::same::is_same_wanted;
 use crate::units::{first_width, register_for};
 use crate::wants::{is_wanted, wants_value};
+use vg_shapes::wanted::is_same_wanted;
 use vg_shapes::{Description, Operand, Pack, Slot, Ssa, Wanted};
 
 /// The width in bits of the register of a pack. A store group has none: 0, and so has a call of a

@@ -10,8 +10,11 @@
 //! An `AllocError` is want of memory; nothing else is.
 #![tactic(auto)]
 
+pub mod copies;
 pub mod held;
+pub mod lane;
 mod law;
+pub mod marks;
 pub mod plan_operands;
 pub mod recipe;
 pub mod same;

@@ -2,16 +2,9 @@
 
 ghost use Rattle.std.specs.Prelude.{◌≡◌};
 ghost use Rattle.std.specs.Cmp.Lexicographic.{pointwise};
-ghost use Rattle.vg_packing.specs.SameAs.{same_operand, same_pack, same_slot, same_wanted};
+ghost use Rattle.vg_packing.specs.SameAs.{same_operand, same_pack, same_slot};
 
-use vg_shapes::{Operand, Pack, Slot, Wanted};
-
-/// Whether the same is wanted.
-pub fn is_same_wanted(a: Wanted, b: Wanted) -> bool
-    ensures { result ≡ same_wanted a b }
-{
-    a == b
-}
+use vg_shapes::{Operand, Pack, Slot};
 
 /// Whether two slots stand at the same place and want the same.
 pub fn is_same_slot(a: &Slot, b: &Slot) -> bool

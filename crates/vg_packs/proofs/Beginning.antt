@@ -6,7 +6,8 @@ use Rattle.std.proofs.lemmas.Bool.{cases_Bool}
 use Rattle.std.proofs.lemmas.Bool.Decides.{nat_tests}
 use Rattle.vg_packing.specs.Held.{lanes_from}
 use Rattle.vg_packing.specs.Producers.{are_matched, can_be_produced, call_producer, lanes_for}
-use Rattle.vg_packing.specs.SameAs.{same_slot, same_wanted}
+use Rattle.vg_shapes.specs.Wanted.{same_wanted}
+use Rattle.vg_packing.specs.SameAs.{same_slot}
 use Rattle.vg_packing.specs.Wants.{value_of, wanted_slots}
 use Rattle.vg_packing.proofs.SameTests.{both-true, eq-itself}
 use Rattle.vg_shapes.specs.declared.match_table.Match.{Match}

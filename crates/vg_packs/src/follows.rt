@@ -19,15 +19,6 @@ use std::alloc::{AllocError, Global};
 use vg_packing::same::is_same_pack;
 use vg_shapes::{DepList, Description, MatchTable, Operand, Pack, Ssa};
 
-fn push_all(packs: &mut Vec<Pack>, more: Vec<Pack>) -> Result<(), AllocError>
-    ensures { OnOk result (packs.new.items ≡ packs.old.items ++ more.items) }
-{
-    'packs: for pack in more {
-        packs.push(pack)?;
-    }
-    Ok(())
-}
-
 /// Appends the packs that produce operands.
 fn push_producers(
     alloc: Global,
@@ -41,8 +32,8 @@ fn push_producers(
     ensures { OnOk result (packs.new.items ≡ packs.old.items ++ flat_map (producers (map description_of descriptions.now) table.now ssa.now) operands.now) }
 {
     'operands: for operand in operands {
-        let more = producers(alloc, operand, descriptions, table, ssa)?;
-        push_all(packs, more)?;
+        let mut more = producers(alloc, operand, descriptions, table, ssa)?;
+        packs.append(&mut more)?;
     }
     Ok(())
 }

@@ -9,10 +9,11 @@ ghost use Rattle.vg_packs.specs.Floor.{IsFloor, IsGrown, MarksSpan};
 ghost use Rattle.vg_packs.specs.Walk.{NameEarlierUnits, node_needs};
 
 use crate::floor::{floor_under, greatest_of, least_of, units_in};
-use crate::marks::{clear_marks, mark_pack, mark_within};
+use crate::marks::{mark_pack, mark_within};
 use crate::needs::pack_needs;
 use crate::walk::{end_of_units, overlaps, reaches_itself};
 use std::alloc::{AllocError, Global};
+use vg_packing::marks::clear_marks;
 use vg_shapes::{DepList, MatchTable, Pack, Ssa};
 
 /// A plan without a cycle that grows, with marks of its units, and of the numbers that lie within one of

@@ -1,6 +1,6 @@
 //! The lanes of packs that are to produce operands.
 
-ghost use Rattle.std.specs.Prelude.{◌≡◌, ◌<◌, ◌&&◌, ◌^◌, ◌/◌, [], IfOk, find, is_some, length, nat_eq, Option, Some};
+ghost use Rattle.std.specs.Prelude.{◌≡◌, ◌<◌, ◌&&◌, ◌^◌, [], IfOk, find, is_some, length, nat_eq, Option, Some};
 ghost use Rattle.std.specs.Cmp.Lexicographic.{pointwise};
 ghost use Rattle.std.specs.List.{list_any, list_all};
 ghost use Rattle.std.specs.Option.{option_copied};
@@ -12,8 +12,9 @@ ghost use Rattle.vg_shapes.specs.declared.wanted.Wanted.TheVariants.{Value};
 ghost use Rattle.vg_packs.specs.Lanes.{begins_with, can_begin, fits_lane, is_matched, rest_behind};
 
 use std::alloc::{AllocError, Global};
-use vg_packing::same::is_same_wanted;
+use vg_packing::lane::lane_of;
 use vg_packing::wants::value_of;
+use vg_shapes::wanted::is_same_wanted;
 use vg_shapes::{MatchTable, Operand, Slot, Wanted};
 
 fn has_number(numbers: &[u32], number: u32) -> bool
@@ -176,13 +177,6 @@ pub(crate) fn are_matched(table: &MatchTable, description: u32, lanes: &[Option<
         lane += 1;
     }
     true
-}
-
-/// In which lane of a width a bit stands.
-fn lane_of(low: u32, width: u32) -> u32
-    ensures { result ≡ low / width }
-{
-    if width == 0 { 0 } else { low / width }
 }
 
 /// Whether a slot is a lane of this width of a description, and matches what it wants.

@@ -1,6 +1,6 @@
 //! Loads that stand beside each other in memory.
 
-ghost use Rattle.std.specs.Prelude.{◌≡◌, ◌<◌, ◌^◌, IfOk, Some, length, map};
+ghost use Rattle.std.specs.Prelude.{◌≡◌, ◌<◌, ◌^◌, IfOk, length};
 ghost use Rattle.vg_packing.specs.Producers.{are_beside, are_loads, begin_loads, loads_from};
 ghost use Rattle.vg_shapes.specs.Pack.{behind, is_pack_size};
 ghost use Rattle.vg_packs.specs.Making.{are_wanted_loads};
@@ -8,6 +8,7 @@ ghost use Rattle.vg_packs.specs.Making.{are_wanted_loads};
 use crate::lanes::are_lanes;
 use std::alloc::{AllocError, Global};
 use vg_base::{Address, Width};
+use vg_packing::lane::some_lanes;
 use vg_packing::units::{first_width, register_for, unit_at};
 use vg_shapes::{Slot, Ssa, Unit};
 
@@ -80,12 +81,6 @@ fn is_pack_size(bytes: u128) -> bool
     ensures { result ≡ is_pack_size bytes }
 {
     bytes == 4 || (bytes == 8 || (bytes == 16 || (bytes == 32 || bytes == 64)))
-}
-
-fn some_lanes(alloc: Global, units: &[u32]) -> Result<Vec<Option<u32>>, AllocError>
-    ensures { IfOk result (λ lanes. lanes.items ≡ map Some units.now) }
-{
-    units.iter().map(|unit| Some(*unit)).collect(alloc)
 }
 
 /// Whether loads of these units are exactly these slots of a register of this width.

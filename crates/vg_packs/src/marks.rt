@@ -8,14 +8,8 @@ ghost use Rattle.vg_packs.specs.Marks.{AddsMarks, is_within};
 ghost use Rattle.vg_packs.specs.Walk.{is_in_plan, is_lane_of};
 
 use std::alloc::{AllocError, Global};
+use vg_packing::marks::clear_marks;
 use vg_shapes::Pack;
-
-/// So many marks, none set.
-pub(crate) fn clear_marks(alloc: Global, count: usize) -> Result<Vec<bool>, AllocError>
-    ensures { IfOk result (λ marks. marks.items ≡ replicate count false) }
-{
-    vec![in alloc; false; count]
-}
 
 /// Whether a number is marked.
 pub(crate) fn is_marked(marks: &[bool], number: u32) -> bool

@@ -9,9 +9,10 @@ ghost use Rattle.vg_packs.specs.PlanMarks.{MarksPlan};
 ghost use Rattle.vg_packs.specs.Walk.{IsFree, NameUnits, is_in_plan};
 ghost use Rattle.vg_shapes.specs.declared.ssa.Ssa.{Ssa as Numbered};
 
-use crate::marks::{clear_marks, mark_plan};
+use crate::marks::mark_plan;
 use crate::walk::{end_of_units, overlaps, reaches_itself};
 use std::alloc::{AllocError, Global};
+use vg_packing::marks::clear_marks;
 use vg_shapes::{DepList, MatchTable, Pack, Ssa};
 
 /// Marks of the units of a plan, by which packs are tried after it one after the other.

@@ -10,10 +10,11 @@ ghost use Rattle.vg_packs.specs.Floor.{IsFloor};
 ghost use Rattle.vg_packs.specs.Marks.{AreMarks, is_packed_by};
 ghost use Rattle.vg_packs.specs.Walk.{HasWay, IsApart, IsFree, IsSettled, LeadsApart, NameUnits, Pushed, is_in_plan, is_lane_in, node_needs};
 
-use crate::marks::{clear_marks, is_marked, mark_pack, marks_below, some_marked};
+use crate::marks::{is_marked, mark_pack, marks_below, some_marked};
 use crate::needs::{is_in_plan, needs_of_packs, node_needs, pack_needs};
 use crate::plan_marks::PlanMarks;
 use std::alloc::{AllocError, Global};
+use vg_packing::marks::clear_marks;
 use vg_shapes::{DepList, MatchTable, Pack, Ssa};
 
 /// The greatest number of integer parameters, and of units, of a kernel that is walked.

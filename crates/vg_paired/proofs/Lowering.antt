@@ -13,6 +13,7 @@ use Rattle.vg_events.specs.Events.{byte_access, Label, label_at}
 use Rattle.vg_events.specs.Ranks.{same_label}
 use Rattle.vg_events.proofs.Orders.{lt-int}
 use Rattle.vg_events.proofs.Ranks.{label-itself, same-labels}
+use Rattle.vg_events.proofs.UnitOrder.{any-there, int-lt, shared-offset}
 use Rattle.vg_paired.specs.declared.label_numbers.LabelNumbers.{LabelNumbers}
 use Rattle.vg_paired.specs.declared.rows.Rows.{Rows as Table}
 use Rattle.vg_paired.specs.Noted.{noted, Notes}
@@ -67,13 +68,6 @@ any-some P b [] f h = absurd (cc)
 any-some P b (y ∷ ys) f h =
     or-cases (P y) (list_any P ys) b (f y (let one = counts-itself y in omega arith))
     (any-some P b ys (λ x s. f x (omega arith))) h
-
-pub any-there : (P : ℕ → Bool) (es : List ℕ) (e : ℕ) → Stands e es → P e ≡ true → list_any P es ≡ true
-any-there P [] e s h = absurd (omega arith)
-any-there P (x ∷ es) e s h = elim (cases_Bool (nat_eq e x)) [
-  | inl t ↦ or-first (P x) (list_any P es) (ap P (sym (eqb-true e x t)) ∙ h)
-  | inr f ↦ or-second (P x) (list_any P es) (any-there P es e (let none : one_if (nat_eq e x) ≡ 0 = ap one_if f in omega arith) h)
-]
 
 below-some : (n : ℕ) (p : ℕ → Bool) (b : Bool) → ((q : ℕ) → p q ≡ true → b ≡ true) → any_below n p ≡ true → b ≡ true
 below-some zero p b f h = absurd (cc)
@@ -168,12 +162,6 @@ module _ (under : Label → Label) (ls : List Label) (line : ℕ → ℕ) (later
 
 -- ---- bytes that conflict
 
-pub int-lt : (a b : ℤ) → int_lt a b ≡ true → a <ℤ b
-int-lt a b h = grind (arith, ints)
-
-pub one-byte : (a b : ℤ) → a <ℤ (b +ℤ pos 1) → b <ℤ (a +ℤ pos 1) → a ≡ b
-one-byte a b h g = omega (arith, ints)
-
 conflict-here : (flags : List Bool) (l m : Label) → (l.writes || m.writes) ≡ true → m.address ≡ l.address → conflict flags (byte_access l) (byte_access m) ≡ true
 conflict-here flags l m writes same =
     let p = l.address.pointer in
@@ -231,7 +219,7 @@ module _ (flags : List Bool) (ls : List Label) (line : ℕ → ℕ) (later : Lis
                 let a = l.address.offset in
                 let b = m.address.offset in
                 let both = and-parts (int_lt a (b +ℤ pos 1)) (int_lt b (a +ℤ pos 1)) (sym (cond-true _ _ _ t) ∙ meets.1) in
-                let offset = one-byte a b (int-lt _ _ both.0) (int-lt _ _ both.1) in
+                let offset = shared-offset a b (int-lt _ _ both.0) (int-lt _ _ both.1) in
                 let pointer = eqb-true p m.address.pointer t in
                 let same : m ≡ record { writes = m.writes; address = l.address } = (λ i. record { writes = m.writes; address = record { pointer = sym pointer i; offset = sym offset i } }) in
                 or-first (is_noted rows.bytes l.address l.writes (line x)) _

@@ -1,83 +1,24 @@
 -- Which units are out of order, told by their events alone.
-use Rattle.std.proofs.Common.{◌≡◌, ℕ, zero, suc, ◌+◌, ◌-◌, ◌<◌, ◌≤◌, ℤ, pos, Bool, true, List, [], ◌∷◌, length, take, Option, Some, sym, ap, subst, ◌∙◌, inl, inr, arith, length-append}
-use Rattle.std.specs.Prelude.{◌+ℤ◌, ◌<ℤ◌, ◌&&◌, ◌||◌, not, nat_eq, nat_le, nat_lt, int_lt, slice_index_or}
+use Rattle.std.proofs.Common.{◌≡◌, ℕ, zero, suc, ◌+◌, ◌-◌, ◌<◌, ◌≤◌, Bool, true, List, [], ◌∷◌, length, take, Option, Some, sym, ap, subst, ◌∙◌, arith, length-append}
+use Rattle.std.specs.Prelude.{◌&&◌, nat_le, nat_lt, slice_index_or}
 use Rattle.std.specs.List.{list_any}
-use Rattle.std.specs.Ordering.{int_eq}
-use Rattle.std.proofs.lemmas.Int.{ints}
-use Rattle.std.proofs.lemmas.Bool.{cases_Bool, cond-true, cond-false, lt-ltb}
-use Rattle.std.proofs.lemmas.Bool.Decides.{Decides-int_eq}
+use Rattle.std.proofs.lemmas.Bool.{lt-ltb}
 use Rattle.vg_shapes.specs.declared.access.Access.{Access}
 use Rattle.vg_shapes.specs.declared.ssa.Ssa.{Ssa}
-use Rattle.vg_shapes.specs.Depends.{conflict, conflict_at, conflict_of, may_share, overlap}
-use Rattle.vg_shapes.specs.Layout.{access_at, is_noalias, noalias_flags}
+use Rattle.vg_shapes.specs.Depends.{conflict, conflict_at, conflict_of}
+use Rattle.vg_shapes.specs.Layout.{access_at, noalias_flags}
 use Rattle.vg_shapes.specs.Order.{Stands}
 use Rattle.vg_shapes.specs.Units.{arguments}
 use Rattle.vg_events.specs.Events.{byte_access, kernel_labels, Label, label_at, labels, labels_in}
 use Rattle.vg_events.specs.Orders.{line_of}
 use Rattle.vg_events.specs.UnitOrder.{is_late, is_out_of_order, may_meet, spans, unit_events}
-use Rattle.vg_events.proofs.Orders.{lt-int}
 use Rattle.vg_events.proofs.Owners.{moved, owns, unit_accesses}
 use Rattle.vg_events.proofs.Ranks.{number-inside}
+use Rattle.vg_events.proofs.UnitOrder.{any-there, byte-conflict, conflict-byte}
 use Rattle.vg_paired.specs.Rows.{is_early}
 use Rattle.vg_paired.specs.Sweeps.{between}
-use Rattle.vg_paired.proofs.Lowering.{and-parts, any-some, any-there, both-ways, int-lt, one-byte}
+use Rattle.vg_paired.proofs.Lowering.{and-parts, any-some, both-ways}
 use Rattle.vg_paired.proofs.Turning.{span-at}
-
--- ---- bytes of accesses
-
-overlaps : (o s : ℤ) (i j n : ℕ) → j < n → (o +ℤ pos i) ≡ (s +ℤ pos j) → o <ℤ (s +ℤ pos n)
-overlaps o s i j n h e = omega (arith, ints, h, e)
-
--- bytes that conflict may meet, and what they are bytes of conflicts
-byte-conflict : (flags : List Bool) (a b : Access) (i j : ℕ) → i < a.size → j < b.size →
-    let l : Label = record { writes = a.writes; address = moved a.address i } in
-    let m : Label = record { writes = b.writes; address = moved b.address j } in
-    conflict flags (byte_access l) (byte_access m) ≡ true → (conflict flags a b ≡ true) × (may_meet l m ≡ true)
-byte-conflict flags a b i j p q h =
-    let l : Label = record { writes = a.writes; address = moved a.address i } in
-    let m : Label = record { writes = b.writes; address = moved b.address j } in
-    let parts = and-parts (a.writes || b.writes) (may_share flags (byte_access l) (byte_access m)) h in
-    elim (cases_Bool (nat_eq a.address.pointer b.address.pointer)) [
-      | inl t ↦
-          let x = a.address.offset in
-          let y = b.address.offset in
-          let both = and-parts (int_lt (x +ℤ pos i) ((y +ℤ pos j) +ℤ pos 1)) (int_lt (y +ℤ pos j) ((x +ℤ pos i) +ℤ pos 1)) (sym (cond-true _ _ _ t) ∙ parts.1) in
-          let same = one-byte (x +ℤ pos i) (y +ℤ pos j) (int-lt _ _ both.0) (int-lt _ _ both.1) in
-          let share : overlap a b ≡ true = (λ k. lt-int x (y +ℤ pos b.size) (overlaps x y i j b.size q same) k && lt-int y (x +ℤ pos a.size) (overlaps y x j i a.size p (sym same)) k) in
-          let shares : may_share flags a b ≡ true = cond-true _ _ _ t ∙ share in (
-            (λ k. parts.0 k && shares k),
-            (λ k. not (t k) || (Decides-int_eq (x +ℤ pos i) (y +ℤ pos j)).1 same k),
-          )
-      | inr f ↦
-          let free : not (is_noalias flags a || is_noalias flags b) ≡ true = sym (cond-false _ _ _ f) ∙ parts.1 in
-          let shares : may_share flags a b ≡ true = cond-false _ _ _ f ∙ free in (
-            (λ k. parts.0 k && shares k),
-            ap (λ k. not k || int_eq (a.address.offset +ℤ pos i) (b.address.offset +ℤ pos j)) f,
-          )
-    ]
-
--- and bytes of accesses that conflict do where they may meet
-conflict-byte : (flags : List Bool) (a b : Access) (i j : ℕ) →
-    let l : Label = record { writes = a.writes; address = moved a.address i } in
-    let m : Label = record { writes = b.writes; address = moved b.address j } in
-    conflict flags a b ≡ true → may_meet l m ≡ true → conflict flags (byte_access l) (byte_access m) ≡ true
-conflict-byte flags a b i j h meet =
-    let l : Label = record { writes = a.writes; address = moved a.address i } in
-    let m : Label = record { writes = b.writes; address = moved b.address j } in
-    let parts = and-parts (a.writes || b.writes) (may_share flags a b) h in
-    elim (cases_Bool (nat_eq a.address.pointer b.address.pointer)) [
-      | inl t ↦
-          let x = a.address.offset +ℤ pos i in
-          let y = b.address.offset +ℤ pos j in
-          let same : x ≡ y = (Decides-int_eq x y).0 (sym (ap (λ k. not k || int_eq x y) t) ∙ meet) in
-          let share : (int_lt x (y +ℤ pos 1) && int_lt y (x +ℤ pos 1)) ≡ true = (λ k. lt-int x (y +ℤ pos 1) (omega (arith, ints)) k && lt-int y (x +ℤ pos 1) (omega (arith, ints)) k) in
-          let shares : may_share flags (byte_access l) (byte_access m) ≡ true = cond-true _ _ _ t ∙ share in
-          (λ k. parts.0 k && shares k)
-      | inr f ↦
-          let free : not (is_noalias flags a || is_noalias flags b) ≡ true = sym (cond-false _ _ _ f) ∙ parts.1 in
-          let shares : may_share flags (byte_access l) (byte_access m) ≡ true = cond-false _ _ _ f ∙ free in
-          (λ k. parts.0 k && shares k)
-    ]
 
 -- ---- events of two units
 

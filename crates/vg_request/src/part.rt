@@ -1,12 +1,12 @@
 //! The words after a command, part by part.
 
 ghost use Rattle.std.specs.Prelude.{◌≡◌, ◌<◌, length, option_map, IfSome};
-ghost use Rattle.std.specs.Str.{bytes_eq};
 ghost use Rattle.vg_request.specs.Word.{plain_word};
 ghost use Rattle.vg_request.specs.Parts.{part_of, part_seen, IsFirst, width, extension, word};
 
 use crate::word::plain_word;
 use vg_outside::Bytes;
+use vg_text::byte::is_text;
 
 /// An option without a value.
 #[derive(Clone, Copy)]
@@ -53,13 +53,6 @@ fn word_part(bytes: &[u8]) -> Option<Part<'_>>
     ensures { option_map part_seen result ≡ option_map (λ v. word v) (plain_word bytes.now) }
 {
     Some(Part::Word(plain_word(bytes)?))
-}
-
-/// Whether two texts are the same bytes.
-fn is_text(bytes: &[u8], text: &[u8]) -> bool
-    ensures { result ≡ bytes_eq bytes.now text.now }
-{
-    bytes == text
 }
 
 /// The part that a word is by itself.

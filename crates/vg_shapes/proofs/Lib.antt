@@ -3,6 +3,7 @@ pub mod MatchTables
 pub mod Pairs
 pub mod Readings
 pub mod Replacing
+pub mod SameWanted
 pub mod Turning
 pub mod ValueTerms
 pub mod WholeTables

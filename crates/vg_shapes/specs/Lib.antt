@@ -1,3 +1,4 @@
+pub mod Bindings
 pub mod DepList
 pub mod Depends
 pub mod Description
@@ -15,3 +16,4 @@ pub mod Registers
 pub mod RunUnits
 pub mod Sound
 pub mod Units
+pub mod Wanted

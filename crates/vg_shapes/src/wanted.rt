@@ -2,6 +2,7 @@
 
 ghost use Rattle.std.specs.Prelude.{◌≡◌};
 ghost use Rattle.vg_shapes.specs.Units.{is_value};
+ghost use Rattle.vg_shapes.specs.Wanted.{same_wanted};
 
 /// What an operand of a unit is, or what is wanted in a slot of a register.
 #[derive(Clone, Copy, PartialEq, Eq)]
@@ -24,4 +25,11 @@ impl Wanted {
             Wanted::Nothing => false,
         }
     }
+}
+
+/// Whether the same is wanted: the value of one number, one number in one width, or nothing.
+pub fn is_same_wanted(a: Wanted, b: Wanted) -> bool
+    ensures { result ≡ same_wanted a b }
+{
+    a == b
 }

@@ -12,6 +12,7 @@ use vg_base::Width;
 use vg_program::param::Param;
 use vg_program::param_kind::ParamKind;
 use vg_request::binding::{Bound, SignedNumber};
+use vg_text::byte::is_text;
 
 /// The values of the parameters: one place for each pointer and one value for each integer, each
 /// kind in the order of the parameters.
@@ -85,12 +86,6 @@ fn value_of(kind: ParamKind, number: SignedNumber) -> Option<u64>
         ParamKind::Pointer => place_of(number),
         ParamKind::Integer(width) => integer_of(width, number),
     }
-}
-
-fn is_text(a: &[u8], b: &[u8]) -> bool
-    ensures { result ≡ bytes_eq a.now b.now }
-{
-    a == b
 }
 
 fn times_bound(bindings: &[Bound], name: &[u8]) -> usize

@@ -1,12 +1,12 @@
-//! Copies of packs.
+//! Packs a second time.
 
 ghost use Rattle.std.specs.Prelude.{◌≡◌, IfOk};
 
 use std::alloc::{AllocError, Global};
 use vg_shapes::Pack;
 
-/// The same pack a second time.
-pub(crate) fn copy_pack(alloc: Global, pack: &Pack) -> Result<Pack, AllocError>
+/// The same pack a second time. Fails only for want of memory.
+pub fn copy_pack(alloc: Global, pack: &Pack) -> Result<Pack, AllocError>
     ensures { IfOk result (λ p. p ≡ pack.now) }
 {
     match pack {
@@ -19,8 +19,8 @@ pub(crate) fn copy_pack(alloc: Global, pack: &Pack) -> Result<Pack, AllocError>
     }
 }
 
-/// The same packs a second time.
-pub(crate) fn copy_packs(alloc: Global, packs: &[Pack]) -> Result<Vec<Pack>, AllocError>
+/// The same packs a second time. Fails only for want of memory.
+pub fn copy_packs(alloc: Global, packs: &[Pack]) -> Result<Vec<Pack>, AllocError>
     ensures { IfOk result (λ copies. copies.items ≡ packs.now) }
 {
     let mut copies = Vec::new(alloc);
