@@ -20,7 +20,8 @@ use Rattle.vg_shapes.specs.Fits.{is_compound, turned, wanted_for}
 use Rattle.vg_shapes.specs.Matches.{lane_at}
 use Rattle.vg_shapes.specs.Sound.{cut_at, term_at, terms_of}
 use Rattle.vg_match.specs.declared.lane_list.LaneAt.{LaneAt}
-use Rattle.vg_match.specs.Fit.{bind, fit, fit_turned, same_wanted, standing}
+use Rattle.vg_shapes.specs.Wanted.{same_wanted}
+use Rattle.vg_match.specs.Fit.{bind, fit, fit_turned, standing}
 use Rattle.vg_match.specs.LaneList.{all_lanes, lanes_near}
 use Rattle.vg_match.specs.Names.{names_of}
 use Rattle.vg_match.specs.Table.{count_of, lane_trees, match_of, matches_from, matches_of, value_matches}

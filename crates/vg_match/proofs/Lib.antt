@@ -5,6 +5,7 @@ pub mod Lanes
 pub mod Laws
 pub mod Members
 pub mod Merging
+pub mod OneTable
 pub mod Right
 pub mod Roots
 pub mod Sorted

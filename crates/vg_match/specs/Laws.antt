@@ -1,5 +1,6 @@
 -- Laws on matches.
 use Rattle.std.specs.Prelude.{◌≡◌, ◌<◌, ℕ, List, Option, Some, length, slice_index, take, [], get_or}
+use Rattle.std.specs.List.{AllByRecursion}
 use Rattle.vg_base.specs.Bits.{num}
 use Rattle.vg_bits.specs.BitList.{IsBytes}
 use Rattle.vg_bits.specs.Range.{range}
@@ -9,13 +10,15 @@ use Rattle.vg_terms.specs.Value.{value}
 use Rattle.vg_shapes.specs.declared.match_table.Bound.{Bound}
 use Rattle.vg_shapes.specs.declared.match_table.Match.{Match}
 use Rattle.vg_shapes.specs.declared.ssa.Ssa.{Ssa}
+use Rattle.vg_shapes.specs.Bindings.{BindsInOrder}
 use Rattle.vg_shapes.specs.Description.{Description}
 use Rattle.vg_shapes.specs.Fits.{EachLeaf, FitsBy, FitsWide, turned_at, wanted_for}
 use Rattle.vg_shapes.specs.Matches.{AreMatches, lane_at}
+use Rattle.vg_shapes.specs.MatchTable.{IsTable}
 use Rattle.vg_shapes.specs.Pack.{match_at}
 use Rattle.vg_shapes.specs.Registers.{AllBits, bits_key, env_of}
 use Rattle.vg_shapes.specs.RunUnits.{Reached, number_of, run_units, start_of}
-use Rattle.vg_shapes.specs.Sound.{AreArguments, cut_at, environment, IsEarlier, IsSound, name_at, term_at}
+use Rattle.vg_shapes.specs.Sound.{AreArguments, cut_at, cuts_of, environment, IsEarlier, IsSound, name_at, term_at, terms_of}
 use Rattle.vg_shapes.specs.Units.{integers}
 
 -- what is found of a lane and a value is what its leaves are bound to by the first way in which it
@@ -83,3 +86,23 @@ LanesHaveNumbers =
     FitsWide ssa t v bound →
     AllBits regs → EachLeaf (HasNumber regs numbers bound) t →
     value (env_of regs) t ≡ slice_index numbers v
+
+-- the values of two kernels have the same parameters, units, terms and cut terms
+pub record HaveSameValues (a b : Ssa) : Type 0 where
+  pub params : a.params ≡ b.params
+  pub units : a.units ≡ b.units
+  pub terms : terms_of a ≡ terms_of b
+  pub cuts : cuts_of a ≡ cuts_of b
+
+-- the table of all matches of descriptions with values, in order, as are the leaves that each binds
+pub record IsOrderedTable (descriptions : List Description) (ssa : Ssa) (matches : List Match) : Type 0 where
+  pub matched : AreMatches descriptions ssa matches
+  pub ordered : IsTable matches
+  pub bindings : AllByRecursion (BindsInOrder descriptions) matches
+
+-- there is one such table of the same values
+abbrev pub OneTable : Type 0
+OneTable =
+    (descriptions : List Description) (a b : Ssa) (first second : List Match) →
+    HaveSameValues a b → IsOrderedTable descriptions a first →
+    IsOrderedTable descriptions b second → first ≡ second

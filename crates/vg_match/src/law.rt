@@ -1,6 +1,6 @@
 //! Laws on matches.
 
-ghost use Rattle.vg_match.specs.Laws.{BoundEarlier, FoundFit, LanesHaveNumbers, OneBinding, ReachedHave};
+ghost use Rattle.vg_match.specs.Laws.{BoundEarlier, FoundFit, LanesHaveNumbers, OneBinding, OneTable, ReachedHave};
 
 /// A law that costs nothing to call: what is found in a table of all matches for a lane and a value
 /// is what the leaves of the lane are bound to by the first way in which it fits the value.
@@ -11,6 +11,12 @@ pub fn found_matches_fit()
 /// A law: two bindings by which a term fits a value bind each leaf to the same.
 pub fn there_is_one_binding()
     ensures { OneBinding }
+{}
+
+/// A law: there is one table of all matches of descriptions with values of the same parameters, units,
+/// terms and cut terms, in order, as are the leaves that each match binds.
+pub fn there_is_one_table()
+    ensures { OneTable }
 {}
 
 /// A law: where a term fits a value, its leaves are bound to constants and to values before it.

@@ -13,7 +13,7 @@ mod values;
 
 pub use law::{
     bound_values_are_earlier, found_matches_fit, lanes_have_numbers, reached_terms_have_numbers,
-    there_is_one_binding,
+    there_is_one_binding, there_is_one_table,
 };
 pub use matching::build;
 
