@@ -6,6 +6,7 @@ use Rattle.vg_shapes.specs.declared.match_table.Match.{Match}
 use Rattle.vg_shapes.specs.declared.order.Node.{Node}
 use Rattle.vg_shapes.specs.declared.pack.Pack.{Pack as Packed}
 use Rattle.vg_shapes.specs.declared.ssa.Ssa.{Ssa}
+use Rattle.vg_shapes.specs.Bindings.{BindsInOrder}
 use Rattle.vg_shapes.specs.Depends.{dependences}
 use Rattle.vg_shapes.specs.Description.{Description, IsPackable}
 use Rattle.vg_shapes.specs.MatchTable.{IsTable}
@@ -63,11 +64,12 @@ crowded-by-nodes ds matches ssa width size known (many, more, are, differ) =
 
 -- the chosen plan, by the list of all dependences
 pub chosen-plan : (ds : List Description) (matches : List Match) (ssa : Ssa) (width : ℕ) (packs : List Packed)
-    → AreKnown ds matches ssa → IsTable matches → IsPicked ds matches ssa width packs → IsChosenPlan ds matches ssa width packs
-chosen-plan ds matches ssa width packs known ordered picked =
+    → AreKnown ds matches ssa → IsTable matches → AllByRecursion (BindsInOrder ds) matches → IsPicked ds matches ssa width packs
+    → IsChosenPlan ds matches ssa width packs
+chosen-plan ds matches ssa width packs known ordered bindings picked =
     let chosen = picked.chosen in
     record {
-      table = record { matched = known.matched; ordered = ordered };
+      table = record { matched = known.matched; ordered = ordered; bindings = bindings };
       is = picked.is;
       plan = (by-nodes ds matches ssa known packs).0 chosen.plan;
       below_plain = chosen.below_plain;

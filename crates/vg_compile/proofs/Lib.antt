@@ -4,5 +4,6 @@ pub mod EmptyPlan
 pub mod Joined
 pub mod More
 pub mod MorePrograms
+pub mod OnePlan
 pub mod Ordered
 pub mod Whole

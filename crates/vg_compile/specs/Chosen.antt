@@ -1,12 +1,14 @@
 -- The chosen plan of the numbered values of a kernel, when its cost is optimal, and the plans that are
 -- chosen of a kernel.
 use Rattle.std.specs.Prelude.{◌≡◌, ◌≤◌, ◌<◌, ℕ, Bool, true, false, List, [], length, nat_le, if◌then◌else◌}
+use Rattle.std.specs.List.{AllByRecursion}
 use Rattle.vg_kernel.specs.Tree.{Tree}
 use Rattle.vg_ssa.specs.Cuts.{HasCuts}
 use Rattle.vg_ssa.specs.Numbering.{IsNumbering}
 use Rattle.vg_shapes.specs.declared.match_table.Match.{Match}
 use Rattle.vg_shapes.specs.declared.pack.Pack.{Pack as Packed}
 use Rattle.vg_shapes.specs.declared.ssa.Ssa.{Ssa}
+use Rattle.vg_shapes.specs.Bindings.{BindsInOrder}
 use Rattle.vg_shapes.specs.Depends.{dependences}
 use Rattle.vg_shapes.specs.Description.{Description}
 use Rattle.vg_shapes.specs.Matches.{AreMatches}
@@ -17,10 +19,11 @@ use Rattle.vg_packing.specs.Laws as plan
 use Rattle.vg_packing.specs.Packing.{chosen_of, packing, plain_of}
 use Rattle.vg_plan_relations.specs.Plans.{IsPlanByNodes}
 
--- the table of all matches of descriptions with the values of a kernel
+-- the table of all matches of descriptions with the values of a kernel, each with its leaves bound in order
 pub record IsTableOf (ds : List Description) (ssa : Ssa) (matches : List Match) : Type 0 where
   pub matched : AreMatches ds ssa matches
   pub ordered : IsTable matches
+  pub bindings : AllByRecursion (BindsInOrder ds) matches
 
 -- what a plan costs
 abbrev pub cost_of : List Description → List Match → Ssa → List Packed → ℕ

@@ -3,4 +3,5 @@ pub mod Compiled
 pub mod Emitted
 pub mod Laws
 pub mod Means
+pub mod OnePlan
 pub mod Planned

@@ -1,6 +1,7 @@
 //! Laws on programs of kernels.
 
 ghost use Rattle.vg_compile.specs.Laws.{MorePlansCostNoMore, UnitsMeanKernels};
+ghost use Rattle.vg_compile.specs.OnePlan.{CompileMoreCostsNoMore, OneChosenPlan};
 
 /// A law that costs nothing to call: a program that means the units of the numbered values of a kernel,
 /// and has their name and parameters, means the kernel.
@@ -13,4 +14,15 @@ pub fn units_mean_kernels()
 /// lesser size is crowded.
 pub fn more_plans_cost_no_more()
     ensures { MorePlansCostNoMore }
+{}
+
+/// A law: two chosen plans of a kernel are one, and so are two chosen wide plans.
+pub fn there_is_one_plan()
+    ensures { OneChosenPlan }
+{}
+
+/// A law: two programs that are compiled of a kernel by the same entries, both with more plans or both without,
+/// cost the same, and one with more plans costs at most what one without costs.
+pub fn compile_more_costs_no_more()
+    ensures { CompileMoreCostsNoMore }
 {}

@@ -24,5 +24,6 @@ returns-clause-plan c =
     let ssa = c.args.ssa.now in
     chosen-plan ds matches ssa c.args.width c.in_ok-plan.plan
     (known ds matches ssa c.requires.sound c.requires.callable c.in_ok-table.ensures.matches) c.in_ok-table.ensures.order
+    c.in_ok-table.ensures.bindings
     (picked-by ds matches ssa c.in_ok-deps.deps c.args.width c.in_ok-plan.plan c.in_ok-deps.ensures.exact
     c.in_ok-plan.ensures.plan c.in_ok-plan.ensures.chosen)
