@@ -294,7 +294,7 @@ def features_of(entry):
 
 
 def c_name(name, others):
-    """The name as C may have it: one that C has already, or that the tool uses, gets `_` behind it."""
+    """The name as C may have it: one that C has already, or that the tool uses, gets `_` after it."""
     if name in TAKEN or re.match(r'(_|vegen_|seq_|[sv]\d+$|[A-Z0-9_]+$|\w+_t$)', name) and not re.match(r'[A-Z]$', name):
         name += '_'
     while name in others:

@@ -9,9 +9,11 @@ use Rattle.vg_guard.proofs.NoaliasLaws.{noalias-is-well_formed}
 use Rattle.vg_guard.proofs.Whole.{compiled-guarded}
 use Rattle.vg_guard.proofs.compiling.compile_guarded.Goals as goal
 
-pub compile_by-requires-clause-kernel : goal.compile_by-requires-clause-kernel
-compile_by-requires-clause-kernel c =
-    subst IsWellFormed (sym c.in_ok-noalias.ensures) (noalias-is-well_formed (tree_of c.args.kernel.now) c.requires.kernel)
+pub compile_by-requires : goal.compile_by-requires
+compile_by-requires c = record {
+  kernel =
+      subst IsWellFormed (sym c.in_ok-noalias.ensures) (noalias-is-well_formed (tree_of c.args.kernel.now) c.requires.kernel);
+}
 
 pub returns : goal.returns
 returns c =
