@@ -14,4 +14,5 @@ pub mod NodeUnits
 pub mod Once
 pub mod Placing
 pub mod Pushes
+pub mod Rows
 pub mod Turns

@@ -33,10 +33,10 @@ node-is matches ssa deps plan v true of_packs chosen t g e = rw (sym t) (e ∙ g
 node-is matches ssa deps plan v false of_packs chosen t g e = rw (sym t) e
 
 module _ (matches : List Match) (ssa : Ssa) (deps : List (ℕ × ℕ)) (names : NameUnits ssa deps) where
-  row-units : (v x : ℕ) → Has x (row_of deps v) → is_unit ssa x ≡ true
+  pub row-units : (v x : ℕ) → Has x (row_of deps v) → is_unit ssa x ≡ true
   row-units v x h = names v x (has-in x (row_of deps v) h)
 
-  rows-units : (us : List ℕ) (x : ℕ) → Has x (flat_map (row_of deps) us) → is_unit ssa x ≡ true
+  pub rows-units : (us : List ℕ) (x : ℕ) → Has x (flat_map (row_of deps) us) → is_unit ssa x ≡ true
   rows-units us x h = let k = from-flat_map (row_of deps) x us h in row-units k.0 x k.2
 
   pub pack-units : (p : Packed) (x : ℕ) → Has x (needs_of matches ssa deps p) → is_unit ssa x ≡ true

@@ -89,8 +89,9 @@ no-way needs own marks s v h (there u t) = true-not-false (own v) t (s.away v h)
 no-way needs own marks s v h (down u x k w) = no-way needs own marks s x (s.closed v x h k) w
 
 -- what the search keeps
-pub record Searches (needs : ℕ → List ℕ) (own : ℕ → Bool) (bound : ℕ) (starts : List ℕ) (marks : List Bool) (stack : List ℕ) : Type 0 where
+pub record Searches (needs : ℕ → List ℕ) (own : ℕ → Bool) (bound : ℕ) (old : List Bool) (starts : List ℕ) (marks : List Bool) (stack : List ℕ) : Type 0 where
   pub long : length marks ≡ bound
+  pub stays : (v : ℕ) → IsAt old v → IsAt marks v
   pub starts_marked : (x : ℕ) → Has x starts → IsAt marks x
   pub done : (v : ℕ) → IsAt marks v → Has v stack ⊎ ((own v ≡ false) × ((x : ℕ) → Has x (needs v) → IsAt marks x))
   pub leads : (v : ℕ) → IsAt marks v → Way needs own v → HasWay needs own starts
@@ -98,9 +99,10 @@ pub record Searches (needs : ℕ → List ℕ) (own : ℕ → Bool) (bound : ℕ
   pub inside : (v : ℕ) → Has v stack → v < bound
 
 pub begins : (needs : ℕ → List ℕ) (own : ℕ → Bool) (bound : ℕ) (starts : List ℕ) (marks new_marks : List Bool) (stack : List ℕ) → length marks ≡ bound → IsSettled needs own marks → All (λ v. v < bound) starts →
-    Pushed starts marks [] new_marks stack → Searches needs own bound starts new_marks stack
+    Pushed starts marks [] new_marks stack → Searches needs own bound marks starts new_marks stack
 begins needs own bound starts marks new_marks stack long clear ins p = record {
   long = p.long ∙ long;
+  stays = p.stays;
   starts_marked = p.whole;
   done = λ v h. elim (p.new v h) [ inl a ↦ inr (clear.away v a, λ x k. p.stays x (clear.closed v x a k)) | inr r ↦ inl r.1 ];
   leads = λ v h w. elim (p.new v h) [ inl a ↦ absurd (no-way needs own marks clear v a w) | inr r ↦ (v, r.0, w) ];
@@ -108,10 +110,11 @@ begins needs own bound starts marks new_marks stack long clear ins p = record {
   inside = λ v h. elim (p.from v h) [ inl n ↦ absurd n | inr r ↦ all-has (λ u. u < bound) starts ins v r ];
 }
 
-pub goes-on : (needs : ℕ → List ℕ) (own : ℕ → Bool) (bound : ℕ) (starts : List ℕ) (marks new_marks : List Bool) (front stack : List ℕ) (v : ℕ) → Searches needs own bound starts marks (front ++ v ∷ []) → own v ≡ false →
-    All (λ x. x < bound) (needs v) → Pushed (needs v) marks front new_marks stack → Searches needs own bound starts new_marks stack
-goes-on needs own bound starts marks new_marks front stack v s f ins p = record {
+pub goes-on : (needs : ℕ → List ℕ) (own : ℕ → Bool) (bound : ℕ) (old : List Bool) (starts : List ℕ) (marks new_marks : List Bool) (front stack : List ℕ) (v : ℕ) → Searches needs own bound old starts marks (front ++ v ∷ []) → own v ≡ false →
+    All (λ x. x < bound) (needs v) → Pushed (needs v) marks front new_marks stack → Searches needs own bound old starts new_marks stack
+goes-on needs own bound old starts marks new_marks front stack v s f ins p = record {
   long = p.long ∙ s.long;
+  stays = λ x h. p.stays x (s.stays x h);
   starts_marked = λ x h. p.stays x (s.starts_marked x h);
   done = λ u h. elim (p.new u h) [
     | inl a ↦ elim (s.done u a) [
@@ -128,20 +131,20 @@ goes-on needs own bound starts marks new_marks front stack v s f ins p = record 
   inside = λ u h. elim (p.from u h) [ inl l ↦ s.inside u (has-left u front (v ∷ []) l) | inr r ↦ all-has (λ x. x < bound) (needs v) ins u r ];
 }
 
-pub ends : (needs : ℕ → List ℕ) (own : ℕ → Bool) (bound : ℕ) (starts : List ℕ) (marks : List Bool) → Searches needs own bound starts marks [] → IsApart needs own starts marks
-ends needs own bound starts marks s = record {
+pub ends : (needs : ℕ → List ℕ) (own : ℕ → Bool) (bound : ℕ) (old : List Bool) (starts : List ℕ) (marks : List Bool) → Searches needs own bound old starts marks [] → IsApart needs own starts marks
+ends needs own bound old starts marks s = record {
   starts_marked = s.starts_marked;
   closed = λ v x h m. elim (s.done v h) [ inl n ↦ absurd n | inr d ↦ d.1 x m ];
   away = λ v h. elim (s.done v h) [ inl n ↦ absurd n | inr d ↦ d.0 ];
 }
 
-pub finds : (needs : ℕ → List ℕ) (own : ℕ → Bool) (bound : ℕ) (starts : List ℕ) (marks : List Bool) (front : List ℕ) (v : ℕ) → Searches needs own bound starts marks (front ++ v ∷ []) → own v ≡ true → HasWay needs own starts
-finds needs own bound starts marks front v s t = s.leads v (s.on v (has-right v front (v ∷ []) (inl refl))) (there v t)
+pub finds : (needs : ℕ → List ℕ) (own : ℕ → Bool) (bound : ℕ) (old : List Bool) (starts : List ℕ) (marks : List Bool) (front : List ℕ) (v : ℕ) → Searches needs own bound old starts marks (front ++ v ∷ []) → own v ≡ true → HasWay needs own starts
+finds needs own bound old starts marks front v s t = s.leads v (s.on v (has-right v front (v ∷ []) (inl refl))) (there v t)
 
-pub finds-need : (needs : ℕ → List ℕ) (own : ℕ → Bool) (bound : ℕ) (starts : List ℕ) (marks : List Bool) (front : List ℕ) (v : ℕ) → Searches needs own bound starts marks (front ++ v ∷ []) → list_any own (needs v) ≡ true → HasWay needs own starts
-finds-need needs own bound starts marks front v s t =
+pub finds-need : (needs : ℕ → List ℕ) (own : ℕ → Bool) (bound : ℕ) (old : List Bool) (starts : List ℕ) (marks : List Bool) (front : List ℕ) (v : ℕ) → Searches needs own bound old starts marks (front ++ v ∷ []) → list_any own (needs v) ≡ true → HasWay needs own starts
+finds-need needs own bound old starts marks front v s t =
     let k = any-found own (needs v) t in
     s.leads v (s.on v (has-right v front (v ∷ []) (inl refl))) (down v k.0 k.1 (there k.0 k.2))
 
-pub inside-here : (needs : ℕ → List ℕ) (own : ℕ → Bool) (bound : ℕ) (starts : List ℕ) (marks : List Bool) (front : List ℕ) (v : ℕ) → Searches needs own bound starts marks (front ++ v ∷ []) → v < bound
-inside-here needs own bound starts marks front v s = s.inside v (has-right v front (v ∷ []) (inl refl))
+pub inside-here : (needs : ℕ → List ℕ) (own : ℕ → Bool) (bound : ℕ) (old : List Bool) (starts : List ℕ) (marks : List Bool) (front : List ℕ) (v : ℕ) → Searches needs own bound old starts marks (front ++ v ∷ []) → v < bound
+inside-here needs own bound old starts marks front v s = s.inside v (has-right v front (v ∷ []) (inl refl))

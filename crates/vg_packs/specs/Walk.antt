@@ -50,6 +50,10 @@ IsFree matches ssa deps plan = has_no_cycle (packing [] matches ssa deps) plan �
 abbrev pub IsAt : List Bool → ℕ → Type 0
 IsAt marks v = get_or marks v false ≡ true
 
+-- each number that is marked stays so
+abbrev pub KeepMarks : List Bool → List Bool → Type 0
+KeepMarks marks new_marks = (v : ℕ) → IsAt marks v → IsAt new_marks v
+
 -- a way from v by needs down to a unit that the test holds of
 pub data Way (needs : ℕ → List ℕ) (own : ℕ → Bool) : ℕ → Type 0 where
   there : (v : ℕ) → own v ≡ true → Way needs own v

@@ -1,14 +1,15 @@
 //! Whether a plan stays one with a pack after it.
 
-ghost use Rattle.std.specs.Prelude.{◌≡◌, ◌+◌, ◌<◌, ◌≤◌, ℕ, [], All, IfOk, OnOk, false, get_or, length, replicate, true};
+ghost use Rattle.std.specs.Prelude.{◌≡◌, ◌+◌, ◌<◌, ◌≤◌, ℕ, [], All, IfOk, OnOk, false, flat_map, get_or, length, replicate, true};
 ghost use Rattle.std.specs.List.{filter_map, list_any};
 ghost use Rattle.vg_packing.specs.Packing.{needs_of, packing};
 ghost use Rattle.vg_plans.specs.World.{is_in, stays_plan};
+ghost use Rattle.vg_shapes.specs.DepList.{row_of};
 ghost use Rattle.vg_shapes.specs.Pack.{units_of};
 ghost use Rattle.vg_shapes.specs.Units.{arguments, is_unit};
 ghost use Rattle.vg_packs.specs.Floor.{IsFloor};
 ghost use Rattle.vg_packs.specs.Marks.{AreMarks, is_packed_by};
-ghost use Rattle.vg_packs.specs.Walk.{HasWay, IsApart, IsFree, IsSettled, LeadsApart, NameUnits, Pushed, is_in_plan, is_lane_in, node_needs};
+ghost use Rattle.vg_packs.specs.Walk.{HasWay, IsApart, IsFree, IsSettled, KeepMarks, LeadsApart, NameUnits, Pushed, is_in_plan, is_lane_in, node_needs};
 
 use crate::marks::{is_marked, mark_pack, marks_below, some_marked};
 use crate::needs::{is_in_plan, needs_of_packs, node_needs, pack_needs};
@@ -54,6 +55,7 @@ fn walk_down(
     requires settled { IsSettled (node_needs table.now ssa.now deps.now plan.now) (λ v. get_or own.now v false) marks.old }
     ensures way { IfOk result (λ r. r ≡ true → HasWay (node_needs table.now ssa.now deps.now plan.now) (λ v. get_or own.now v false) starts.now) }
     ensures apart { IfOk result (λ r. r ≡ false → IsApart (node_needs table.now ssa.now deps.now plan.now) (λ v. get_or own.now v false) starts.now marks.new) }
+    ensures kept { IfOk result (λ r. r ≡ false → KeepMarks marks.old marks.new) }
 {
     let mut stack: Vec<u32> = Vec::new(alloc);
     push_new(starts, marks, &mut stack)?;
@@ -72,6 +74,72 @@ fn walk_down(
         push_new(needs, marks, &mut stack)?;
     }
     Ok(false)
+}
+
+/// The same from what some units depend on, read in place unit by unit, so that none is looked at after
+/// the first from which there is a way.
+fn rows_reach(
+    alloc: Global,
+    table: &MatchTable,
+    ssa: &Ssa,
+    deps: &DepList,
+    plan: &[Pack],
+    packed: &[bool],
+    own: &[bool],
+    units: &[u32],
+    marks: &mut [bool],
+) -> Result<bool, AllocError>
+    requires names { NameUnits ssa.now deps.now }
+    requires packed { AreMarks (length marks.old) (is_in_plan plan.now) packed.now }
+    requires units_inside { (v : ℕ) → is_unit ssa.now v ≡ true → v < length marks.old }
+    requires settled { IsSettled (node_needs table.now ssa.now deps.now plan.now) (λ v. get_or own.now v false) marks.old }
+    ensures way { IfOk result (λ r. r ≡ true → HasWay (node_needs table.now ssa.now deps.now plan.now) (λ v. get_or own.now v false) (flat_map (row_of deps.now) units.now)) }
+    ensures apart { IfOk result (λ r. r ≡ false → IsApart (node_needs table.now ssa.now deps.now plan.now) (λ v. get_or own.now v false) (flat_map (row_of deps.now) units.now) marks.new) }
+{
+    'units: for unit in units {
+        let row = deps.row(*unit);
+        let reached = walk_down(alloc, table, ssa, deps, plan, packed, own, row, marks)?;
+        if reached {
+            return Ok(true);
+        }
+    }
+    Ok(false)
+}
+
+/// The same from what a pack needs.
+fn needs_reach(
+    alloc: Global,
+    table: &MatchTable,
+    ssa: &Ssa,
+    deps: &DepList,
+    plan: &[Pack],
+    packed: &[bool],
+    own: &[bool],
+    pack: &Pack,
+    marks: &mut [bool],
+) -> Result<bool, AllocError>
+    requires names { NameUnits ssa.now deps.now }
+    requires packed { AreMarks (length marks.old) (is_in_plan plan.now) packed.now }
+    requires units_inside { (v : ℕ) → is_unit ssa.now v ≡ true → v < length marks.old }
+    requires settled { IsSettled (node_needs table.now ssa.now deps.now plan.now) (λ v. get_or own.now v false) marks.old }
+    ensures way { IfOk result (λ r. r ≡ true → HasWay (node_needs table.now ssa.now deps.now plan.now) (λ v. get_or own.now v false) (needs_of table.now ssa.now deps.now pack.now)) }
+    ensures apart { IfOk result (λ r. r ≡ false → IsApart (node_needs table.now ssa.now deps.now plan.now) (λ v. get_or own.now v false) (needs_of table.now ssa.now deps.now pack.now) marks.new) }
+{
+    match pack {
+        Pack::Stores(units) => {
+            let units = units.as_slice();
+            rows_reach(alloc, table, ssa, deps, plan, packed, own, units, marks)
+        }
+        Pack::Loads(units) => {
+            let units = units.as_slice();
+            rows_reach(alloc, table, ssa, deps, plan, packed, own, units, marks)
+        }
+        Pack::Call { .. } => {
+            let needs = pack_needs(alloc, table, ssa, deps, pack)?;
+            let starts = needs.as_slice();
+            walk_down(alloc, table, ssa, deps, plan, packed, own, starts, marks)
+        }
+    }
 }
 
 /// The first number after those of all units.
@@ -108,18 +176,7 @@ fn reaches_by(
     ensures apart { IfOk result (λ r. r ≡ false → LeadsApart (node_needs table.now ssa.now deps.now plan.now) (λ v. is_in v (units_of pack.now)) (needs_of table.now ssa.now deps.now pack.now)) }
 {
     mark_pack(own, pack);
-    let starts = pack_needs(alloc, table, ssa, deps, pack)?;
-    walk_down(
-        alloc,
-        table,
-        ssa,
-        deps,
-        plan,
-        packed,
-        own,
-        starts.as_slice(),
-        marks,
-    )
+    needs_reach(alloc, table, ssa, deps, plan, packed, own, pack, marks)
 }
 
 /// The same, with marks of its own: what is below a floor needs no look.

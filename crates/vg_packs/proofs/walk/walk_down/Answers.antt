@@ -19,8 +19,8 @@ units-preserved c =
     let own : ℕ → Bool = λ x. get_or c.args.own.now x false in
     let n = length c.args.marks.now in
     let v = c.in-Some.v in
-    let s = subst (Searches ns own n c.args.starts.now c.units.marks) c.in-Some.ensures.items c.units.invariant in
-    let there = c.is_marked-there.ensures ∙ c.requires.packed.at v (inside-here ns own n c.args.starts.now c.units.marks c.pop.new.self.items v s) in
+    let s = subst (Searches ns own n c.args.marks.now c.args.starts.now c.units.marks) c.in-Some.ensures.items c.units.invariant in
+    let there = c.is_marked-there.ensures ∙ c.requires.packed.at v (inside-here ns own n c.args.marks.now c.args.starts.now c.units.marks c.pop.new.self.items v s) in
     let needs = node-is c.args.table.now c.args.ssa.now c.args.deps.now c.args.plan.now v c.is_marked-there.result
     c.as_slice.result.now c.node_needs-needs.result.now there
     (c.as_slice.ensures.value ∙ c.in_ok-of_packs.ensures) c.node_needs-needs.ensures
@@ -28,7 +28,7 @@ units-preserved c =
     let p = subst (λ l. Pushed l c.units.marks c.pop.new.self.items c.push_new-in-Some.new.marks c.push_new-in-Some.new.stack.items)
     needs c.in_ok-push_new-2.ensures
     in
-    goes-on ns own n c.args.starts.now c.units.marks c.push_new-in-Some.new.marks
+    goes-on ns own n c.args.marks.now c.args.starts.now c.units.marks c.push_new-in-Some.new.marks
     c.pop.new.self.items c.push_new-in-Some.new.stack.items v s (sym c.is_marked-found.ensures ∙ c.if-found.false)
     (all-from n (ns v) (λ x h. c.requires.units_inside x (node-units c.args.table.now c.args.ssa.now c.args.deps.now c.requires.names c.args.plan.now v x h)))
     p
@@ -37,8 +37,8 @@ pub returns-then-found-clause-way : goal.returns-then-found-clause-way
 returns-then-found-clause-way c = λ t.
     let ns = node_needs c.args.table.now c.args.ssa.now c.args.deps.now c.args.plan.now in
     let n = length c.args.marks.now in
-    let s = subst (Searches ns (λ v. get_or c.args.own.now v false) n c.args.starts.now c.units.marks) c.in-Some.ensures.items c.units.invariant in
-    finds ns (λ v. get_or c.args.own.now v false) n c.args.starts.now c.units.marks c.pop.new.self.items c.in-Some.v s
+    let s = subst (Searches ns (λ v. get_or c.args.own.now v false) n c.args.marks.now c.args.starts.now c.units.marks) c.in-Some.ensures.items c.units.invariant in
+    finds ns (λ v. get_or c.args.own.now v false) n c.args.marks.now c.args.starts.now c.units.marks c.pop.new.self.items c.in-Some.v s
     (sym c.is_marked-found.ensures ∙ c.if-found.true)
 
 pub returns-then-met-clause-way : goal.returns-then-met-clause-way
@@ -47,13 +47,13 @@ returns-then-met-clause-way c = λ t.
     let own : ℕ → Bool = λ x. get_or c.args.own.now x false in
     let n = length c.args.marks.now in
     let v = c.in-Some.v in
-    let s = subst (Searches ns own n c.args.starts.now c.units.marks) c.in-Some.ensures.items c.units.invariant in
-    let there = c.is_marked-there.ensures ∙ c.requires.packed.at v (inside-here ns own n c.args.starts.now c.units.marks c.pop.new.self.items v s) in
+    let s = subst (Searches ns own n c.args.marks.now c.args.starts.now c.units.marks) c.in-Some.ensures.items c.units.invariant in
+    let there = c.is_marked-there.ensures ∙ c.requires.packed.at v (inside-here ns own n c.args.marks.now c.args.starts.now c.units.marks c.pop.new.self.items v s) in
     let needs = node-is c.args.table.now c.args.ssa.now c.args.deps.now c.args.plan.now v c.is_marked-there.result
     c.as_slice.result.now c.node_needs-needs.result.now there
     (c.as_slice.ensures.value ∙ c.in_ok-of_packs.ensures) c.node_needs-needs.ensures
     in
-    finds-need ns own n c.args.starts.now c.units.marks c.pop.new.self.items v s
+    finds-need ns own n c.args.marks.now c.args.starts.now c.units.marks c.pop.new.self.items v s
     (ap (list_any own) (sym needs) ∙ sym c.some_marked-met.ensures ∙ c.if-met.true)
 
 pub push_new-requires-in-Some : goal.push_new-requires-in-Some
@@ -62,8 +62,8 @@ push_new-requires-in-Some c =
     let own : ℕ → Bool = λ x. get_or c.args.own.now x false in
     let n = length c.args.marks.now in
     let v = c.in-Some.v in
-    let s = subst (Searches ns own n c.args.starts.now c.units.marks) c.in-Some.ensures.items c.units.invariant in
-    let there = c.is_marked-there.ensures ∙ c.requires.packed.at v (inside-here ns own n c.args.starts.now c.units.marks c.pop.new.self.items v s) in
+    let s = subst (Searches ns own n c.args.marks.now c.args.starts.now c.units.marks) c.in-Some.ensures.items c.units.invariant in
+    let there = c.is_marked-there.ensures ∙ c.requires.packed.at v (inside-here ns own n c.args.marks.now c.args.starts.now c.units.marks c.pop.new.self.items v s) in
     let needs = node-is c.args.table.now c.args.ssa.now c.args.deps.now c.args.plan.now v c.is_marked-there.result
     c.as_slice.result.now c.node_needs-needs.result.now there
     (c.as_slice.ensures.value ∙ c.in_ok-of_packs.ensures) c.node_needs-needs.ensures
