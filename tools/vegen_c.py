@@ -281,6 +281,19 @@ class Translation:
 INCLUDES = '#include <immintrin.h>\n#include <stdint.h>\n#include <string.h>\n'
 
 
+def processor():
+    """The name of this processor, and what it has."""
+    with open('/proc/cpuinfo') as file:
+        text = file.read()
+    return re.search(r'model name\s*: (.*)', text).group(1), set(re.search(r'flags\s*: (.*)', text).group(1).split())
+
+
+def is_here(features, has):
+    """Whether a processor that has these has all features."""
+    named = {'sse3': 'pni', 'sse4.1': 'sse4_1', 'sse4.2': 'sse4_2', 'avxvnni': 'avx_vnni', 'avx512vnni': 'avx512_vnni'}
+    return all(named.get(f, f) in has for f in features)
+
+
 def features_of(entry):
     """What the processor has to have for an entry, in the words of gcc and clang."""
     some = FEATURES[entry.extension]
