@@ -189,7 +189,7 @@ any-last : {V : Type 0} (test : V → Bool) (keys : List V) (key : V)
 any-last test [] key = refl
 any-last test (x ∷ keys) key = ap (λ b. test x || b) (any-last test keys key) ∙ or-turn (test x) (test key) (list_any test keys)
 
--- a key behind an insertion
+-- a key after an insertion
 pub inserted : {V : Type 0} (numbers : V → List ℕ) (keys : List V) (key : V) (q : List ℕ)
     → has_key numbers (insert_key (λ k x. bytes_eq (numbers k) (numbers x)) keys key) q ≡ (bytes_eq q (numbers key) || has_key numbers keys q)
 inserted numbers keys key q = elim (cases_Bool (has_key numbers keys (numbers key))) [

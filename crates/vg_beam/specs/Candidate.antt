@@ -1,4 +1,4 @@
--- Plans that are met: a plan that was kept with a pack behind it.
+-- Plans that are met: a plan that was kept with a pack after it.
 use Rattle.std.specs.Prelude.{◌≡◌, ◌<◌, ◌++◌, ◌∷◌, ℕ, List, [], length, map}
 use Rattle.vg_packing.specs.Laws.{IsPlanFor, cost_of}
 use Rattle.vg_packing.specs.Taken.{IsShort}

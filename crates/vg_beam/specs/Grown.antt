@@ -5,7 +5,7 @@ use Rattle.std.specs.Prelude.{ℕ, Bool, List, [], ◌∷◌, ◌++◌, filter, 
 abbrev pub grown_by : {P : Type 0} → (P → Bool) → List P → List P → List (List P)
 grown_by test plan ps = map (λ p. plan ++ p ∷ []) (filter test ps)
 
--- the first value of the least price below a bound, behind one that was found
+-- the first value of the least price below a bound, after one that was found
 abbrev pub least_from : {C : Type 0} → (C → ℕ) → ℕ → Option C → List C → Option C
 least_from price bound found [] = found
 least_from price bound found (c ∷ cs) =

@@ -21,7 +21,7 @@ plans_of level = map plan_of level
 abbrev pub plan_at : List Kept → ℕ → List Packed
 plan_at level place = get_or (plans_of level) place []
 
--- a plan's cost, its key, and the numbers of the packs that are tried behind it: they are told by the
+-- a plan's cost, its key, and the numbers of the packs that are tried after it: they are told by the
 -- packs alone, whatever depends on what
 pub record IsKept
     (ds : List Description) (matches : List Match) (ssa : Ssa) (packs : List Packed) (k : Kept)

@@ -3,7 +3,7 @@ use Rattle.std.specs.Prelude.{◌≡◌, ◌<◌, ℕ, suc, List, [], ◌∷◌,
 use Rattle.std.specs.List.{list_any}
 use Rattle.vg_plans.specs.Members.{Every, Has}
 
--- each number is less than all behind it
+-- each number is less than all after it
 abbrev pub Rises : List ℕ → Type 0
 Rises [] = Unit {0}
 Rises (x ∷ xs) = Every (λ y. x < y) xs × Rises xs

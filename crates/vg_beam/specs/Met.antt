@@ -31,7 +31,7 @@ pub record IsMet
       → is_known m key
       ≡ list_any (same_packs (packing ds matches ssa deps) plan) (grown_plans packs level m.candidates.items)
 
--- a plan is met with each of these packs behind it with which it stays a plan
+-- a plan is met with each of these packs after it with which it stays a plan
 pub record Meets
     (ds : List Description) (matches : List Match) (ssa : Ssa) (deps : List (ℕ × ℕ))
     (packs : List Packed) (level : List Kept) (plan tried : List Packed) (old new : Met)

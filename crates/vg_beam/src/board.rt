@@ -49,7 +49,7 @@ fn place_of(packs: &[Pack], pack: &Pack) -> usize
 }
 
 impl Board {
-    /// No packs.
+    /// The board of no packs.
     pub(crate) fn new(alloc: Global) -> Board
         ensures packs { result.packs.items ≡ [] }
         ensures produced { result.produced.items ≡ [] }
@@ -60,7 +60,7 @@ impl Board {
         }
     }
 
-    /// The pack of a number.
+    /// The pack of a number, which is one of the board.
     pub(crate) fn pack(&self, number: u32) -> &Pack
         requires { number < length self.now.packs.items }
         ensures { result.now ≡ pack_at self.now.packs.items number }

@@ -27,7 +27,7 @@ fn note(keys: &mut IndexSet<Vec<u32>>, key: Vec<u32>) -> Result<(), AllocError>
 }
 
 impl Met {
-    /// None.
+    /// No plan is met yet.
     pub(crate) fn new(alloc: Global) -> Met
         ensures candidates { result.candidates.items ≡ [] }
         ensures keys { result.keys.keys ≡ [] }

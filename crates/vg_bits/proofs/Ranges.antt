@@ -146,7 +146,7 @@ module _ {A : Type 0} where
       ∙ (λ i. range-replaced_beside at m (at + m) new l fits (omega arith) (inl (omega arith)) i
       ++ (ap (λ (p : ℕ). range p n (replaced (at + m) new l)) (sym here) ∙ range-replaced_inside 0 n (at + m) new l fits (omega arith)) i)
 
-  -- a range that begins inside what was replaced and ends behind it
+  -- a range that begins inside what was replaced and ends after it
   pub range-replaced_back : (low m n k : ℕ) (new l : List A) → m + n ≡ length new → low + length new + k ≤ length l → range (low + m) (n + k) (replaced low new l) ≡ range m n new ++ range (low + length new) k l
   range-replaced_back low m n k new l inside fits =
       let behind : low + m + n ≡ low + length new = omega arith in

@@ -1,4 +1,4 @@
--- No rule applies where a part that is no constant stands behind a canonical chain, not before its last part,
+-- No rule applies where a part that is no constant stands after a canonical chain, not before its last part,
 -- and leaves none of its bits known.
 use Rattle.std.proofs.Common.{◌≡◌, ℕ, Bool, true, false, refl, sym, ap, ◌∙◌, subst, arith, inl, inr, ◌≤◌}
 use Rattle.std.specs.Prelude.{Option, Some, None, not, ◌&&◌, nat_le, nat_lt, if◌then◌else◌}

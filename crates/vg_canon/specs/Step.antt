@@ -25,7 +25,7 @@ fills Or w y = true
 fills Xor w y = true
 fills op w y = nat_le w (known y).unsigned && nat_le w (known y).signed
 
--- a part behind a chain that ends with a part not after it: it is no constant, and leaves no bits known
+-- a part after a chain that ends with a part not after it: it is no constant, and leaves no bits known
 abbrev pub is_at_rest : Tree → Bool
 is_at_rest (two op w (two o v a b) y) = makes_chains op && (same_op op o && (not (is_constant y) && (not (opens op y) && (not_after b y && fills op w y))))
 is_at_rest _ = false

@@ -38,7 +38,7 @@ unfolding Stand
 words-text [] r q same = ap (λ (x : Reading). x.text) (sym same)
 words-text (w ∷ ws) r q (m, read, some, rest) = words-text ws m q rest ∙ word-text r.text r.left (w, m) read
 
--- what is left behind an operation is of the same text
+-- what is left after an operation is of the same text
 pub text_kept : IsSound → (r q : Reading) (o : Operation) → operation_at r ≡ Ok (o, q) → q.text ≡ r.text
 text_kept sound r q o e = let found = sound r o q e in words-text found.0 r q found.1
 

@@ -30,7 +30,7 @@ judged-some : {X : Type 0} (r : Result X RangeFault) (x : X) → as_judged r ≡
 judged-some (Ok y) x e = refl
 judged-some (Err f) x e = cc
 
--- an entry was read behind those that are done
+-- an entry was read after those that are done
 record FoundEntry (done : List Entry) (r : Reading) (x : List Entry × Reading) : Type 0 where
   entry : Entry
   is : IsEntryText done r entry x.1
@@ -63,7 +63,7 @@ entry-found place done r x e =
       all = refl;
     })
 
--- entries were read behind those that are done
+-- entries were read after those that are done
 record FoundEntries (done : List Entry) (room : ℕ) (r : Reading) (x : List Entry) : Type 0 where
   entries : List Entry
   are : AreEntries done r entries

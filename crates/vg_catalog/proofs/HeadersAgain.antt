@@ -27,7 +27,7 @@ lanes-again register etype l r m are h =
 operand-again : (before : List Param) (w : Spelled) (r n : Reading) → IsOperand before w → next_word r ≡ Ok (w, n) → operand_at before r ≡ Ok (w, n)
 operand-again before w r n is e = rw (e, is) refl
 
--- a parameter stands next, and is read behind its PARAM
+-- a parameter stands next, and is read after its PARAM
 record ReadParam (before : List Param) (p : Param) (r m : Reading) : Type 0 where
   first : Spelled
   behind : Reading
@@ -123,7 +123,7 @@ cost-again : (w price : Spelled) (k : ℕ) (r n m : Reading) → Is w (codes "CO
 unfolding cost_at
 cost-again w price k r n m is read first = bind_to (this_word (codes "COST") r) _ (expect-again (codes "COST") w r n is first) read
 
--- what stands behind the parameters and the immediate is read
+-- what stands after the parameters and the immediate is read
 abbrev closing_of : Header → Bool → Closing
 closing_of h is_signed = record {
   lanes = record { register = h.register; lane_width = h.lane_width; is_signed = is_signed };
@@ -156,7 +156,7 @@ closing-again words h r m is reads =
 closing-begins : (text : List ℕ) (words : Words) (h : Header) (r m : Reading) → bytes_eq (codes "RESULT") text ≡ false → IsClosing words h → Reads words r m → Other text r
 closing-begins text words h r m differs is reads = not-next text (codes "RESULT") is.result differs is.is_result (subst (λ (ws : Words). Reads ws r m) is.whole reads)
 
--- behind the parameters stands no further one
+-- after the parameters stands no further one
 imm-begins : (params : List Param) (imm closing : Words) (h : Header) (i : Option ImmRange) (r m q : Reading) → IsImm params imm i → IsClosing closing h → Reads imm r m → Reads closing m q → Other (codes "PARAM") r
 imm-begins params imm closing h (Some i) r m q is closes first second = not-next (codes "PARAM") (codes "IMM") is.first refl is.is_first (subst (λ (ws : Words). Reads ws r m) is.whole first)
 imm-begins params imm closing h None r m q is closes first second =

@@ -87,7 +87,7 @@ operand-found before r x e =
     subst (FoundName (IsOperand before) r) (ok_once w.0 x t.1)
     (record { is = true_fact _ t.0; reads = next-reads r w.0 w.1 })
 
--- a parameter was read behind its PARAM
+-- a parameter was read after its PARAM
 record FoundParam (before : List Param) (r : Reading) (p : Param) (q : Reading) : Type 0 where
   words : Words
   is : IsParam before words p
@@ -117,7 +117,7 @@ param-found before r m x w e =
       reads = w.reads ▷ named.reads ▷ lanes.reads;
     })
 
--- parameters were read behind those before them, no more than there was room for
+-- parameters were read after those before them, no more than there was room for
 record FoundParams (before : List Param) (room : ℕ) (r : Reading) (x : List Param × Reading) : Type 0 where
   words : Words
   items : List Param
@@ -177,7 +177,7 @@ all-found r x e =
       reads = more.reads;
     }
 
--- an immediate was read behind its IMM
+-- an immediate was read after its IMM
 record FoundImm (params : List Param) (r : Reading) (x : Option ImmRange × Reading) : Type 0 where
   words : Words
   is : IsImm params words x.0
@@ -259,7 +259,7 @@ result-found r x e =
       reads = result.reads ▷ dst.reads ▷ lanes.reads;
     }
 
--- a word, and one behind it of which this is said, were read
+-- a word, and one after it of which this is said, were read
 record FoundPair (text : List ℕ) (Good : Spelled → Type 0) (r q : Reading) : Type 0 where
   first : Spelled
   is_first : Is first text
@@ -315,7 +315,7 @@ header_of name params imm closing = record {
   cost = closing.cost;
 }
 
--- what stands behind the parameters and the immediate was read
+-- what stands after the parameters and the immediate was read
 record FoundClosing (h : Header) (r q : Reading) : Type 0 where
   words : Words
   is : IsClosing words h

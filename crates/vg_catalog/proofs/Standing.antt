@@ -37,7 +37,7 @@ unfolding Stand
 Stand-append [] vs r m q first second = subst (λ (x : Reading). Stand vs x q) (sym first) second
 Stand-append (w ∷ ws) vs r m q (n, read, rest) second = (n, read, Stand-append ws vs n m q rest second)
 
--- words behind words
+-- words after words
 infixr 5 ◌▷◌
 pub ◌▷◌ : {ws vs : Words} {r m q : Reading} → Reads ws r m → Reads vs m q → Reads (ws ++ vs) r q
 ◌▷◌ {ws} {vs} {r} {m} {q} first second = record { stand = Stand-append ws vs r m q first.stand second.stand }
@@ -104,7 +104,7 @@ number-found low high r x e =
     subst (FoundNumber low high r) (ok_once (n.0, w.0.1) x n.2)
     (record { word = w.0.0; is = lies.is; at_least = lies.at_least; at_most = lies.at_most; reads = next-reads r w.0 w.1 })
 
--- a word stands next, and these behind it
+-- a word stands next, and these after it
 pub record Next (w : Spelled) (ws : Words) (r m : Reading) : Type 0 where
   pub behind : Reading
   pub next : next_word r ≡ Ok (w, behind)
@@ -122,7 +122,7 @@ pub no-more : {r m : Reading} → Reads [] r m → r ≡ m
 unfolding Stand
 no-more h = h.stand
 
--- words, and those behind them
+-- words, and those after them
 pub record Parts (ws vs : Words) (r m : Reading) : Type 0 where
   pub middle : Reading
   pub first : Reads ws r middle

@@ -21,7 +21,7 @@ abbrev pub imm_number : Option ℕ → ℕ
 imm_number None = 0
 imm_number (Some n) = n
 
--- the numbers of registers, and behind them the immediate
+-- the numbers of registers, and after them the immediate
 abbrev pub numbers_given : List (List ℕ) → Option ℕ → List ℕ
 numbers_given registers imm = map num registers ++ imm_number imm ∷ []
 

@@ -38,7 +38,7 @@ counted place done h = if nat_le (instances done + instances_of h.imm) 4096 then
 abbrev pub judged : Header → Operation → Result Entry CatalogFault
 judged h o = as_judged (checked h o) >>= λ r. Ok (record { header = h; operation = o })
 
--- An entry that begins at this place, behind those that are done: its header, from left to right; the number of instances;
+-- An entry that begins at this place, after those that are done: its header, from left to right; the number of instances;
 -- the text of its operation, from left to right; the names in it; and its instances.
 unfoldable pub entry_at : Place → List Entry → Reading → Result (List Entry × Reading) CatalogFault
 entry_at place done r = do
@@ -55,7 +55,7 @@ end_from text (token t rest) done = Err (fault.TooMany t.place)
 end_from text (finish t) done = Ok done
 end_from text (lexemes.fault p) done = Err (if is_in_comment text p then fault.Token p else fault.TooMany p)
 
--- entries behind those that are done up to the end of the file, this many at most
+-- entries after those that are done up to the end of the file, this many at most
 unfoldable pub entries_from : ℕ → List Entry → Reading → Result (List Entry) CatalogFault
 entries_from zero done r = end_from r.text r.left done
 entries_from (suc room) done r = do

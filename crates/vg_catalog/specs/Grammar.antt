@@ -26,11 +26,11 @@ pub record AreLanes (register etype : Spelled) (lanes : Lanes) : Type 0 where
 abbrev pub lanes_of : Param → Lanes
 lanes_of p = record { register = p.register; lane_width = p.lane_width; is_signed = p.is_signed }
 
--- a name that an operand may have behind these parameters: no word of the language, not `dst`, and not theirs
+-- a name that an operand may have after these parameters: no word of the language, not `dst`, and not theirs
 abbrev pub IsOperand : List Param → Spelled → Type 0
 IsOperand before w = IsTrue (is_operand_name before w.bytes)
 
--- `PARAM name width etype`, behind these parameters
+-- `PARAM name width etype`, after these parameters
 pub record IsParam (before : List Param) (words : Words) (p : Param) : Type 0 where
   pub first : Spelled
   pub is_first : Is first (codes "PARAM")
@@ -42,7 +42,7 @@ pub record IsParam (before : List Param) (words : Words) (p : Param) : Type 0 wh
   pub are_lanes : AreLanes register etype (lanes_of p)
   pub whole : words ≡ first ∷ named ∷ register ∷ etype ∷ []
 
--- parameters one behind the other, with names that differ
+-- parameters one after the other, with names that differ
 abbrev pub AreParams : List Param → Words → List Param → Type 0
 AreParams before words [] = words ≡ []
 AreParams before words (p ∷ ps) =
@@ -119,7 +119,7 @@ pub record IsHeader (is_known : List ℕ → Bool) (words : Words) (h : Header) 
   pub closes : IsClosing closing h
   pub whole : words ≡ first ∷ named ∷ (params ++ (imm ++ closing))
 
--- An entry, behind those that are done, between two moments of reading: its header, its operation with its END, no more instances
+-- An entry, after those that are done, between two moments of reading: its header, its operation with its END, no more instances
 -- than 4,096 with those before it, and it is accepted.
 pub record IsEntryText (done : List Entry) (r : Reading) (e : Entry) (q : Reading) : Type 0 where
   pub words : Words
@@ -134,7 +134,7 @@ pub record IsEntryText (done : List Entry) (r : Reading) (e : Entry) (q : Readin
 abbrev pub EndsHere : Reading → Type 0
 EndsHere r = (w : Spelled) × (q : Reading) × (next_word r ≡ Ok (w, q)) × (w.is_end ≡ true)
 
--- entries one behind the other up to the end of the text
+-- entries one after the other up to the end of the text
 abbrev pub AreEntries : List Entry → Reading → List Entry → Type 0
 AreEntries done r [] = EndsHere r
 AreEntries done r (e ∷ es) =

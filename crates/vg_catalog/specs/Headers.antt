@@ -79,7 +79,7 @@ lanes_at r = do
 abbrev pub is_param : List Param → List ℕ → Bool
 is_param params name = list_any (λ p. bytes_eq p.name name) params
 
--- a name that an operand may have behind these parameters
+-- a name that an operand may have after these parameters
 abbrev pub is_operand_name : List Param → List ℕ → Bool
 is_operand_name params name = is_free name && not (bytes_eq name (codes "dst")) && not (is_param params name)
 
@@ -87,7 +87,7 @@ is_operand_name params name = is_free name && not (bytes_eq name (codes "dst")) 
 abbrev pub operand_at : List Param → Reading → Result (Spelled × Reading) CatalogFault
 operand_at params r = next_word r >>= λ w. if is_operand_name params w.0.bytes then Ok w else Err (fault.Header w.0.place)
 
--- a parameter behind PARAM: `name width etype`
+-- a parameter after PARAM: `name width etype`
 unfoldable pub param_at : List Param → Reading → Result (Param × Reading) CatalogFault
 param_at params r = do
   name ← operand_at params r
@@ -102,7 +102,7 @@ param_at params r = do
     lanes.1,
   )
 
--- parameters behind those that are done, this many at most
+-- parameters after those that are done, this many at most
 unfoldable pub params_from : ℕ → List Param → Reading → Result (List Param × Reading) CatalogFault
 params_from zero done r = Ok (done, r)
 params_from (suc room) done r = do
@@ -117,7 +117,7 @@ params_at r = do
   first ← param_at [] word.1
   params_from 3 (first.0 ∷ []) first.1
 
--- an immediate behind IMM: `name lo to hi`
+-- an immediate after IMM: `name lo to hi`
 unfoldable pub range_at : List Param → Reading → Result (ImmRange × Reading) CatalogFault
 range_at params r = do
   name ← operand_at params r
@@ -165,7 +165,7 @@ cost_at r = do
   word ← this_word (codes "COST") r
   number_word 1 1000 word.1
 
--- what stands behind the parameters and the immediate, up to OPERATION
+-- what stands after the parameters and the immediate, up to OPERATION
 unfoldable pub closing_at : Reading → Result (Closing × Reading) CatalogFault
 closing_at r = do
   result ← result_at r

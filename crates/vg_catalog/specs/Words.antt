@@ -16,7 +16,7 @@ use Rattle.vg_catalog.specs.declared.fault.CatalogFault.TheVariants.{Token, Head
 abbrev pub ends_word : List ℕ → Bool
 ends_word rest = length rest == 0 || is_white (slice_index rest 0) || opens_comment rest
 
--- Where the word that goes on up to this byte ends, and the tokens behind it; or the place of a byte, name or number in it
+-- Where the word that goes on up to this byte ends, and the tokens after it; or the place of a byte, name or number in it
 -- that is no token.
 unfoldable pub end_of_word : List ℕ → ℕ → Lexemes → Result (ℕ × Lexemes) CatalogFault
 end_of_word text end (token t rest) = if ends_word (drop end text) then Ok (end, token t rest) else end_of_word text t.end rest

@@ -9,9 +9,11 @@ use std::alloc::{AllocError, Global};
 use vg_pseudo::{Header, ImmRange};
 use vg_range::Checked;
 
-/// Entries in the order in which they stand, with names that differ, as files have them. Contracts
-/// see the list of their headers and operations, `entries_in` of `specs/`; proofs know of it what
-/// `specs/FileEntries.antt` says, by `catalog-entries` of `proofs/Kept.antt`.
+/// The entries of a file, in their order. Each has a header with a name, registers of 128, 256 or
+/// 512 bits, lanes that fill the result, at most four parameters, an immediate of a byte if it has
+/// one, and a cost of at least 1, and an operation that a text can say; no two have one name
+/// (`specs/FileEntries.antt`; in proofs `catalog-entries` of `proofs/Kept.antt`). Contracts see the
+/// list of their headers and operations, `entries_in` of `specs/`.
 #[derive(Drop)]
 pub struct Catalog {
     entries: Vec<Checked>,
@@ -41,7 +43,7 @@ impl Catalog {
     ghost use Rattle.vg_catalog.specs.FileEntries.{IsFileEntry};
     ghost use Rattle.vg_catalog.specs.Written.{AllWritten};
 
-    /// No entry.
+    /// The catalogue of no entry.
     pub(crate) fn new(alloc: Global) -> Catalog
         ensures { entries_in result ≡ [] }
     {
@@ -53,7 +55,8 @@ impl Catalog {
         }
     }
 
-    /// The entries in the order in which they stand, each of which a text can say. Takes no memory.
+    /// The entries in their order. The registers and numbers of each are no larger than a text can
+    /// say. Takes no memory.
     pub fn entries(&self) -> &[Checked]
         ensures entries { map entry_of result.now ≡ entries_in self.now }
         ensures written { AllWritten (map entry_of result.now) }
@@ -89,7 +92,7 @@ impl Catalog {
         self.instances + instances_of(imm) <= 4096
     }
 
-    /// With one entry more.
+    /// The catalogue with this entry after its own. Fails for want of memory alone.
     pub(crate) fn and(self, alloc: Global, checked: Checked) -> Result<Catalog, AllocError>
         requires read { IsFileEntry (entry_of checked) }
         requires fresh { is_known (entries_in self) (name_of (entry_of checked)) ≡ false }

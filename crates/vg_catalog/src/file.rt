@@ -142,7 +142,8 @@ fn read(alloc: Global, text: &[u8]) -> Result<Catalog, CatalogFault>
 /// Entries are judged one after the other, each in these steps: its header, from left to right; the
 /// number of instances; the text of its operation, from left to right; the names in it; its
 /// instances. The first fault is the answer, with its place. `TooLarge` comes exactly where the
-/// file has more than 1,048,576 bytes. `Memory` says nothing of the file.
+/// file has more than 1,048,576 bytes. `Memory` says nothing of the file. Each entry of the
+/// catalogue is accepted.
 pub fn parse_file(alloc: Global, text: &[u8]) -> Result<Catalog, CatalogFault>
     // What the reader answers: the entries in their order, or the first fault and its place.
     ensures exact { Gives entries_in result (file_of text.now) }

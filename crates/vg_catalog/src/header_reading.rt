@@ -28,7 +28,7 @@ pub(crate) struct Closing {
     pub(crate) cost: u32,
 }
 
-/// A width.
+/// The width of a register in bits: 128, 256 or 512; else `Header` at the word.
 fn register(reader: &mut Reader<'_>) -> Result<u32, CatalogFault>
     ensures read { Reads (λ n. n) (left_of reader.new) result (register_at (left_of reader.old)) }
 {

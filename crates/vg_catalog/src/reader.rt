@@ -24,7 +24,7 @@ impl<'a> Reader<'a> {
     ghost use Rattle.vg_catalog.specs.Lexing.{left_of};
     ghost use Rattle.vg_catalog.specs.Words.{end_of_word, next_word, this_word, optional_word, number_word};
 
-    /// At the front of a file.
+    /// At the beginning of a file.
     pub(crate) fn new(text: &'a [u8]) -> Reader<'a>
         requires { length text.now ≤ 2 ^ 31 }
         ensures { left_of result ≡ reading_of text.now }
@@ -100,7 +100,7 @@ impl<'a> Reader<'a> {
         })
     }
 
-    /// This very word.
+    /// The next word, which has to be this one; else a fault at it.
     pub(crate) fn expect(&mut self, text: &[u8]) -> Result<Word<'a>, CatalogFault>
         ensures read { Reads spelled_of (left_of self.new) result
             (this_word text.now (left_of self.old)) }

@@ -23,16 +23,18 @@ use vg_verify::{Verdict, verify};
 pub enum Comparison {
     /// The program means the kernel.
     Same,
-    /// The text of the first thing in which they differ, as `print_difference` writes it.
+    /// The text of the first difference, as `print_difference` writes it; the program may mean the
+    /// kernel all the same.
     Differs(Items<u8>),
 }
 
-/// Whether a program, which may call the instructions of a catalogue, has no difference to a kernel, and the
-/// text of the first one where it has.
+/// Whether a program that keeps the rules, and may call the instructions of a catalogue, has no
+/// difference to a kernel, and the text of the first one where it has.
 ///
-/// Where there is none, it leaves the memory that the kernel leaves and traps where the kernel traps, in each
-/// layout that respects noalias, each call giving what the text of its entry means. Nothing is promised of a
-/// program that differs. Fails for want of memory, also at the bounds of `verify`.
+/// Where there is none, it has the kernel's name and parameters, leaves the memory that the kernel
+/// leaves and traps where the kernel traps, in each layout that respects noalias, each call giving
+/// what the text of its entry means. Nothing is promised of a program that differs. Fails for want
+/// of memory, also at the bounds of `verify`.
 #[tactic(auto, using(crate::proofs::Numbered::told_numbered, crate::proofs::Numbered::means_kernel))]
 pub fn compare(
     alloc: Global,

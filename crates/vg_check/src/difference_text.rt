@@ -40,7 +40,8 @@ fn integer_names(alloc: Global, params: &[Param]) -> Result<Vec<Name>, AllocErro
     Ok(names)
 }
 
-/// The names that stand in terms of values.
+/// The names by which terms of values are printed: those of the pointers and of the integers, each
+/// in the order of the parameters.
 fn names_of(alloc: Global, params: &[Param]) -> Result<Names, AllocError>
     ensures { IfOk result (λ names. names ≡ names_of params.now) }
 {

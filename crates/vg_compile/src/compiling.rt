@@ -20,9 +20,10 @@ use vg_ssa::number_values;
 /// The program of a kernel, which may call the instructions of a catalogue whose extension is in the set.
 ///
 /// It leaves the memory that the kernel leaves and traps where the kernel traps, in each layout that
-/// respects noalias, each call giving what the text of its entry means. It costs at most the kernel's
-/// scalar cost, and is the program of the chosen plan, which `explain` tells of, where the search keeps
-/// `width` plans of each size: 1 to 4,096 on the command line, any number here.
+/// respects noalias, each call giving what the text of its entry means. It states the kernel's
+/// scalar cost, costs at most that and at most what the plain plan costs, and is the program of the
+/// chosen plan, which `explain` tells of, in a legal order, where the search keeps `width` plans of
+/// each size: 1 to 4,096 on the command line, any number here.
 ///
 /// Fails for want of memory, also at the bounds of the code (docs/limits.md): those of `descriptions_of`, and
 /// past 2^24 matches and leaves that they bind, together, or 2^24 packs that the search meets.
@@ -42,9 +43,10 @@ pub fn compile(
     compile_units(alloc, descriptions.as_slice(), &ssa, width)
 }
 
-/// The same with more plans: the program of the plan that `compile` chooses, or of the wide plan that it would
-/// choose if lanes fitted cut terms too, whichever costs less. Each of the two searches keeps `width` plans of
-/// each size. So the program costs at most what `compile` gives for the same.
+/// The same with more plans: the program of the plan that `compile` chooses, where that costs no
+/// more than the wide plan that it would choose if lanes fitted cut terms too, as they are or
+/// turned; else of that wide plan. Each of the two searches keeps `width` plans of each size. So
+/// the program costs at most what `compile` gives for the same.
 ///
 /// Fails for want of memory, also at the bounds of `compile`.
 pub fn compile_more(

@@ -21,7 +21,7 @@ use vg_plan_text::{Costs, print_plan};
 use vg_shapes::{Description, Ssa};
 use vg_ssa::number_values;
 
-/// The lines on the plan of a kernel, where the plain plan costs so much.
+/// The lines on a plan of a kernel: its packs, and what it, the plain plan and the kernel cost.
 fn lines_on(
     alloc: Global,
     kernel: &Kernel,
@@ -73,8 +73,9 @@ pub fn explain(
     lines_on(alloc, kernel, described, &ssa, &planned, planned.plain)
 }
 
-/// The lines on the plan of a kernel that `compile_more` emits: the cost of the plain plan is that which
-/// `explain` tells. Fails for want of memory, also at the bounds of `compile`.
+/// The lines on the plan of a kernel that `compile_more` emits: the cost of the plain plan, in
+/// which lanes fit whole alone, is that which `explain` tells. Fails for want of memory, also at
+/// the bounds of `compile`.
 pub fn explain_more(
     alloc: Global,
     catalog: &Catalog,

@@ -16,13 +16,15 @@ pub fn more_plans_cost_no_more()
     ensures { MorePlansCostNoMore }
 {}
 
-/// A law: two chosen plans of a kernel are one, and so are two chosen wide plans.
+/// A law: two chosen plans of a kernel have the same matches and packs and cost the same, and so
+/// have two chosen wide plans.
 pub fn there_is_one_plan()
     ensures { OneChosenPlan }
 {}
 
-/// A law: two programs that are compiled of a kernel by the same entries, both with more plans or both without,
-/// cost the same, and one with more plans costs at most what one without costs.
+/// A law: two programs that are compiled of a kernel by the same entries, set of extensions and
+/// width, both with more plans or both without, cost the same, and one with more plans costs at
+/// most what one without costs.
 pub fn compile_more_costs_no_more()
     ensures { CompileMoreCostsNoMore }
 {}

@@ -77,8 +77,9 @@ pub struct Chosen {
 /// kernel of more than 256 loads, operations and stores is not searched, and gets the cheaper of the plain
 /// and the empty plan.
 ///
-/// It is the plan that `compile` emits. The descriptions are true of the instances that they are of. Fails
-/// for want of memory, also at the bounds of `compile`.
+/// It is the plan that `compile` emits, since there is one (`there_is_one_plan`). The descriptions
+/// are true of the instances that they are of. Fails for want of memory, also at the bounds of
+/// `compile`.
 pub fn plan_of(
     alloc: Global,
     catalog: &Catalog,

@@ -13,9 +13,13 @@ use std::alloc::{AllocError, Global};
 use vg_program::Program;
 use vg_shapes::{Description, Ssa};
 
-/// A program for a kernel by the descriptions of instances that it may call: that of the chosen plan, where
-/// the search keeps `width` plans of each size, any number. Fails for want of memory, also past 2^24
-/// descriptions, 2^24 matches and leaves that they bind, together, or 2^24 packs that the search meets.
+/// A program for numbered values by the descriptions of instances that it may call: that of the
+/// chosen plan, where the search keeps `width` plans of each size, any number. Where the
+/// descriptions are true it leaves the memory that the units leave, or traps where they do; it
+/// costs at most a line for each unit.
+///
+/// Fails for want of memory, also past 2^24 descriptions, past 2^24 matches and leaves that they
+/// bind, together, or past 2^24 packs that the search meets.
 pub fn compile_units(
     alloc: Global,
     descriptions: &[Description],

@@ -1,4 +1,4 @@
--- What a pack behind a plan changes of what is known of the plan.
+-- What a pack after a plan changes of what is known of the plan.
 use Rattle.std.proofs.Common.{◌≡◌, ℕ, ◌+◌, Bool, true, false, List, [], ◌∷◌, ◌++◌, length, map, refl, sym, ◌∙◌, ap, arith, inl, inr, append-nil, append_assoc, subst}
 use Rattle.std.specs.Prelude.{◌||◌, nat_lt, replicate, if◌then◌else◌}
 use Rattle.std.specs.List.{AllByRecursion, flat_map, list_any, sum_by}

@@ -1,4 +1,4 @@
--- The costs of the shuffles that can be had, one list behind another, and what they tell of a recipe.
+-- The costs of the shuffles that can be had, one list after another, and what they tell of a recipe.
 use Rattle.std.proofs.Common.{sym, ◌≡◌, ℕ, ◌+◌, ◌<◌, ◌≤◌, true, false, List, [], ◌∷◌, ◌++◌, length, refl, ◌∙◌, ap, arith, inl, inr, subst}
 use Rattle.std.specs.Prelude.{min}
 use Rattle.std.specs.List.{list_any}

@@ -94,7 +94,7 @@ or-turn true true c = refl
 or-turn true false c = refl
 or-turn false b c = refl
 
--- what one of a list or the one behind it passes
+-- what one of a list or the one after it passes
 pub any_behind : {X : Type 0} (test : X → Bool) (xs : List X) (x : X)
     → test x || list_any test xs ≡ list_any test (xs ++ x ∷ [])
 any_behind test [] x = refl
@@ -111,7 +111,7 @@ or-flip true false = refl
 or-flip false true = refl
 or-flip false false = refl
 
--- the marks of a plan and of a pack behind it
+-- the marks of a plan and of a pack after it
 pub marked_longer : (count : ℕ) (plan : List Packed) (p : Packed) (marks longer : List Bool)
     → Has count (flat_map units_of plan) marks → Marked (units_of p) marks longer
     → Has count (flat_map units_of (plan ++ p ∷ [])) longer

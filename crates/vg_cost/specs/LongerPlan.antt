@@ -1,4 +1,4 @@
--- A plan with a pack behind it.
+-- A plan with a pack after it.
 use Rattle.std.specs.Prelude.{List, [], ◌∷◌, ◌++◌, length, map}
 use Rattle.vg_shapes.specs.declared.pack.Pack.{Pack as Packed}
 use Rattle.vg_shapes.specs.Description.{Description, description_of}

@@ -1,4 +1,4 @@
--- Room in which packs are tried behind a plan.
+-- Room in which packs are tried after a plan.
 use Rattle.std.specs.Prelude.{◌+◌, Bool, length, List}
 use Rattle.std.specs.List.{flat_map}
 use Rattle.vg_shapes.specs.declared.pack.Pack.{Pack as Packed}

@@ -1,4 +1,4 @@
--- Marks of a pack that is tried behind a plan.
+-- Marks of a pack that is tried after a plan.
 use Rattle.std.specs.Prelude.{◌≡◌, ℕ, length}
 use Rattle.vg_cost.specs.declared.tried.Tried.{Tried}
 

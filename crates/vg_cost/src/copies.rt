@@ -1,4 +1,4 @@
-//! Packs with one after them, and operands, a second time.
+//! Copies of packs with one after them, and of operands.
 
 ghost use Rattle.std.specs.Prelude.{◌≡◌, ◌++◌, ◌∷◌, [], IfOk};
 
@@ -7,7 +7,7 @@ use vg_base::Items;
 use vg_packing::copies::{copy_pack, copy_packs};
 use vg_shapes::{Operand, Pack};
 
-/// The same packs a second time, with one after them. Fails only for want of memory.
+/// A copy of packs with one after them. Fails only for want of memory.
 pub(crate) fn longer(alloc: Global, packs: &[Pack], pack: &Pack) -> Result<Vec<Pack>, AllocError>
     ensures { IfOk result (λ copies. copies.items ≡ packs.now ++ pack.now ∷ []) }
 {
@@ -16,7 +16,7 @@ pub(crate) fn longer(alloc: Global, packs: &[Pack], pack: &Pack) -> Result<Vec<P
     Ok(copies)
 }
 
-/// The same operand a second time. Fails only for want of memory.
+/// A copy of the operand. Fails only for want of memory.
 pub(crate) fn copy_operand(alloc: Global, operand: &Operand) -> Result<Operand, AllocError>
     ensures { IfOk result (λ o. o ≡ operand.now) }
 {

@@ -13,7 +13,7 @@ pub(crate) struct LongerPlan<'a, 'm> {
     pub(crate) packs: &'a [Pack],
     /// The pack after it.
     pub(crate) last: &'a Pack,
-    /// The marks of the units of all of them.
+    /// The marks of the units of all these packs, by the number of the unit.
     pub(crate) marks: &'m [bool],
     /// The marks of the units of the pack after it.
     pub(crate) own: &'m [bool],

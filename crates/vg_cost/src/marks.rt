@@ -32,7 +32,7 @@ pub(crate) fn mark(marks: &mut [bool], number: u32)
     marks[number as usize] = true;
 }
 
-/// Marks numbers.
+/// Marks numbers, but for those past all marks.
 pub(crate) fn mark_all(marks: &mut [bool], numbers: &[u32])
     ensures { Marked numbers.now marks.old marks.new }
 {

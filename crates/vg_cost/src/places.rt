@@ -132,7 +132,7 @@ fn may_stand(marks: &[bool], wanted: Wanted, low: u64) -> bool
     }
 }
 
-/// The number of a bit.
+/// The number of a bit, where one before bit 0 counts as bit 0.
 fn bit_of(bit: i64) -> u64
     ensures { result ≡ bit_number bit }
 {

@@ -255,7 +255,7 @@ impl Running {
         Ok(recipes)
     }
 
-    /// What the plan costs.
+    /// What the plan costs, as `plan_cost` counts it.
     pub fn cost(&self) -> u64
         ensures { result ≡ self.now.cost }
     {

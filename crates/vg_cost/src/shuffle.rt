@@ -16,8 +16,8 @@ use vg_packing::wants::{wanted_slots, wants_value};
 use vg_shapes::{Description, Operand, Slot};
 use vg_terms::Term;
 
-/// A shuffle that can make an operand: what its call costs, and what the pack given to each
-/// parameter in use has to hold.
+/// A shuffle that can make an operand: what its call costs, from 1 to 1,000, and what the pack
+/// given to each parameter in use has to hold.
 #[derive(Drop)]
 pub struct Shuffle {
     pub cost: u32,
@@ -186,8 +186,9 @@ pub fn parts_of(
     Ok(parts)
 }
 
-/// The shuffle of an instance that can make an operand, if there is one. It costs no more than
-/// inserts do.
+/// How an instance makes an operand as a shuffle. None where it cannot: where it is no shuffle, has
+/// a register of another width or other lanes, or costs more than inserts do. Fails for want of
+/// memory alone.
 pub fn shuffle_of(
     alloc: Global,
     operand: &Operand,

@@ -14,7 +14,7 @@ use vg_terms::Term;
 /// Which descriptions are shuffles.
 #[derive(Drop)]
 pub(crate) struct Shuffles {
-    /// Their numbers, rising.
+    /// Their indices among the descriptions, rising.
     pub(crate) numbers: Vec<usize>,
     /// Whether the lanes of all of them are of parameters that they have.
     pub(crate) are_tight: bool,
@@ -82,7 +82,7 @@ fn shuffle_numbers(alloc: Global, descriptions: &[Description]) -> Result<Vec<us
 }
 
 impl Shuffles {
-    /// Those of these descriptions.
+    /// The shuffles among descriptions, by their indices. Fails for want of memory alone.
     pub(crate) fn new(alloc: Global, descriptions: &[Description]) -> Result<Shuffles, AllocError>
         ensures { IfOk result (AreShuffles (map description_of descriptions.now)) }
     {
@@ -92,7 +92,7 @@ impl Shuffles {
         })
     }
 
-    /// The same a second time.
+    /// A copy. Fails for want of memory alone.
     pub(crate) fn copy(&self, alloc: Global) -> Result<Shuffles, AllocError>
         ensures numbers { IfOk result (λ s. s.numbers.items ≡ self.now.numbers.items) }
         ensures tight { IfOk result (λ s. s.are_tight ≡ self.now.are_tight) }

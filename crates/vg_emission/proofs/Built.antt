@@ -115,7 +115,7 @@ pub long-built : (j : Job) (d : Draft) (order : List Node) → length (last_draf
 long-built j d [] = refl
 long-built j d (n ∷ ns) = long-built j (node_lines j d n).draft ns ∙ (node-built j d n).long
 
--- an operand that a pack of the order takes stands in a register behind it
+-- an operand that a pack of the order takes stands in a register after it
 pub order-builds : (j : Job) (d : Draft) (order : List Node) (k o : ℕ) → o < length d.built → Has (PackAt k) order → Has o (takes_at j k) → Found (last_draft j d order).built o
 order-builds j d [] k o low has takes = absurd has
 order-builds j d (n ∷ ns) k o low (inl e) takes =

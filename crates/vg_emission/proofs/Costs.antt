@@ -210,7 +210,7 @@ abbrev pub nodes_cost : Job → List Node → ℕ
 nodes_cost j [] = 0
 nodes_cost j (n ∷ ns) = node_cost j n + nodes_cost j ns
 
--- the draft behind all nodes
+-- the draft after all nodes
 abbrev pub last_draft : Job → Draft → List Node → Draft
 last_draft j d [] = d
 last_draft j d (n ∷ ns) = last_draft j (node_lines j d n).draft ns

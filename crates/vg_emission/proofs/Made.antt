@@ -130,7 +130,7 @@ filter-all : (vs : List ℕ) → filter (λ v. not (is_packed [] v)) vs ≡ vs
 filter-all [] = refl
 filter-all (v ∷ vs) = ap (λ l. v ∷ l) (filter-all vs)
 
--- behind the units below a number the others may stand by rising number
+-- after the units below a number the others may stand by rising number
 numbers-follow : (ssa : Ssa) (matches : List Match) (first n : ℕ) (done : List Node) → ((y : ℕ) → arguments ssa ≤ y → y < first → In y (all_units (units_at []) done)) → Follows (node_depends ssa matches []) (units_at []) done (map UnitAt (numbers_from first n))
 numbers-follow ssa matches first zero done before = tt
 numbers-follow ssa matches first (suc n) done before = (

@@ -35,7 +35,7 @@ use Rattle.vg_emission.proofs.PlanPrices.{inserted-member, needed-all, outside-p
 use Rattle.vg_emission.proofs.Standing.{packed-outside}
 use Rattle.vg_emission.proofs.Totals.{falling-total, scalars-total, total, total-append, total-counted, total-flat, total-sum, unit_price}
 
--- what is needed behind all units has values
+-- what is needed after all units has values
 last-valued : (ds : List Description) (matches : List Match) (ssa : Ssa) (packs : List Packed) (recipes : List Recipe) → IsPlanned (job_of ds matches ssa packs recipes) → (x : ℕ) → Rattle.vg_shapes.specs.Order.Stands x (needed_behind ssa packs (all_inserted recipes (operands_in ds matches ssa packs)) (falling_units ssa)) → UnitValued ssa x
 last-valued ds matches ssa packs recipes planned x h =
     let os = operands_in ds matches ssa packs in

@@ -281,7 +281,7 @@ RecipeNeeds j o recipe.Inserts = SlotsNeeded j (wanted_values o) (value_slots o)
 abbrev pub OperandNeeds : Job → ℕ → Type 0
 OperandNeeds j o = RecipeNeeds j (operand_at j o) (recipe_at j o)
 
--- the units of this list are behind, where they are wanted: those with values
+-- the units of this list are after, where they are wanted: those with values
 abbrev pub Behind : Job → List Node → List ℕ → Type 0
 Behind j done wants = (x : ℕ) → Valued (unit_at j.ssa x) → In x wants → In x (all_units (node_units j) done)
 

@@ -108,7 +108,7 @@ typed-held j d b k w h e = record {
   built = λ n r g. get-more b.vectors (w ∷ []) r _ (h.built n r g);
 }
 
--- The lines keep the rules where those behind them do, and lead to these widths. No register is lost.
+-- The lines keep the rules where those after them do, and lead to these widths. No register is lost.
 pub record Types (j : Job) (b : Before) (ls : List Line) (d : Draft) (after : Before) : Type 0 where
   pub fit : (rest : List Line) → AreLines after rest → AreLines b (ls ++ rest)
   pub typed : Typed j d after

@@ -65,7 +65,7 @@ with_built d o r = record {
   built = slice_set d.built o (Some r);
 }
 
--- lines, and what is known behind them
+-- lines, and what is known after them
 pub record Made : Type 0 where
   pub lines : List Line
   pub draft : Draft

@@ -102,7 +102,7 @@ address_of (Some (Load a w)) = a
 address_of (Some (Store a w x)) = a
 address_of (Some (Operation op w k xs)) = record { pointer = 0; offset = pos 0 }
 
--- where the first of units that stand beside each other in memory begins
+-- where the first of units that are consecutive in memory begins
 abbrev pub first_address : Ssa → List ℕ → Address
 first_address ssa [] = record { pointer = 0; offset = pos 0 }
 first_address ssa (v ∷ vs) = address_of (unit_at ssa v)
@@ -154,7 +154,7 @@ call_of e registers = line.Call e.name registers e.imm e.register e.cost
 
 -- ---- operands
 
--- lines, what is known behind them, and the register in which an operand is then
+-- lines, what is known after them, and the register in which an operand is then
 pub record Placed : Type 0 where
   pub lines : List Line
   pub draft : Draft
@@ -198,7 +198,7 @@ place_once j d o None = place j d o (recipe_at j o)
 abbrev pub build : Job → Draft → ℕ → Placed
 build j d o = place_once j d o (found d.built o)
 
--- the same of several, one behind the other
+-- the same of several, one after the other
 pub record AllPlaced : Type 0 where
   pub lines : List Line
   pub draft : Draft
@@ -256,7 +256,7 @@ with_pack d k (Stores us) = d
 with_pack d k (Loads us) = with_held d k
 with_pack d k (Call e lanes) = with_held d k
 
--- the operands, the line, and behind it what is taken out of its register
+-- the operands, the line, and after it what is taken out of its register
 abbrev pub pack_lines : Job → Draft → ℕ → Packed → Made
 pack_lines j d k p =
     let operands = build_all j d (takes_at j k) in

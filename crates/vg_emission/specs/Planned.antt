@@ -21,7 +21,7 @@ use Rattle.vg_emission.specs.Emission.{Job, operand_at, pack_at, recipe_at}
 abbrev pub IsLaneWidth : ℕ → Type 0
 IsLaneWidth n = IsTrue (list_any (nat_eq n) (8 ∷ 16 ∷ 32 ∷ 64 ∷ []))
 
--- a store group, loads that stand beside each other, or a call of a description
+-- a store group, consecutive loads, or a call of a description
 abbrev pub IsPack : List Description → Ssa → Packed → Type 0
 IsPack ds ssa (Stores us) = IsStoreGroup ssa us
 IsPack ds ssa (Loads us) = IsLoadPack ssa us

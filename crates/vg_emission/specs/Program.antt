@@ -69,7 +69,7 @@ abbrev pub is_scalar : Ssa → List Packed → List ℕ → ℕ → Bool
 is_scalar ssa packs needed v =
     not (is_packed packs v) && (is_some (access_at ssa v) || is_in v needed)
 
--- what is needed behind units by falling number: what is needed before, and what units use that are
+-- what is needed after units by falling number: what is needed before, and what units use that are
 -- emitted as scalars
 abbrev pub needed_behind : Ssa → List Packed → List ℕ → List ℕ → List ℕ
 needed_behind ssa packs needed [] = needed

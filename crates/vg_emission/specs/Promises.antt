@@ -50,7 +50,7 @@ pub record Fills (numbers : ℕ → ℕ) (o : Operand) (register : List ℕ) : T
   pub bits : IsBits register
   pub slots : AllByRecursion (SlotHas numbers register) o.slots
 
--- a register with the numbers of values put into their slots, one behind the other
+-- a register with the numbers of values put into their slots, one after the other
 abbrev pub inserted : (ℕ → ℕ) → List Slot → List ℕ → List ℕ
 inserted numbers [] register = register
 inserted numbers (s ∷ ss) register =

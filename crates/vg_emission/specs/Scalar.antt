@@ -36,7 +36,7 @@ abbrev pub argument_names : ℕ → ℕ → List Number
 argument_names k zero = []
 argument_names k (suc n) = Argument k ∷ argument_names (k + 1) n
 
--- The lines of units behind lines that gave so many scalars. Nothing stands for the value of a store or
+-- The lines of units after lines that gave so many scalars. Nothing stands for the value of a store or
 -- of an operation that is not needed; the first register is named in its place.
 abbrev pub scalar_lines : (ℕ → Bool) → ℕ → List Number → List Work → List Line
 scalar_lines needed k names [] = []

@@ -17,7 +17,7 @@ use Rattle.vg_emit.specs.Placing.{put_in, put_inserts}
 abbrev valued : List Slot → List Slot
 valued ss = filter (λ s. wants_value s.wanted) ss
 
--- so many registers behind a draft, of which the last is a register of constants or the line before
+-- so many registers after a draft, of which the last is a register of constants or the line before
 abbrev all_in : Job → Draft → ℕ → ℕ → List Slot → Placed
 all_in j d n bits ss = record {
   lines = inserts j d bits (d.vectors + n) (valued ss);

@@ -1,4 +1,4 @@
--- Values put into a register, one behind the other.
+-- Values put into a register, one after the other.
 use Rattle.std.specs.Prelude.{ℕ, ◌/◌, List, [], ◌∷◌, ◌++◌}
 use Rattle.vg_program.specs.declared.line.Line.TheVariants as line
 use Rattle.vg_shapes.specs.declared.operand.Operand.{Operand}

@@ -12,7 +12,7 @@ use Rattle.vg_emit.specs.declared.draft.Draft as code
 use Rattle.vg_emit.specs.declared.job.Job as code_job
 use Rattle.vg_emit.specs.Marks.{is_marked}
 
--- what is known behind the lines of a draft
+-- what is known after the lines of a draft
 abbrev pub known : code.Draft → Draft
 known d = record {
   scalars = d.scalars;
@@ -26,11 +26,11 @@ known d = record {
 abbrev pub made_of : code.Draft → Made
 made_of d = record { lines = d.lines.items; draft = known d }
 
--- lines behind others, and what is known behind them
+-- lines after others, and what is known after them
 abbrev pub behind : Made → Made → Made
 behind m n = record { lines = m.lines ++ n.lines; draft = n.draft }
 
--- lines of an operand behind others
+-- lines of an operand after others
 abbrev pub placed_behind : Made → Placed → Placed
 placed_behind m p = record { lines = m.lines ++ p.lines; draft = p.draft; register = p.register }
 

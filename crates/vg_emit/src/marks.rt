@@ -1,4 +1,4 @@
-//! Marks on numbers.
+//! Marks on the numbers of values and units.
 
 ghost use Rattle.std.specs.Prelude.{◌≡◌, ◌∷◌, [], IfOk, false, flat_map, replicate, slice_set, true};
 ghost use Rattle.std.specs.List.{filter_map};
@@ -54,7 +54,7 @@ impl Marks {
         }
     }
 
-    /// Marks numbers.
+    /// Marks all these numbers.
     pub(crate) fn mark_all(&mut self, numbers: &[u32])
         ensures { self.new ≡ marked self.old numbers.now }
     {

@@ -54,7 +54,7 @@ fn nowhere() -> Address
     }
 }
 
-/// Where the first of units that stand beside each other in memory begins.
+/// Where the first of units that are consecutive in memory begins.
 fn first_address(ssa: &Ssa, units: &[u32]) -> Address
     ensures { result ≡ first_address ssa.now units.now }
 {
@@ -64,7 +64,7 @@ fn first_address(ssa: &Ssa, units: &[u32]) -> Address
     }
 }
 
-/// How many bytes units have together that stand beside each other in memory.
+/// How many bytes units that are consecutive in memory have together.
 fn joint_size(ssa: &Ssa, units: &[u32]) -> VectorSize
     ensures { result ≡ joint_size ssa.now units.now }
 {
@@ -72,7 +72,7 @@ fn joint_size(ssa: &Ssa, units: &[u32]) -> VectorSize
     size_for(units.len() as u128 * width / 8)
 }
 
-/// The line that stores a register to where units stand beside each other.
+/// The line that stores a register to where consecutive units stand.
 fn store_line(ssa: &Ssa, units: &[u32], registers: &[u32]) -> Line
     ensures { result ≡ Line.VectorStore (joint_size ssa.now units.now)
         (first_address ssa.now units.now) (slice_index registers.now 0) }

@@ -52,7 +52,7 @@ fn params_of(alloc: Global, params: &[SsaParam]) -> Result<Vec<Param>, AllocErro
     Ok(all)
 }
 
-/// Nothing is emitted yet.
+/// The draft before the first line.
 fn begin(alloc: Global, job: &Job) -> Result<Draft, AllocError>
     requires { IsSound (job_of job.now).ssa }
     ensures { IfOk result (λ d. made_of d ≡ record { lines = []; draft = begin (job_of job.now) }) }

@@ -1,4 +1,4 @@
--- Immediates one behind the other.
+-- Immediates one after the other.
 use Rattle.std.proofs.Common.{◌≡◌, ℕ, zero, suc, ◌+◌, ◌-◌, ◌<◌, ◌≤◌, List, [], ◌∷◌, ◌++◌, true, refl, sym, ◌∙◌, ap, subst, arith}
 use Rattle.std.specs.Prelude.{Option, Some, None, nat_le, ◌&&◌}
 use Rattle.std.specs.List.{flat_map}

@@ -67,7 +67,7 @@ steps-in_order places ls byte es once order m =
 
 -- ---- lines
 
--- the numbers that stand behind another have no lesser mark
+-- the numbers that stand after another have no lesser mark
 abbrev Falls : (ℕ → ℕ) → List ℕ → Type 0
 Falls f [] = Unit {0}
 Falls f (y ∷ ys) = ((x : ℕ) → Stands x ys → f y ≤ f x) × Falls f ys

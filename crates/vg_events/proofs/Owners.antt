@@ -17,7 +17,7 @@ use Rattle.vg_events.specs.UnitOrder.{spans, unit_events}
 use Rattle.vg_order_laws.proofs.Sequences.{count_of-earlier}
 use Rattle.vg_events.proofs.Ranks.{length-labels, number-inside, numbers-inside}
 
--- so many bytes behind an address
+-- so many bytes after an address
 abbrev pub moved : Address → ℕ → Address
 moved a i = record { pointer = a.pointer; offset = a.offset +ℤ pos i }
 

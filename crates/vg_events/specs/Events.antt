@@ -28,7 +28,7 @@ abbrev pub labels_in : Option Access → List Label
 labels_in None = []
 labels_in (Some x) = labels_of x
 
--- of units or lines, one behind the other
+-- of units or lines, one after the other
 abbrev pub labels : List (Option Access) → List Label
 labels [] = []
 labels (x ∷ xs) = labels_in x ++ labels xs

@@ -28,7 +28,7 @@ Meet places ls x y =
     ((label_at ls x).writes || (label_at ls y).writes ≡ true)
     × (label_place places (label_at ls x) ≡ label_place places (label_at ls y))
 
--- no event stands behind a greater one that it meets
+-- no event stands after a greater one that it meets
 abbrev pub InOrder : List ℕ → List Label → List ℕ → Type 0
 InOrder places ls [] = Unit {0}
 InOrder places ls (y ∷ ys) =

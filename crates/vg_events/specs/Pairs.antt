@@ -5,7 +5,7 @@ use Rattle.vg_shapes.specs.declared.access.Access.{Access}
 use Rattle.vg_shapes.specs.Order.{count_of, numbers_from}
 use Rattle.vg_events.specs.Events.{Label, label_at, next}
 
--- lists one behind the other
+-- lists one after the other
 abbrev pub joined : List (List ℕ) → List ℕ
 joined [] = []
 joined (l ∷ ls) = l ++ joined ls

@@ -32,7 +32,7 @@ event_at l zero (x ∷ xs) = if same_label l x then 0 else suc (event_at l zero 
 event_at l (suc k) (x ∷ xs) =
     if same_label l x then suc (event_at l k xs) else suc (event_at l (suc k) xs)
 
--- the numbers of the events with these labels, behind those that are done
+-- the numbers of the events with these labels, after those that are done
 abbrev pub paired : List Label → List Label → List Label → List ℕ
 paired ls done [] = []
 paired ls done (m ∷ ms) = event_at m (count_label m done) ls ∷ paired ls (done ++ m ∷ []) ms

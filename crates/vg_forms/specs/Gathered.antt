@@ -22,7 +22,7 @@ abbrev pub longer_by : Run → ℕ → Run
 longer_by (Zeros n) m = Zeros (n + m)
 longer_by (Bits t k n) m = Bits t k (n + m)
 
--- a run and those behind it, as few as there can be
+-- a run and those after it, as few as there can be
 abbrev pub merged_on : Run → List Run → List Run
 merged_on r [] = r ∷ []
 merged_on r (q ∷ qs) =

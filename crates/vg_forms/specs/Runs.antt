@@ -15,7 +15,7 @@ abbrev pub run_size : Run → ℕ
 run_size (Zeros n) = n
 run_size (Bits t k n) = n
 
--- the bits of runs, one behind the other
+-- the bits of runs, one after the other
 abbrev pub bits_in : List Run → List Bit
 bits_in [] = []
 bits_in (r ∷ rs) = run_bits r ++ bits_in rs

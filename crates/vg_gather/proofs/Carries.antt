@@ -10,7 +10,7 @@ use Rattle.vg_shapes.specs.declared.wanted.Wanted.TheVariants.{Constant}
 use Rattle.vg_emission.specs.Emission.{constant_of, constants_of}
 use Rattle.vg_gather.specs.Adding.{Adds, added}
 
--- ---- a number in a byte, and what is behind it
+-- ---- a number in a byte, and what is after it
 
 low : (a q : ℕ) → (a + 256 * q) % 256 ≡ a % 256
 low a q = omega arith

@@ -85,7 +85,7 @@ inserted-beside ssa numbers n low (s ∷ ss) register at k all e below =
     beside-first numbers n s.low s.width s.wanted ss register at k (all.1).inside e (omega arith)
     (λ r h. inserted-beside ssa numbers n (s.low + s.width) ss r at k all.2 h (omega arith))
 
--- ---- constants that stand behind what is put
+-- ---- constants that stand after what is put
 
 abbrev HasStill : List ℕ → Slot → Type 0
 HasStill register s = IsStill s.wanted (got s.low s.width register)

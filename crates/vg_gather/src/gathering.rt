@@ -61,7 +61,8 @@ pub fn build_operand(
     build_shuffle(alloc, operand, packs, descriptions, ssa)
 }
 
-/// The recipes of operands, in their order.
+/// The recipes of operands beside the packs of a plan, in the order of the operands. Fails as
+/// `build_operand` does.
 pub fn recipes_of(
     alloc: Global,
     operands: &[Operand],

@@ -53,7 +53,7 @@ covered (Some r) x = record { low = min-second r.low x.address.offset; high = ma
 on : (r s t : Reach) → Widens r s → Widens s t → Widens r t
 on r s t a b = record { low = z-trans t.low s.low r.low b.low a.low; high = z-trans r.high s.high t.high a.high b.high; writes = λ h. b.writes (a.writes h) }
 
--- behind some accesses more is reached
+-- after some accesses more is reached
 grown : (p : ℕ) (r : Reach) (xs : List Access) → (s : Reach) × (reach_behind p (Some r) xs ≡ Some s) × Widens r s
 unfolding reach_behind
 grown p r [] = (r, refl, stays r)
@@ -78,7 +78,7 @@ reaches p r (y ∷ xs) x (zero, below, e) own =
     (more.0, ap (λ o. reach_behind p o xs) (cond-true _ _ _ here) ∙ more.1, keeps-cover (wider r y) more.0 x (subst (Covers (wider r y)) e (covered r y)) more.2)
 reaches p r (y ∷ xs) x (suc k, below, e) own = reaches p (reach_with p r y) xs x (k, (omega (arith, below)), e) own
 
--- accesses one behind the other
+-- accesses one after the other
 pub reach_behind_append : (p : ℕ) (r : Option Reach) (xs ys : List Access) → reach_behind p r (xs ++ ys) ≡ reach_behind p (reach_behind p r xs) ys
 unfolding reach_behind
 reach_behind_append p r [] ys = refl

@@ -1,4 +1,4 @@
--- The order of checks: what the reader asks of each behind the one before is that their pairs rise.
+-- The order of checks: what the reader asks of each after the one before is that their pairs rise.
 use Rattle.std.proofs.Common.{◌≡◌, ℕ, zero, suc, ◌+◌, ◌<◌, ◌≤◌, max, Bool, true, false, cond, List, [], ◌∷◌, refl, ◌⊎◌, inl, inr, arith}
 use Rattle.std.specs.Prelude.{nat_lt}
 use Rattle.std.specs.List.{AllByRecursion}
@@ -10,7 +10,7 @@ use Rattle.vg_guard.specs.Rules.{IsCheck, IsBehind, AreRising, AreChecks}
 abbrev pub Pair : Type 0
 Pair = ℕ × ℕ
 
--- a check that may be read behind one with these pointers
+-- a check that may be read after one with these pointers
 pub record IsNext (last : Pair) (c : Check) : Type 0 where
   pub begins : last.0 ≤ c.first
   pub follows : least_second last c.first ≤ c.second
@@ -20,7 +20,7 @@ pub record MayStand (n : ℕ) (last : Pair) (c : Check) : Type 0 where
   pub is : IsCheck n c
   pub next : IsNext last c
 
--- each behind the one before
+-- each after the one before
 abbrev pub MayAllStand : ℕ → Pair → List Check → Type 0
 MayAllStand n last [] = Unit {0}
 MayAllStand n last (c ∷ cs) = MayStand n last c × MayAllStand n (pair_of c) cs
@@ -89,7 +89,7 @@ rises n last (c ∷ cs) may =
     let more = rises n (pair_of c) cs may.1 in
     record { each = (may.0.is, more.each); rising = (all-behind n (pair_of c) cs may.1, more.rising) }
 
--- behind a check
+-- after a check
 stand-on : (n : ℕ) (b : Check) (cs : List Check) → AllByRecursion (IsBehind b) cs → AllByRecursion (IsCheck n) cs → AreRising cs → MayAllStand n (pair_of b) cs
 stand-on n b [] low each rising = tt
 stand-on n b (c ∷ cs) low each rising =

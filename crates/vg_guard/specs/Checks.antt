@@ -40,7 +40,7 @@ unfoldable pub numbers_from : ℕ → ℕ → List ℕ
 numbers_from first zero = []
 numbers_from first (suc n) = first ∷ numbers_from (first + 1) n
 
--- of a pointer with each behind it, where there are n
+-- of a pointer with each after it, where there are n
 abbrev pub checks_with : Tree → ℕ → ℕ → List Check
 checks_with k n p = filter_map (check_of k p) (numbers_from (p + 1) (n - (p + 1)))
 

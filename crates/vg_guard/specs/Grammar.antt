@@ -31,7 +31,7 @@ pointer_at params text = do
   pointer ← judged text (pointer_of (named_in 0 0 params name.0))
   Ok (pointer, name.1)
 
--- `+0 8` behind this pointer
+-- `+0 8` after this pointer
 unfoldable pub reach_at : ℕ → List ℕ → Read Span
 reach_at pointer text = do
   offset ← offset_at text
@@ -48,7 +48,7 @@ span_at params least text = do
 
 -- ---- checks
 
--- the least second pointer behind this first one, where these are the pointers of the check before
+-- the least second pointer after this first one, where these are the pointers of the check before
 abbrev pub least_second : ℕ × ℕ → ℕ → ℕ
 least_second last p = (if nat_lt last.0 p then p else max p last.1) + 1
 
@@ -80,7 +80,7 @@ check_at params last text = do
 abbrev pub pair_of : Check → ℕ × ℕ
 pair_of c = (c.first, c.second)
 
--- checks behind these, with room for so many more, up to the word `then`
+-- checks after these, with room for so many more, up to the word `then`
 unfoldable pub checks_at : ℕ → List Param → List Check → ℕ × ℕ → List ℕ
     → Read (List Check)
 checks_at zero params done last text =

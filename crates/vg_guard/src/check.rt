@@ -14,7 +14,7 @@ pub struct Check {
     pub first_len: u64,
     /// The number of a pointer after the first.
     pub second: u32,
-    /// The same two of the second.
+    /// The offset of the first byte of its range, and how many bytes that has.
     pub second_low: i64,
     pub second_len: u64,
 }
@@ -29,14 +29,14 @@ fn place_of(places: &[u64], pointer: u32) -> u64
     }
 }
 
-/// Where a range begins.
+/// Where a range begins: at so many bytes after the place of its pointer, exactly.
 fn begin_of(places: &[u64], pointer: u32, low: i64) -> i128
     ensures { result ≡ begin_of places.now pointer low }
 {
     place_of(places, pointer) as i128 + low as i128
 }
 
-/// Where a range ends.
+/// Where a range ends: at the place after its last byte, exactly.
 fn end_of(places: &[u64], pointer: u32, low: i64, len: u64) -> i128
     ensures { result ≡ begin_of places.now pointer low +ℤ pos len }
 {

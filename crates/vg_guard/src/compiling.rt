@@ -16,14 +16,16 @@ use vg_catalog::{Catalog, Extensions};
 use vg_compile::compile_by;
 use vg_kernel::Kernel;
 
-/// The guarded program of a kernel: its checks, what `compile` gives for it with every pointer
-/// noalias, and what `compile` gives for it, whose sides may call the instructions of a catalogue
-/// whose extension is in the set. With `more` each side is what `compile_more` gives.
+/// The guarded program of a kernel: its checks, a program that has what `compile` promises for it
+/// with every pointer noalias, and one that has what it promises for the kernel as it is; they may
+/// call the instructions of a catalogue whose extension is in the set. With `more` each has what
+/// `compile_more` promises.
 ///
 /// It leaves the memory that the kernel leaves and traps where the kernel traps, in each layout
 /// that respects the kernel's own noalias, each call giving what the text of its entry means. Each
-/// side costs at most the kernel's scalar cost, and is the program of its chosen plan, where the
-/// search keeps `width` plans of each size: 1 to 4,096 on the command line, any number here.
+/// side costs at most the kernel's scalar cost, and is the program of the plan that is chosen of
+/// its kernel, where the search keeps `width` plans of each size: 1 to 4,096 on the command line,
+/// any number here.
 ///
 /// Fails for want of memory, also at the bounds of `compile`.
 pub fn compile_guarded(

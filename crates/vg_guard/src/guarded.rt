@@ -7,7 +7,8 @@ use crate::check::{Check, all_hold};
 use vg_base::Items;
 use vg_program::Program;
 
-/// Two programs of one name with the same parameters, and the checks that choose between them.
+/// Two programs with the same name and the same parameters, and the checks that choose between
+/// them.
 #[derive(Drop)]
 pub struct Guarded {
     /// At most 120, by rising pairs of pointers.
@@ -18,8 +19,8 @@ pub struct Guarded {
     pub slow: Program,
 }
 
-/// Whether all checks of a guarded program hold at these places, one for each pointer. Takes no
-/// memory.
+/// Whether all checks of a guarded program hold at these places, one for each pointer; one that is
+/// missing is 0. Takes no memory.
 pub fn checks_hold(guarded: &Guarded, places: &[u64]) -> bool
     ensures { result ≡ all_hold places.now guarded.now.checks }
 {

@@ -2,8 +2,8 @@
 
 ghost use Rattle.vg_guard.specs.Laws.{ChecksKeepApart, ChecksKeepRules, GuardedProgramsFit, NoaliasIsWellFormed};
 
-/// A law: where the checks of a kernel hold, a layout that respects the kernel's own noalias
-/// respects noalias on every pointer.
+/// A law: where the checks of a well-formed kernel hold, a layout that respects the kernel's own
+/// noalias respects noalias on every pointer.
 pub fn checks_keep_apart()
     ensures { ChecksKeepApart }
 {}
@@ -18,8 +18,10 @@ pub fn checks_keep_rules()
     ensures { ChecksKeepRules }
 {}
 
-/// A law: two valid programs of at most 12,288 lines each, and at most 120 checks of their
-/// pointers, have a text within the bound, where the instructions take at most four registers.
+/// A law: two valid programs with one name and the same parameters, of at most 12,288 lines each,
+/// and at most 120 checks of their pointers that keep the rules on checks, keep the rules on
+/// guarded texts, the bound on the text among them, where the instructions take at most four
+/// registers.
 pub fn guarded_programs_fit()
     ensures { GuardedProgramsFit }
 {}

@@ -97,7 +97,8 @@ fn put_end_line(alloc: Global, to: &mut Vec<u8>, checks: &[Check]) -> Result<(),
     Ok(())
 }
 
-/// The text of a guarded program. The only error is want of memory.
+/// The text of a guarded program: its first line, its checks, both programs without their first
+/// lines, and how many checks there are. Fails for want of memory alone.
 #[tactic(auto, unfolding(crate::specs::Guarded::guarded_text))]
 pub fn print_guarded(alloc: Global, guarded: &Guarded) -> Result<Vec<u8>, AllocError>
     ensures { IfOk result (λ text. text.items ≡ guarded_text guarded.now) }

@@ -62,7 +62,7 @@ fn reach_with(
     }
 }
 
-/// With the loads of an expression.
+/// What is reached through a pointer with the loads of an expression more.
 #[tactic(auto, using(crate::proofs::Reaches::reach_behind_append), unfolding(crate::specs::Reaching::reach_behind))]
 fn reach_by_loads(pointer: u32, reach: Option<Reach>, expression: &KExpr) -> Option<Reach>
     ensures { result ≡ reach_behind pointer reach (reads_of (expression_of expression.now)) }
@@ -95,7 +95,7 @@ fn reach_by_loads(pointer: u32, reach: Option<Reach>, expression: &KExpr) -> Opt
     }
 }
 
-/// With the accesses of a statement.
+/// What is reached through a pointer with the accesses of a statement more.
 #[tactic(auto, using(crate::proofs::Reaches::reach_behind_append), unfolding(crate::specs::Reaching::reach_behind, crate::specs::Reaching::reach_with_statement))]
 fn reach_by_statement(pointer: u32, reach: Option<Reach>, statement: &KStmt) -> Option<Reach>
     ensures { result ≡ reach_with_statement pointer reach (statement_of statement.now) }

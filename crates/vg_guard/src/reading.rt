@@ -221,8 +221,10 @@ fn read(alloc: Global, text: &[u8], headers: &[Header]) -> Result<Guarded, Progr
 /// Reads the text of a guarded program whose sides may call the instructions of these headers.
 ///
 /// An error is the first fault of the text, judged line by line from the top with the numbers of
-/// `ProgramFault`, or want of memory. A check out of order is 2 Shape at its first pointer that
-/// cannot stand there, a number out of its range and a wrong count of checks 8 Range.
+/// `ProgramFault`, or want of memory. A check whose second pointer does not come after its first,
+/// or whose pair of pointers does not come after that of the check before, is 2 Shape at its first
+/// pointer that cannot stand there; a number out of its range and a wrong count of checks are 8
+/// Range.
 pub fn parse_guarded(
     alloc: Global,
     text: &[u8],

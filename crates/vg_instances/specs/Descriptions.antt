@@ -50,7 +50,7 @@ pub record IsOf (entries : List Entry) (d : Description) : Type 0 where
 abbrev pub AreOf : List Entry → List Description → Type 0
 AreOf entries ds = AllByRecursion (IsOf entries) ds
 
--- wherever an entry is called by its name, descriptions are of entries with more behind them
+-- wherever an entry is called by its name, descriptions are of entries with more after them
 abbrev pub StayOf : Entry → List Description → List Description → Type 0
 StayOf e old new =
     (entries : List Entry) → entry_named entries (name_of e) ≡ Some e → AreOf entries old →

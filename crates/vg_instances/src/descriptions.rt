@@ -181,9 +181,12 @@ fn all_descriptions(
 }
 
 /// The descriptions of the instances that packs may call, of the entries of a catalogue whose extension
-/// is in the set: in the order of the entries, and by rising immediate. Each is true of what the text
-/// of its entry means. Fails for want of memory, also where the terms of all descriptions have more
-/// than 2^24 nodes, or at the bounds of `vg_lift::lift_entry`, over one pool for each entry.
+/// is in the set: in the order of the entries, and by rising immediate. Each is true: for all
+/// registers the terms of its lanes have the numbers of the lanes of what the text of its entry
+/// means.
+///
+/// Fails for want of memory, also where the terms of all descriptions have more than 2^24 nodes,
+/// and where lifting the lanes of an entry meets a bound of `vg_lift::lift_entry`.
 pub fn descriptions_of(
     alloc: Global,
     catalog: &Catalog,

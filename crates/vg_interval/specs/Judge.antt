@@ -112,7 +112,7 @@ moving_slice place all is_signed r size width (Some a) =
     then Ok (read is_signed r (held (two terms.Mul 128 (word_of a) (number (pos size)))) width)
     else Err (IndexOutside place)
 
--- A slice by its two indices: where the high one is the low one with `+ n` behind it, the low one
+-- A slice by its two indices: where the high one is the low one with `+ n` after it, the low one
 -- alone says where it is.
 abbrev pub slice_at : Sight → Place → Bool → ℕ → Option ℕ → Index → Index → Count
     → Result (Found × Count) RangeFault
@@ -268,7 +268,7 @@ spot_of (call s f xs) = s
 abbrev pub no_walk : Walk
 no_walk s given c = Ok (known (pos 0) None, c)
 
--- how an expression is judged behind another one
+-- how an expression is judged after another one
 abbrev pub Judges : Type 0
 Judges = Count → Result (Found × Count) RangeFault
 
@@ -279,7 +279,7 @@ branch s judge c = do
   a ← operand s f.0
   Ok (a, f.1)
 
--- A choice by the spots of its branches and how they are judged, behind its condition. A constant
+-- A choice by the spots of its branches and how they are judged, after its condition. A constant
 -- condition chooses one branch, and the other is not looked at.
 abbrev pub chosen : Spot → Judges → Spot → Judges → Found → Operand → Count
     → Result (Found × Count) RangeFault

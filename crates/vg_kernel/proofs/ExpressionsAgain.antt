@@ -1,5 +1,5 @@
 -- Expressions that are in the language are read. An expression is read up to the operators of its own level, which join
--- it to what stands behind: `Opens` says so, and `Closes` what comes of it where none follows.
+-- it to what stands after: `Opens` says so, and `Closes` what comes of it where none follows.
 use Rattle.std.proofs.Common.{◌≡◌, ℕ, zero, suc, ◌+◌, ◌-◌, ◌<◌, ◌≤◌, Bool, true, false, List, [], ◌∷◌, ◌++◌, Option, Some, None, Result, Ok, refl, sym, ◌∙◌, ap, subst, inl, inr, arith, append_assoc}
 use Rattle.std.specs.Prelude.{codes, max, nat_eq, is_some, if◌then◌else◌}
 use Rattle.std.specs.Option.{option_map, option_map_or}
@@ -94,7 +94,7 @@ operator-again level r w op ws e k l =
     let x = word-again r w ws e in
     (x.0, rw (x.1, k, eq-eqb (level_of op) level l) refl, x.2)
 
--- what is left to be read behind an expression of a level: the operators of that level
+-- what is left to be read after an expression of a level: the operators of that level
 abbrev continued : Inner → ℕ → ℕ → ℕ → Part → Result Part KernelFault
 continued inner room joins zero p = Ok p
 continued inner room joins (suc level) p = joined_at inner level room joins p
@@ -277,7 +277,7 @@ pair-reads names room r used comma d d' xs ys x y behind first is second deep de
     let b = second room (at c.0 a.used) behind deep' c.2 (omega (arith, u)) loose in
     record { between = a.rest; middle = a.used; rest = b.rest; after = b.used; reads = rw (a.reads, c.1, b.reads) refl; counts = omega (arith, u, b.counts); left = b.left }
 
--- `(` behind the name of a function
+-- `(` after the name of a function
 opened-call : (names : Names) (room : ℕ) (s : Scan) (word opening : Spelled) (f : Function) (ws : Words) → function_named word.bytes ≡ Some f → Is opening (codes "(") → script_left s.reading ≡ Some (word ∷ opening ∷ ws)
     → (r : Reading) × (operand_at names (expression_at names room) s ≡ arguments_at (expression_at names room) f word.place r s.used) × (script_left r ≡ Some ws)
 unfolding call_at

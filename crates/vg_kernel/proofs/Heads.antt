@@ -1,4 +1,4 @@
--- What is read as a head, and as statements behind one, is well formed.
+-- What is read as a head, and as statements after one, is well formed.
 use Rattle.std.proofs.Common.{◌≡◌, ◌≤◌, List, [], length, Ok, sym, subst, arith}
 use Rattle.std.specs.Prelude.{codes, sum_by}
 use Rattle.vg_base.proofs.Bind.{bind_ok}

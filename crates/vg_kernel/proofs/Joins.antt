@@ -1,4 +1,4 @@
--- Operators behind an expression, one step of reading them.
+-- Operators after an expression, one step of reading them.
 use Rattle.std.proofs.Common.{◌≡◌, ℕ, zero, suc, ◌+◌, ◌-◌, ◌<◌, ◌≤◌, Some, None, Ok, Err, refl, subst, arith}
 use Rattle.std.proofs.lemmas.Bool.{le-leb, lt-leb}
 use Rattle.vg_base.specs.Bind.{◌>>=◌}

@@ -41,7 +41,7 @@ store-named W16 = (refl, refl)
 store-named W32 = (refl, refl)
 store-named W64 = (refl, refl)
 
--- a statement was read behind its first word
+-- a statement was read after its first word
 record StepRead (names : Names) (r : Reading) (used : ℕ) (s : Statement) (behind : Names) (rest : Words) : Type 0 where
   word : Spelled
   second : Reading
@@ -206,7 +206,7 @@ comma-again r w rest is left =
     let b : bytes_eq w.bytes (codes ",") ≡ true = ap (λ (t : List ℕ). bytes_eq t (codes ",")) is in
     (n.0, rw (n.1, a, b) refl, n.2)
 
--- parameters behind those that are done
+-- parameters after those that are done
 parameters_behind-again : (ps : List KParam) (words : Words) (room : ℕ) (done : List KParam) (r : Reading) (closing : Spelled) (rest : Words) → AreMore words ps → AreDistinct (done ++ ps) → length ps ≤ room → Is closing (codes ")")
     → script_left r ≡ Some (words ++ closing ∷ rest) → Reads (parameters_behind room done r) (done ++ ps) rest
 unfolding parameters_behind

@@ -112,7 +112,7 @@ parameter-found before r x e =
       spells = all;
     })
 
--- parameters behind those that were done, and what ends them
+-- parameters after those that were done, and what ends them
 record FoundParameters (room : ℕ) (done : List KParam) (r : Reading) (x : List KParam × Reading) : Type 0 where
   rest : List KParam
   words : Words
@@ -124,7 +124,7 @@ record FoundParameters (room : ℕ) (done : List KParam) (r : Reading) (x : List
   few : length rest ≤ room
   spells : Spells r (words ++ closing ∷ []) x.1
 
--- behind a parameter: a comma, or the end
+-- after a parameter: a comma, or the end
 comma-found : (r : Reading) (x : Bool × Reading) → comma_at r ≡ Ok x → ((x.0 ≡ false) × ((w : Spelled) × Is w (codes ")") × Spells r (w ∷ []) x.1)) ⊎ ((x.0 ≡ true) × ((w : Spelled) × Is w (codes ",") × Spells r (w ∷ []) x.1))
 comma-found r x e =
     let w = bind_ok (next_at r) _ e in

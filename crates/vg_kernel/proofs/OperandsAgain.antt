@@ -138,7 +138,7 @@ value-again (Some (given.Argument k w)) place e h = let same : argument k w ≡ 
 value-again (Some (given.Assigned k t)) place e h = let same : assigned k t ≡ e = cc in ap Ok same
 value-again None place e h = cc
 
--- a literal behind its digits
+-- a literal after its digits
 pub literal-again : (minus : Bool) (first : Place) (digits type : Spelled) (w : Width) (n : ℕ) (r : Reading) (used : ℕ) (behind : Words) → IsLiteral minus digits type w n → script_left r ≡ Some (type ∷ behind)
     → Gets (literal_at minus first digits r used) (literal w n) 1 used behind
 unfolding literal_at

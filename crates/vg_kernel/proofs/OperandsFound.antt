@@ -56,7 +56,7 @@ judged-found place used node x e =
     let same = ok_once (n.0, c.0) x n.2 in
     (fault-some node _ n.0 n.1 ∙ ap (λ (q : _). Some q.0) same, sym (ap (λ (q : _). q.1) same) ∙ k.0, k.1)
 
--- `)` behind an operation
+-- `)` after an operation
 pub closed-found : (node : Expression) (depth : ℕ) (r : Reading) (used : ℕ) (p : Part) → closed_at node depth r used ≡ Ok p
     → (closing : Spelled) × Is closing (codes ")") × Spells r (closing ∷ []) p.scan.reading × (p ≡ record { expression = node; depth = depth + 1; scan = at p.scan.reading used })
 unfolding closed_at
@@ -67,7 +67,7 @@ closed-found node depth r used p e =
     let reading : c.0 ≡ p.scan.reading = ap (λ (q : Part). q.scan.reading) same in
     (w.0, w.1, subst (λ (q : Reading). Spells r (w.0 ∷ []) q) reading w.2, sym same ∙ ap (λ (q : Reading). record { expression = node; depth = depth + 1; scan = at q used }) reading)
 
--- a literal behind its digits
+-- a literal after its digits
 pub literal-found : (minus : Bool) (first : Place) (digits : Spelled) (r : Reading) (used : ℕ) (p : Part) → literal_at minus first digits r used ≡ Ok p
     → (type : Spelled) × (w : Width) × (n : ℕ) × IsLiteral minus digits type w n × Spells r (type ∷ []) p.scan.reading × (p ≡ leaf_part (literal w n) p.scan.reading used)
 unfolding literal_at
@@ -98,7 +98,7 @@ pub leaf-found : (names : Names) (room : ℕ) (r : Reading) (used : ℕ) (p : Pa
 leaf-found names room r used p e ws is free spells same =
     subst (λ (q : Part). Found names (room + 1) 0 (at r used) q) (sym same) (record { words = ws; is = is; spells = spells; used = omega (arith, free); few = λ h. h; deep = omega arith })
 
--- a load behind its name
+-- a load after its name
 pub load-found : (names : Names) (room : ℕ) (r0 r : Reading) (word : Spelled) (width : Width) (used : ℕ) (p : Part) → Spells r0 (word ∷ []) r → Is word (sized (codes "load") width) → load_at names width word.place r used ≡ Ok p → Found names (room + 1) 0 (at r0 used) p
 unfolding load_at
 load-found names room r0 r word width used p first is e =

@@ -1,4 +1,4 @@
--- Parameters behind commas, one step of reading them.
+-- Parameters after commas, one step of reading them.
 use Rattle.std.proofs.Common.{◌≡◌, ℕ, zero, suc, ◌+◌, ◌<◌, Bool, true, false, List, [], ◌∷◌, ◌++◌, Ok, refl, arith}
 use Rattle.vg_text.specs.Words.{Reading}
 use Rattle.vg_kernel.specs.declared.fault.KernelFault.{KernelFault}

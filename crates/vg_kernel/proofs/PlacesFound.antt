@@ -23,7 +23,7 @@ pub decimal-some : (bytes : List ℕ) (n : ℕ) → decimal_value bytes ≡ Some
 unfolding decimal_value
 decimal-some bytes n e none = let no : None ≡ Some n = ap decimal_value (sym none) ∙ e in cc
 
--- the distance behind a sign
+-- the distance after a sign
 pub offset-found : (negative : Bool) (pointer : ℕ) (r : Reading) (x : Address × Reading) → offset_at negative pointer r ≡ Ok x
     → (digits : Spelled) × IsDistance negative digits x.0.offset × (x.0.pointer ≡ pointer) × Spells r (digits ∷ []) x.1
 unfolding offset_at

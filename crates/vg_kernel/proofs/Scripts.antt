@@ -19,7 +19,7 @@ use Rattle.vg_kernel.specs.Reader.{or_token, next_at, expect_at, end_at, name_at
 abbrev pub Spells : Reading → Words → Reading → Type 0
 Spells r words r' = script_left r ≡ option_map (λ behind. words ++ behind) (script_left r')
 
--- words behind words
+-- words after words
 pub Spells-append : (r r' r'' : Reading) (ws vs : Words) → Spells r ws r' → Spells r' vs r'' → Spells r (ws ++ vs) r''
 Spells-append r r' r'' ws vs first second = first ∙ ap (option_map (λ (b : Words). ws ++ b)) second ∙ both (script_left r'')
   where

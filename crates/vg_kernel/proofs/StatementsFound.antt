@@ -96,7 +96,7 @@ assignment-found names r0 r word used x first free fresh e =
 store_some : (w : Width) (bytes : List ℕ) → bytes ≡ sized (codes "store") w → bytes ≡ [] → ⊥
 store_some w bytes is none = let no : [] ≡ sized (codes "store") w = sym none ∙ is in cc
 
--- `);` behind what is stored
+-- `);` after what is stored
 record StoreEnd (w : Width) (to : Address) (v : Part) (x : Statement × Scan) : Type 0 where
   closing : Spelled
   end : Spelled
@@ -167,7 +167,7 @@ statement-found names r0 r word used x next e =
       | inr other ↦ store-found names r0 r word used x next other.1
     ]
 
--- statements behind those that were done, and the brace that ends them
+-- statements after those that were done, and the brace that ends them
 pub record FoundStatements (room : ℕ) (names : Names) (done : List Statement) (s : Scan) (x : (List Statement × Place) × Reading) : Type 0 where
   pub rest : List Statement
   pub words : Words

@@ -46,7 +46,7 @@ IsThere params types (given.Assigned k t) = slice_get types k ≡ Some t
 abbrev pub types_in : Names → List ValueType
 types_in names = map (λ (a : AssignedName). a.value_type) names.assigned
 
--- the same, behind so many pointers and so many integers
+-- the same, after so many pointers and so many integers
 IsThereFrom : ℕ → ℕ → List KParam → Given → Type 0
 IsThereFrom pointers_before integers_before ps (given.Pointer k) = (j : ℕ) × (k ≡ pointers_before + j) × (j < length (pointers ps))
 IsThereFrom pointers_before integers_before ps (given.Argument k w) = (j : ℕ) × (k ≡ integers_before + j) × (slice_get (integer_widths ps) j ≡ Some w)
@@ -68,7 +68,7 @@ first-there p ps n m = by p.kind refl
     by (Pointer noalias) e = (0, omega arith, rw e (omega arith))
     by (Integer w) e = (0, omega arith, rw e refl)
 
--- one that is there behind a parameter is there with it
+-- one that is there after a parameter is there with it
 later-there : (p : KParam) (ps : List KParam) (n m : ℕ) (g : Given) → (is_pointer p.kind ≡ true → IsThereFrom (n + 1) m ps g) → (is_pointer p.kind ≡ false → IsThereFrom n (m + 1) ps g) → IsThereFrom n m (p ∷ ps) g
 unfolding IsThereFrom
 later-there p ps n m (given.Pointer k) f h = by p.kind refl
@@ -284,7 +284,7 @@ expression-well_formed names _ _ _ _ (grammar.joined op sign level d d' xs ys x 
 types-with : (names : Names) (name : List ℕ) (t : ValueType) → types_in (with_name names name t) ≡ types_in names ++ t ∷ []
 types-with names name t = rw map-append refl
 
--- a statement, and the types of the names behind it
+-- a statement, and the types of the names after it
 statement-well_formed : (names : Names) (ws : Words) (s : Statement) (behind : Names) → grammar.IsStatement names ws s behind → IsStatement names.params (types_in names) s × (behind.params ≡ names.params) × (types_in behind ≡ types_in names ++ gives s)
 unfolding Fine
 statement-well_formed names ws (assign e) behind (word, equals, end, inside, free, fresh, eq, (d, is, deep), ends, same, now) =

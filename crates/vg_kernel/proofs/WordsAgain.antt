@@ -1,4 +1,4 @@
--- What is in the language is read: single words and places, whatever stands behind them.
+-- What is in the language is read: single words and places, whatever stands after them.
 use Rattle.std.proofs.Common.{◌≡◌, ℕ, ℤ, Bool, true, false, List, [], ◌∷◌, ◌++◌, Option, Some, None, Result, Ok, refl, sym, ◌∙◌, ap, inl, inr}
 use Rattle.std.specs.Prelude.{codes, IsTrue, pos}
 use Rattle.std.specs.Option.{option_map}
@@ -69,14 +69,14 @@ name-again w r ws free e =
     let x = next-again r w ws e in
     (x.0, rw (x.1, free) refl, x.2)
 
--- a distance behind a sign
+-- a distance after a sign
 offset-again : (negative : Bool) (k : ℕ) (digits : Spelled) (offset : ℤ) (r : Reading) (ws : Words) → IsDistance negative digits offset → script_left r ≡ Some (digits ∷ ws) → Reads (offset_at negative k r) (record { pointer = k; offset = offset }) ws
 unfolding offset_at
 offset-again negative k digits offset r ws (n, number, fits) e =
     let x = next-again r digits ws e in
     (x.0, rw (x.1, number, fits) refl, x.2)
 
--- a word behind which no sign of an offset stands
+-- a word after which no sign of an offset stands
 abbrev pub IsNoSign : Spelled → Type 0
 IsNoSign v = (bytes_eq v.bytes (codes "+") ≡ false) × (bytes_eq v.bytes (codes "-") ≡ false)
 

@@ -31,7 +31,7 @@ pub record Scan : Type 0 where
   pub reading : Reading
   pub used : ℕ
 
--- an expression that was read, its depth with parentheses counted, and what is left behind it
+-- an expression that was read, its depth with parentheses counted, and what is left after it
 pub record Part : Type 0 where
   pub expression : Expression
   pub depth : ℕ
@@ -58,12 +58,12 @@ value_of (Some (given.Argument k w)) place = Ok (argument k w)
 value_of (Some (given.Assigned k t)) place = Ok (assigned k t)
 value_of None place = Err (UnknownName place)
 
--- the width of the type that stands right behind these digits
+-- the width of the type that stands right after these digits
 abbrev pub type_behind : Spelled → Spelled → Option Width
 type_behind digits type =
     if adjoins digits type then width_behind (codes "i") type.bytes else None
 
--- A literal: digits, and right behind them a type. `first` is its first word, which is `-` or the
+-- A literal: digits, and right after them a type. `first` is its first word, which is `-` or the
 -- digits.
 unfoldable pub literal_at : Bool → Place → Spelled → Reading → ℕ → Result Part KernelFault
 literal_at negative first digits r used = do
@@ -73,11 +73,11 @@ literal_at negative first digits r used = do
   value ← or_fault (literal_of negative width number) (LiteralRange first)
   Ok (leaf_part (literal width value) type.1 used)
 
--- a literal behind `-` at this place
+-- a literal after `-` at this place
 abbrev pub negative_at : Place → Reading → ℕ → Result Part KernelFault
 negative_at first r used = next_at r >>= λ digits. literal_at true first digits.0 digits.1 used
 
--- `(place)` behind the name of a load, which is counted before
+-- `(place)` after the name of a load, which is counted before
 unfoldable pub load_at : Names → Width → Place → Reading → ℕ → Result Part KernelFault
 load_at names width place r used = do
   more ← counted place used
@@ -95,7 +95,7 @@ Inner = ℕ → Scan → Result Part KernelFault
 abbrev pub whole_at : Inner → Reading → ℕ → Result Part KernelFault
 whole_at inner r used = inner 5 (record { reading = r; used = used })
 
--- an expression in parentheses, behind the first
+-- an expression in parentheses, after the first
 unfoldable pub parenthesised_at : Inner → Reading → ℕ → Result Part KernelFault
 parenthesised_at inner r used = do
   inside ← whole_at inner r used
@@ -124,13 +124,13 @@ pair_at inner r used = do
   right ← whole_at inner comma left.scan.used
   Ok (left, right)
 
--- a function of these two operands behind the second, and `)`
+-- a function of these two operands after the second, and `)`
 unfoldable pub pair_end : Function → Place → Part → Part → Result Part KernelFault
 pair_end function place left right = do
   node ← judged place right.scan.used (pair_node function left.expression right.expression)
   closed_at node.0 (max left.depth right.depth) right.scan.reading node.1
 
--- a resize of this operand behind it, and `)`
+-- a resize of this operand after it, and `)`
 unfoldable pub resize_end : Resize → Width → Place → Part → Result Part KernelFault
 resize_end op to place operand = do
   node ← judged place operand.scan.used (resize_node op to operand.expression)
@@ -143,7 +143,7 @@ amount_at width r = do
   amount ← or_fault (decimal_value number.0.bytes) (Shape number.0.place)
   if nat_lt amount (bits_of width) then Ok (amount, number.1) else Err (ShiftRange number.0.place)
 
--- a shift of this operand behind it: `, n)`
+-- a shift of this operand after it: `, n)`
 unfoldable pub shift_end : Shift → Place → Part → Result Part KernelFault
 shift_end op place operand = do
   width ← judged place operand.scan.used (width_in operand.expression)
@@ -151,7 +151,7 @@ shift_end op place operand = do
   amount ← amount_at width.0 comma
   closed_at (shift op width.0 amount.0 operand.expression) operand.depth amount.1 width.1
 
--- a choice of these operands behind the last, and `)`
+-- a choice of these operands after the last, and `)`
 unfoldable pub select_end : Place → Part → Part → Part → Result Part KernelFault
 select_end place condition left right = do
   node ← judged place right.scan.used
@@ -180,7 +180,7 @@ abbrev pub resize_at : Inner → Resize → Width → Place → Reading → ℕ 
 resize_at inner op to place r used =
     whole_at inner r used >>= λ operand. resize_end op to place operand
 
--- what stands behind the name of a function and `(`
+-- what stands after the name of a function and `(`
 abbrev pub arguments_at : Inner → Function → Place → Reading → ℕ → Result Part KernelFault
 arguments_at inner (functions.Two op) place r used = two_at inner (functions.Two op) place r used
 arguments_at inner (functions.Compare op) place r used =
@@ -189,7 +189,7 @@ arguments_at inner (functions.Shift op) place r used = shift_at inner op place r
 arguments_at inner (functions.Resize op to) place r used = resize_at inner op to place r used
 arguments_at inner functions.Select place r used = select_at inner place r used
 
--- a call behind the name of its function
+-- a call after the name of its function
 unfoldable pub call_at : Inner → Function → Place → Reading → ℕ → Result Part KernelFault
 call_at inner function place r used = do
   opened ← expect_at (codes "(") r
@@ -215,7 +215,7 @@ operand_at names inner s = do
       else if begins_digit word.0.bytes then literal_at false word.0.place word.0 word.1 s.used
       else named_at names inner word.0 word.1 s.used
 
--- an operator that is read: what it is, where it stands, and what is left behind it
+-- an operator that is read: what it is, where it stands, and what is left after it
 pub record Operator : Type 0 where
   pub op : TwoOp
   pub place : Place
@@ -238,7 +238,7 @@ operator_word level (Err p) = None
 abbrev pub operator_at : ℕ → Reading → Option Operator
 operator_at level r = operator_word level (word_at r)
 
--- an operator and its right operand behind what stands on its left
+-- an operator and its right operand after what stands on its left
 unfoldable pub join_at : Inner → ℕ → Part → Operator → Result Part KernelFault
 join_at inner level left operator = do
   right ← inner level (record { reading = operator.behind; used = left.scan.used })

@@ -64,7 +64,7 @@ abbrev pub IsValue : Names → Spelled → Expression → Type 0
 IsValue names word e =
     IsTrue (is_free word.bytes) × ((given_as names word.bytes >>= value_given) ≡ Some e)
 
--- digits and a type right behind them: a number at a width
+-- digits and a type right after them: a number at a width
 abbrev pub IsLiteral : Bool → Spelled → Spelled → Width → ℕ → Type 0
 IsLiteral negative digits type w n =
     (m : ℕ)
@@ -185,7 +185,7 @@ IsStatement names words (store w a e) behind =
     × (words ≡ word ∷ opening ∷ (to ++ comma ∷ (from ++ closing ∷ end ∷ [])))
     × (behind ≡ names)
 
--- statements, one behind the other, each with the names given before it
+-- statements, one after the other, each with the names given before it
 abbrev pub AreStatements : Names → Words → List Statement → Type 0
 AreStatements names words [] = words ≡ []
 AreStatements names words (s ∷ ss) =
@@ -216,7 +216,7 @@ IsParameter words p =
     × IsKind kind p.kind
     × (words ≡ word ∷ colon ∷ kind)
 
--- behind a parameter, each with a comma before it
+-- after a parameter, each with a comma before it
 abbrev pub AreMore : Words → List KParam → Type 0
 AreMore words [] = words ≡ []
 AreMore words (p ∷ ps) =

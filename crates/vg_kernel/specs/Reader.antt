@@ -1,5 +1,5 @@
 -- Reading a kernel from left to right, word by word: single words and places. Each function reads a
--- part at the front of what is left and gives it with what is left behind it, or the first fault
+-- part at the front of what is left and gives it with what is left after it, or the first fault
 -- that it meets.
 use Rattle.std.specs.Prelude.{ℕ, Bool, true, false, List, Option, Some, None, Result, Ok, Err, pos, codes, if◌then◌else◌}
 use Rattle.std.specs.Str.{bytes_eq}
@@ -50,7 +50,7 @@ pointer_of (Some (given.Pointer k)) place = Ok k
 pointer_of (Some _) place = Err (WidthMismatch place)
 pointer_of None place = Err (UnknownName place)
 
--- the distance behind `+` or `-`
+-- the distance after `+` or `-`
 unfoldable pub offset_at : Bool → ℕ → Reading → Result (Address × Reading) KernelFault
 offset_at negative pointer r = do
   number ← next_at r

@@ -23,7 +23,7 @@ use Rattle.vg_kernel.specs.Nodes.{width_in, one_width}
 use Rattle.vg_kernel.specs.Reader.{next_at, expect_at, end_at, name_at, address_at}
 use Rattle.vg_kernel.specs.Expressions.{Scan, Part, expression_at}
 
--- a statement that was read, the names that are given behind it, and what is left
+-- a statement that was read, the names that are given after it, and what is left
 pub record Step : Type 0 where
   pub statement : Statement
   pub names : Names
@@ -33,7 +33,7 @@ pub record Step : Type 0 where
 abbrev pub outer_at : Names → Reading → ℕ → Result Part KernelFault
 outer_at names r used = expression_at names 256 5 (record { reading = r; used = used })
 
--- `= expression;` behind a name, which is given from then on
+-- `= expression;` after a name, which is given from then on
 unfoldable pub assignment_at : Names → List ℕ → Reading → ℕ → Result Step KernelFault
 assignment_at names name r used = do
   equals ← expect_at (codes "=") r
@@ -49,14 +49,14 @@ assignment_at names name r used = do
 abbrev pub has_width : Width → Expression → Bool
 has_width w e = is_some (option_map_or (one_width w) (width_in e) None)
 
--- `);` behind what is stored
+-- `);` after what is stored
 unfoldable pub store_end : Width → Address → Part → Result (Statement × Scan) KernelFault
 store_end width to value = do
   closed ← expect_at (codes ")") value.scan.reading
   ended ← expect_at (codes ";") closed
   Ok (store width to value.expression, record { reading = ended; used = value.scan.used })
 
--- `storeW(place, expression);` behind its first word, where the expression has the width of the
+-- `storeW(place, expression);` after its first word, where the expression has the width of the
 -- store
 unfoldable pub store_at : Names → Spelled → Reading → ℕ → Result Step KernelFault
 store_at names word r used = do
@@ -85,7 +85,7 @@ closing_at r =
     if bytes_eq word.0.bytes (codes "}") then Ok (word.0.place, word.1)
     else Err (if begins_statement word.0.bytes then TooMany word.0.place else Shape word.0.place)
 
--- statements up to `}`, behind those that are done, with room for so many more, and the place of
+-- statements up to `}`, after those that are done, with room for so many more, and the place of
 -- the brace
 unfoldable pub statements_at : ℕ → Names → List Statement → Scan
     → Result ((List Statement × Place) × Reading) KernelFault
@@ -126,7 +126,7 @@ abbrev pub parameter_too_many : Reading → Result (List KParam × Reading) Kern
 parameter_too_many r =
     next_at r >>= λ w. Err (if is_free w.0.bytes then TooMany w.0.place else Shape w.0.place)
 
--- behind a parameter: whether a comma stands there, or `)`
+-- after a parameter: whether a comma stands there, or `)`
 abbrev pub comma_at : Reading → Result (Bool × Reading) KernelFault
 comma_at r =
     next_at r >>= λ w.
@@ -134,7 +134,7 @@ comma_at r =
     else if bytes_eq w.0.bytes (codes ",") then Ok (true, w.1)
     else Err (Shape w.0.place)
 
--- parameters behind commas up to `)`, behind those that are done, with room for so many more
+-- parameters after commas up to `)`, after those that are done, with room for so many more
 unfoldable pub parameters_behind : ℕ → List KParam → Reading
     → Result (List KParam × Reading) KernelFault
 parameters_behind zero done r =
@@ -144,7 +144,7 @@ parameters_behind (suc room) done r =
     if c.0 then (parameter_at done c.1 >>= λ p. parameters_behind room (done ++ p.0 ∷ []) p.1)
     else Ok (done, c.1)
 
--- no parameter, or one and those behind it, 16 at most
+-- no parameter, or one and those after it, 16 at most
 unfoldable pub parameters_at : Reading → Result (List KParam × Reading) KernelFault
 parameters_at r = do
   word ← next_at r
@@ -159,7 +159,7 @@ head_at r = do
   params ← parameters_at opened
   Ok (record { name = name.0.bytes; params = params.0 }, params.1)
 
--- `{ statements }` behind this head, and the place of the brace that closes them
+-- `{ statements }` after this head, and the place of the brace that closes them
 unfoldable pub block_at : Head → Reading → Result ((Tree × Place) × Reading) KernelFault
 block_at head r = do
   began ← expect_at (codes "{") r
@@ -172,14 +172,14 @@ block_at head r = do
     statements.1,
   )
 
--- `{ statements }` behind this head, and nothing behind them
+-- `{ statements }` after this head, and nothing after them
 unfoldable pub body_at : Head → Reading → Result (Tree × Reading) KernelFault
 body_at head r = do
   block ← block_at head r
   ended ← end_at block.1
   Ok (block.0.0, ended)
 
--- `kernel name (parameters) { statements }`, and nothing behind it
+-- `kernel name (parameters) { statements }`, and nothing after it
 unfoldable pub kernel_at : Reading → Result Tree KernelFault
 kernel_at r = do
   announced ← expect_at (codes "kernel") r

@@ -1,4 +1,4 @@
-//! Kernels a second time.
+//! Copies of kernels.
 
 ghost use Rattle.std.specs.Prelude.{◌≡◌, map, IfOk};
 ghost use Rattle.vg_kernel.specs.Tree.{expression_of, statement_of, tree_of};
@@ -162,7 +162,7 @@ fn copy_params(alloc: Global, params: &[KParam]) -> Result<Vec<KParam>, AllocErr
 }
 
 impl Kernel {
-    /// The same kernel a second time. Fails for want of memory alone.
+    /// A copy of the kernel. Fails for want of memory alone.
     pub fn copy(&self, alloc: Global) -> Result<Kernel, AllocError>
         ensures { IfOk result (λ kernel. tree_of kernel ≡ tree_of self.now) }
     {

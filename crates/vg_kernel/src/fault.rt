@@ -60,7 +60,7 @@ impl KernelFault {
     ghost use Rattle.vg_kernel.specs.FaultName.{name_of_fault};
     ghost use Rattle.vg_kernel.specs.Faults.{number_of_fault, place_of_fault};
 
-    /// The number of the refusal, from 1 to 10. Want of memory has none.
+    /// The number of the refusal, from 1 to 12. Want of memory has none.
     pub fn number(&self) -> Option<u32>
         ensures { result ≡ number_of_fault self.now }
     {

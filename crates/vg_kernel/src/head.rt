@@ -1,4 +1,4 @@
-//! What stands in front of the statements of a kernel or a loop.
+//! What stands before the statements of a kernel or a loop.
 
 use crate::parameter::KParam;
 use vg_base::{Items, Name};

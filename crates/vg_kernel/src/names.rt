@@ -30,7 +30,8 @@ fn given_of(kind: KParamKind, pointers: u32, integers: u32) -> Given
     }
 }
 
-/// The first parameter of this name.
+/// What the first parameter of this name stands for, by its number among the parameters of its
+/// kind. None where no parameter has the name.
 #[tactic(auto, unfolding(crate::specs::Names::parameter_named))]
 pub fn parameter_named(params: &[KParam], name: &[u8]) -> Option<Given>
     requires { length params.now < 2 ^ 32 }
@@ -70,7 +71,7 @@ impl<'a> Model for Names<'a> {
 }
 
 impl<'a> Names<'a> {
-    /// The parameters alone.
+    /// The names before the first statement: those of the parameters.
     pub(crate) fn new(alloc: Global, params: &'a [KParam]) -> Names<'a>
         ensures { result ≡ names_of params.now }
     {

@@ -89,7 +89,7 @@ pub(crate) fn literal<'a>(
     }
 }
 
-/// A literal after `-`.
+/// The literal that begins with a `-` at the place `first`, after that sign.
 #[inline(never)]
 pub(crate) fn negative<'a>(
     first: Place,

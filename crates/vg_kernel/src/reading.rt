@@ -16,7 +16,8 @@ use vg_text::lexer::Word;
 use vg_text::number::decimal;
 use vg_text::{Lexer, Place};
 
-/// The next word.
+/// The next word, and the lexer after it; at the end of the text the word of the end. `Token` where
+/// the text goes on with what is no word.
 pub fn next<'a>(lexer: Lexer<'a>) -> Result<(Word<'a>, Lexer<'a>), KernelFault>
     ensures read { Gives (λ x. (spelled_of x.0, reading x.1)) result
         (next_at (reading lexer.entry)) }
@@ -27,7 +28,7 @@ pub fn next<'a>(lexer: Lexer<'a>) -> Result<(Word<'a>, Lexer<'a>), KernelFault>
     }
 }
 
-/// This very word.
+/// The lexer after the next word, which has to be this text; else `Shape` at it, or `Token`.
 pub fn expect<'a>(text: &[u8], lexer: Lexer<'a>) -> Result<Lexer<'a>, KernelFault>
     ensures read { Gives reading result (expect_at text.now (reading lexer.entry)) }
 {
@@ -39,7 +40,8 @@ pub fn expect<'a>(text: &[u8], lexer: Lexer<'a>) -> Result<Lexer<'a>, KernelFaul
     }
 }
 
-/// The end of the text.
+/// The lexer at the end of the text, which has to be next; else `Shape` at what stands there, or
+/// `Token`.
 pub fn end<'a>(lexer: Lexer<'a>) -> Result<Lexer<'a>, KernelFault>
     ensures read { Gives reading result (end_at (reading lexer.entry)) }
 {
@@ -51,7 +53,8 @@ pub fn end<'a>(lexer: Lexer<'a>) -> Result<Lexer<'a>, KernelFault>
     }
 }
 
-/// A word that may be a name.
+/// The next word, which has to be one that may be a name, and the lexer after it; else `Shape` at
+/// it, or `Token`.
 pub fn name<'a>(lexer: Lexer<'a>) -> Result<(Word<'a>, Lexer<'a>), KernelFault>
     ensures read { Gives (λ x. (spelled_of x.0, reading x.1)) result
         (name_at (reading lexer.entry)) }

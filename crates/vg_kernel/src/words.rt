@@ -63,7 +63,7 @@ pub(crate) fn level_of(op: TwoOp) -> u32
     }
 }
 
-/// The operator of a sign.
+/// The operator that a sign such as `+` stands for; none for any other word.
 #[tactic(auto, unfolding(crate::specs::Words::operator_named))]
 pub(crate) fn operator_named(bytes: &[u8]) -> Option<TwoOp>
     ensures { result ≡ operator_named bytes.now }
@@ -133,7 +133,7 @@ fn sized_named(bytes: &[u8]) -> Option<Function>
     }
 }
 
-/// The function of a name.
+/// The function other than a load that a name stands for; none for any other word.
 pub(crate) fn function_named(bytes: &[u8]) -> Option<Function>
     ensures { result ≡ function_named bytes.now }
 {

@@ -49,7 +49,7 @@ class-there c (n ∷ ns) rest (suc k) h =
     let next : c + suc k ≡ c + 1 + k = omega arith in
     cond-false _ _ _ (same-cut c (c + suc k) ∙ differ) ∙ ap (λ j. number_at (class_pairs (c + 1) ns ++ rest) (cut_key j)) next ∙ class-there (c + 1) ns rest k (omega arith)
 
--- other keys are looked up behind the classes
+-- other keys are looked up after the classes
 pub other-key : (c : ℕ) (ns : List ℕ) (rest : List (LeafKey × ℕ)) (k : LeafKey) → nat_eq k.kind 3 ≡ false → number_at (class_pairs c ns ++ rest) k ≡ number_at rest k
 other-key c [] rest k h = refl
 other-key c (n ∷ ns) rest k h = cond-false _ _ _ (differs c k h) ∙ other-key (c + 1) ns rest k h

@@ -23,7 +23,7 @@ use Rattle.vg_known.specs.Laws.{CallsAreTold}
 use Rattle.vg_known.specs.OneWord.{at, BytesMeanTheWord, one_word, two_bytes}
 use Rattle.vg_known.proofs.Same.{same-means-units}
 
--- behind any of its units each value has the number 0
+-- after any of its units each value has the number 0
 zeros : (numbers : List ℕ) (v : ℕ) (t : Tree) → (numbers ≡ []) ⊎ (numbers ≡ 0 ∷ []) → v < length numbers → term_at one_word v ≡ Some t → value (environment one_word numbers) t ≡ slice_index numbers v
 zeros numbers v t (inl e) low is = absurd (let l = ap length e in omega arith)
 zeros numbers (suc v) t (inr e) low is = absurd (let l = ap length e in omega arith)

@@ -106,7 +106,7 @@ length-dropped : (xs ys : List ℕ) → length (drop (length xs) (xs ++ ys)) ≡
 length-dropped [] ys = refl
 length-dropped (x ∷ xs) ys = length-dropped xs ys
 
--- the number that stands for the leaf of the load behind these units
+-- the number that stands for the leaf of the load after these units
 key-number : (ssa : Ssa) (args more : List ℕ) (met : List Tree) (before us : List Work) (a : Address) (w : Width) → length args ≡ arguments ssa → ssa.units ≡ before ++ Load a w ∷ us → length before < length more
     → number_at (run_env ssa args (args ++ more) met).pairs (load_key a (arguments ssa + length before)) ≡ slice_index (args ++ more) (arguments ssa + length before)
 key-number ssa args more met before us a w long whole inside =

@@ -172,7 +172,7 @@ puts-there g ls (l ∷ xs) (es ∷ ess) k e paired s writes =
 
 -- ---- stores of the kernel
 
--- the events of the unit behind these
+-- the events of the unit after these
 pub span-at : (f : ℕ) (done : List Work) (u : Work) (us : List Work) → slice_index_or (spans f (map access_of (done ++ u ∷ us))) (length done) [] ≡ numbers_from (f + length (unit_labels done)) (length (labels_in (access_of u)))
 span-at f [] u us = ap (λ n. numbers_from n (length (labels_in (access_of u)))) (let e : f ≡ f + 0 = omega arith in e)
 span-at f (d ∷ done) u us =

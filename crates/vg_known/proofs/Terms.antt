@@ -139,7 +139,7 @@ unit-stands env flags first count bits done s (Operation op w k xs) us numbers a
 
 -- ---- the run
 
--- what holds of the terms behind a run
+-- what holds of the terms after a run
 pub record AllMean (env : Env) (bits : List (Option ℕ)) (terms : List Tree) (numbers : List ℕ) : Type 0 where
   pub stand : Stand bits terms
   pub each : Each env terms numbers

@@ -228,7 +228,7 @@ CallsFit env called g b (l ∷ ls) (es ∷ ess) k =
     (KnownFits b k → ClassesMean env k.met → CallFits env called g b l k)
     × CallsFit env called g (with_defined b (defined l)) ls ess (know g l es k)
 
--- all that a walk over lines wants, behind lines with the events that are done
+-- all that a walk over lines wants, after lines with the events that are done
 pub record WalkFits (env : Env) (called : Instructions) (g : Given) (i : Inputs) (b : Before) (ls : List Label) (byte : ℕ → ℕ) (table : List (ℕ × List Bit)) (xs : List Line) (ess : List (List ℕ)) (k : Known) (done : List ℕ) : Type 0 where
   pub given : GivenFits env g i b.params ls byte
   pub known : KnownFits b k

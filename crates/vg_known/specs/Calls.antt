@@ -55,7 +55,7 @@ abbrev pub lane_bits : List Entry → List ℕ → ℕ
 lane_bits entries name =
     option_map_or (λ e. e.header.lane_width) (entry_named entries name) 0
 
--- the bits of terms of a width, one behind the other
+-- the bits of terms of a width, one after the other
 abbrev pub bits_of_terms : ℕ → List Tree → List Bit
 bits_of_terms w [] = []
 bits_of_terms w (t ∷ ts) = bits_from t 0 w ++ bits_of_terms w ts

@@ -55,7 +55,7 @@ is_opaque_call entries (Constant bs) = false
 is_opaque_call entries (Insert v bits n w x) = false
 is_opaque_call entries (Extract v n w) = false
 
--- the first line of the text has the number 1, and the lines stand behind it
+-- the first line of the text has the number 1, and the lines stand after it
 abbrev pub opaque_line : List Entry → Program → Option Difference
 opaque_line entries p =
     option_map (λ i. opaque (i + 2)) (position (is_opaque_call entries) p.lines)

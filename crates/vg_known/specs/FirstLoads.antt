@@ -26,13 +26,13 @@ is_load a w (Load b v) =
 is_load a w (Store b v x) = false
 is_load a w (Operation op v k xs) = false
 
--- the number of the first such load behind which all units are quiet, the first unit having this number
+-- the number of the first such load after which all units are quiet, the first unit having this number
 abbrev pub first_in : List Bool → Address → Width → ℕ → List Work → Option ℕ
 first_in flags a w v [] = None
 first_in flags a w v (u ∷ us) =
     if is_load a w u && are_quiet flags (read_of a w) us then Some v
     else first_in flags a w (v + 1) us
 
--- the first load of one that stands behind these units and has the number own
+-- the first load of one that stands after these units and has the number own
 abbrev pub first_load : List Bool → ℕ → List Work → ℕ → Address → Width → ℕ
 first_load flags first done own a w = unwrap_or (first_in flags a w first done) own

@@ -26,7 +26,7 @@ abbrev pub argument_leaves : ℕ → List SsaParam → List Tree
 argument_leaves v [] = []
 argument_leaves v (p ∷ ps) = leaf (kind_bits p.kind) (argument_key v) ∷ argument_leaves (v + 1) ps
 
--- the term of a unit behind these, of which the first has the number first; a store has none
+-- the term of a unit after these, of which the first has the number first; a store has none
 abbrev pub unit_term : List Bool → ℕ → List Work → Terms → Work → Tree
 unit_term flags first done s (Load a w) =
     leaf (bits_of w) (load_key a (first_load flags first done (length s.terms) a w))
@@ -40,7 +40,7 @@ abbrev pub with_term : Terms → Work → Tree → Terms
 with_term s u t =
     record { terms = s.terms ++ t ∷ []; met = if is_store u then s.met else met_with s.met t }
 
--- the terms of units behind these
+-- the terms of units after these
 abbrev pub terms_behind : List Bool → ℕ → List Work → Terms → List Work → Terms
 terms_behind flags first done s [] = s
 terms_behind flags first done s (u ∷ us) =

@@ -1,4 +1,4 @@
--- What is known of scalars and registers behind the lines of a program, without a run: a term for each
+-- What is known of scalars and registers after the lines of a program, without a run: a term for each
 -- scalar, and for each bit of a register a bit of a term.
 use Rattle.std.specs.Prelude.{ℕ, ◌-◌, ◌*◌, List, [], ◌∷◌, ◌++◌, length, map, take, replicate, get_or}
 use Rattle.vg_base.specs.Bits.{num, bits_of_bytes}
@@ -69,7 +69,7 @@ operand_term g k (Literal w n) = constant (bits_of w) n
 abbrev pub known_bits : Known → ℕ → List Bit
 known_bits k v = get_or k.vectors v []
 
--- the bits of events, one behind the other
+-- the bits of events, one after the other
 abbrev pub event_bits : (ℕ → List Bit) → List ℕ → List Bit
 event_bits bits_for [] = []
 event_bits bits_for (e ∷ es) = bits_for e ++ event_bits bits_for es
@@ -82,7 +82,7 @@ read_bits g es = event_bits (bits_at g.reads) es
 abbrev pub with_operation : Given → Known → Operator → ℕ → ℕ → Tree → Tree → Tree → Known
 with_operation g k op w n x y z = with_scalar k (computed k.met op w n x y z)
 
--- what is known behind a line that has these events
+-- what is known after a line that has these events
 abbrev pub know : Given → Line → List ℕ → Known → Known
 know g (Load w a) es k = with_scalar k (gathered k.met (read_bits g es))
 know g (Store w a x) es k = with_puts k es (bits_from (operand_term g k x) 0 (bits_of w))
@@ -113,7 +113,7 @@ know g (Call name vs imm bits cost) es k =
     with_vector (with_met k (met_with_all k.met terms))
     (bits_of_terms (lane_bits g.entries name) terms)
 
--- what is known behind lines, for each of which there are its events
+-- what is known after lines, for each of which there are its events
 abbrev pub know_all : Given → List Line → List (List ℕ) → Known → Known
 know_all g [] ess k = k
 know_all g (l ∷ ls) [] k = k

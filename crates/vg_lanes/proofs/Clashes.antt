@@ -1,4 +1,4 @@
--- Leaves that clash, looked for behind one another.
+-- Leaves that clash, looked for after one another.
 use Rattle.std.proofs.Common.{◌≡◌, ℕ, ◌+◌, ◌<◌, refl, sym, ap, ◌∙◌, subst, inl, inr, arith, suc, zero, Bool, true, false, List, [], ◌∷◌, ◌++◌, take, drop, length, get_or}
 use Rattle.std.specs.Prelude.{◌||◌}
 use Rattle.std.specs.List.{list_any}
@@ -51,7 +51,7 @@ clear-push : (test : Leaf → Bool) (xs : List Leaf) (x : Leaf) → Clear test x
 clear-push test [] x h e = (e, tt)
 clear-push test (y ∷ ys) x h e = (h.0, clear-push test ys x h.1 e)
 
--- no member of the second list clashes with one of the first, and none with x: so with x behind the first
+-- no member of the second list clashes with one of the first, and none with x: so with x after the first
 grow : (xs : List Leaf) (x : Leaf) (ys : List Leaf) → Clear (λ a. list_any (clash a) xs) ys → Clear (clash x) ys → Clear (λ a. list_any (clash a) (xs ++ x ∷ [])) ys
 grow xs x [] h k = tt
 grow xs x (y ∷ ys) h k =

@@ -122,7 +122,7 @@ piece_is w v first count number whole e f =
     ∙ ap (λ (c : ℕ). constant c (v / 2 ^ first % 2 ^ c)) e
     ∙ ap (λ (k : ℕ). constant (min 64 (w - k)) (v / 2 ^ k % 2 ^ min 64 (w - k))) (sym here)
 
--- what is left of a constant behind q pieces is its next piece and what is left behind it
+-- what is left of a constant after q pieces is its next piece and what is left after it
 pub next_piece : (w v q : ℕ) → q * 64 < w
     → pieces w v (q * 64) (w - q * 64) ≡ bits_from (piece w v (q * 64)) 0 (min 64 (w - q * 64)) ++ pieces w v ((q + 1) * 64) (w - (q + 1) * 64)
 next_piece w v q h =
@@ -139,7 +139,7 @@ next_piece w v q h =
     behind zero e = refl
     behind (suc n) e = let k : q * 64 + min 64 (w - q * 64) ≡ (q + 1) * 64 = omega (arith, e) in ap (λ (j : ℕ). pieces w v j (suc n)) k
 
--- nothing is left of a constant behind all of its pieces
+-- nothing is left of a constant after all of its pieces
 pub no_piece : (w v q : ℕ) → w ≤ q * 64 → pieces w v (q * 64) (w - q * 64) ≡ []
 no_piece w v q h = let e : w - q * 64 ≡ 0 = omega arith in ap (pieces w v (q * 64)) e
 

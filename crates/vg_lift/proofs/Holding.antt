@@ -280,7 +280,7 @@ slice-lifts env ps ws s c r l w reads h i f =
       width = gather-width bs ∙ n;
     }
 
--- ---- what is left behind two ways
+-- ---- what is left after two ways
 
 pub joined-lifts : (env : Env) (ps : List (List ℕ)) (ws : List ℕ) (x : Tree) (t : Bool) (s u : State) (a b : Cells) → Reads env ps → AllBits ps
     → WellFormed x → width_of x ≡ 1 → nat_eq (value env x) 1 ≡ t → length a.variables ≡ length b.variables

@@ -124,7 +124,7 @@ first_rest d (b ∷ bs) h = ap (λ l. b ∷ l) (sym (take_all (suc (length bs) -
 abbrev rest_of : List Bit → List Bit
 rest_of bits = take (length bits - 1) (drop 1 bits)
 
--- a run behind which there is another
+-- a run after which there is another
 pub gathered_above : (old new : List Content) (run next : Run) (bits : List Bit) (above : ℕ) → 0 < length bits
     → continues (run_of old run) (bit_of old (get_or bits 0 Clear)) ≡ false → RunFits old run → Keeps old new
     → run_of old next ≡ start (bit_of old (get_or bits 0 Clear)) → StandsFor new above (gather_from (run_of old next) (bits_of old (rest_of bits)))

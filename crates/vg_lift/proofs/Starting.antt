@@ -45,7 +45,7 @@ take_passed_fit pool zero ps h = tt
 take_passed_fit pool (suc n) [] h = tt
 take_passed_fit pool (suc n) (p ∷ ps) h = (h.0, take_passed_fit pool n ps h.1)
 
--- the parameters, and behind them the immediate
+-- the parameters, and after them the immediate
 pub first_of : (pool : List Content) (n imm : ℕ) (all : List Passed) (gs : List lane.Passed) → all_passed pool all ≡ gs
     → all_passed pool (take n (all ++ Number imm ∷ [])) ≡ take n (gs ++ of_number imm ∷ [])
 first_of pool n imm all gs e =
@@ -62,7 +62,7 @@ bits_in pool [] i = refl
 bits_in pool (r ∷ rs) zero = refl
 bits_in pool (r ∷ rs) (suc i) = bits_in pool rs i
 
--- the bits of a register behind the statements of a body
+-- the bits of a register after the statements of a body
 pub left_in_dst : (now new : List Content) (ws : List ℕ) (own left : State) (p : lane.State) (t : Script) (i : ℕ) (bits : List Bit) → Begins now ws own p
     → Leaves new own left (lifted t (state_of now own)) → bits ≡ get_or left.registers.items i []
     → bits_of new bits ≡ get_or (lifted t p).registers i []

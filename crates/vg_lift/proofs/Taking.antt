@@ -91,7 +91,7 @@ arm_taken x n body arms s h = sym (cond-true _ _ _ (lt-ltb n (2 ^ 128) h))
 
 -- ---- calls
 
--- the registers of a call behind its statements
+-- the registers of a call after its statements
 pub called : (now new : List Content) (ws : List ℕ) (own left : State) (p : lane.State) (t : script.Script) → Begins now ws own p → Leaves new own left (lifted t (state_of now own)) → Begins new ws left (lifted t p)
 called now new ws own left p t b l = record {
   is = l.is ∙ ap (lifted t) b.is;

@@ -1,4 +1,4 @@
--- What is left behind two ways, of which a condition takes one.
+-- What is left after two ways, of which a condition takes one.
 use Rattle.std.specs.Prelude.{ℕ, suc, ◌%◌, Bool, true, false, ◌&&◌, nat_eq, not, if◌then◌else◌, List, [], ◌∷◌, ◌++◌}
 use Rattle.vg_terms.specs.Term.{Tree, sel}
 use Rattle.vg_terms.specs.Order.{is_same_term}

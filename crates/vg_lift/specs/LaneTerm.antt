@@ -149,7 +149,7 @@ parameters_from p zero = []
 parameters_from p (suc n) = of_parameter p ∷ parameters_from (suc p) n
 
 -- an instance as it begins, by how many parameters its entry has and the immediate, which stands
--- behind them
+-- after them
 abbrev pub first_state : Whole → ℕ → ℕ → State
 first_state i parameters imm =
     begun i.widths i.variables

@@ -11,7 +11,7 @@ use Rattle.vg_script.specs.Views.{Whole}
 use Rattle.vg_lift.specs.LaneTerm.{lane_term}
 use Rattle.vg_range_laws.specs.Static.{IsStatic}
 
--- the cells as an instance begins, given the numbers of its parameters and behind them the immediate
+-- the cells as an instance begins, given the numbers of its parameters and after them the immediate
 abbrev pub first_cells : Whole → List ℕ → Cells
 first_cells i ns = record {
   registers = entered i.widths (take i.parameters ns);

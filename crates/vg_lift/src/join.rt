@@ -93,7 +93,7 @@ fn close(pool: &mut Pool, c: usize, range: Open, done: &mut Vec<Bit>) -> Result<
     }
 }
 
-/// Whether two bits are one.
+/// Whether two bits are the same one: of the same parameter or term at the same place, or both 0.
 fn is_same(pool: &Pool, x: Bit, y: Bit) -> bool
     requires x { BitFits pool.now x }
     requires y { BitFits pool.now y }

@@ -14,7 +14,8 @@ use std::alloc::{AllocError, Global};
 use vg_base::Items;
 use vg_pool::{Pool, pool_is_shared};
 
-/// The node of a variable.
+/// The node of a variable after both ways: its own where they leave the same, else a selection by
+/// the condition `c`.
 #[tactic(auto, using(crate::proofs::Nodes::node_same))]
 fn join_variable(pool: &mut Pool, c: usize, x: usize, y: usize) -> Result<usize, AllocError>
     requires condition { IsNode pool.old c 1 }
@@ -29,7 +30,7 @@ fn join_variable(pool: &mut Pool, c: usize, x: usize, y: usize) -> Result<usize,
     if x == y { Ok(x) } else { pool.sel(c, x, y) }
 }
 
-/// The nodes of all variables.
+/// The nodes of all variables after both ways, in their order.
 #[tactic(auto, using(crate::proofs::StateSteps::variables_step, crate::proofs::StateSteps::variables_end, crate::proofs::StateSteps::node_at, crate::proofs::StateSteps::nodes_kept, crate::proofs::StateSteps::node_behind, crate::proofs::Nodes::node_kept))]
 fn join_all_variables(
     pool: &mut Pool,

@@ -40,7 +40,7 @@ fn with_bits(bits: Items<Bit>, low: usize, new: &[Bit]) -> Items<Bit>
     Items::from_vec(all)
 }
 
-/// A copy of a list.
+/// A copy of a list of bits. Fails for want of memory alone.
 pub(crate) fn copy_bits(alloc: Global, bits: &[Bit]) -> Result<Items<Bit>, AllocError>
     ensures { IfOk result (λ v. v ≡ bits.now) }
 {
@@ -91,7 +91,8 @@ impl State {
         }
     }
 
-    /// A copy.
+    /// A copy of the bits of all registers and the nodes of all variables. Fails for want of memory
+    /// alone.
     pub(crate) fn copy(&self, alloc: Global) -> Result<State, AllocError>
         ensures registers { IfOk result (λ s. s.registers.items ≡ self.now.registers.items) }
         ensures variables { IfOk result (λ s. s.variables.items ≡ self.now.variables.items) }

@@ -16,6 +16,6 @@ lines_of h o imm = instance_text h imm (instance_lanes h o imm)
 abbrev pub entry_text : Entry → List ℕ
 entry_text e = flat_map (lines_of e.header e.operation) (immediates_of e.header.imm)
 
--- one entry behind the other
+-- one entry after the other
 abbrev pub entries_text : List Entry → List ℕ
 entries_text entries = flat_map entry_text entries

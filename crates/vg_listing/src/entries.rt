@@ -78,7 +78,7 @@ fn list_entry(alloc: Global, entry: &Checked, to: &mut Vec<u8>) -> Result<(), Al
     }
 }
 
-// The lines on all instances of entries.
+// The lines on all instances of entries, one entry after the other.
 fn list_all(alloc: Global, entries: &[Checked]) -> Result<Vec<u8>, AllocError>
     requires written { AllWritten (map entry_of entries.now) }
     requires lanes { HaveLanes (map entry_of entries.now) }
@@ -98,9 +98,10 @@ fn list_all(alloc: Global, entries: &[Checked]) -> Result<Vec<u8>, AllocError>
 /// `lane N TERM` with its canonical term, `lane N too large` or `lane N dynamic`; and
 /// `not packable CAUSE` where packs cannot call it.
 ///
-/// Fails for want of memory, also past 2^24 expressions kept while the script of an instance is
-/// written out, 2^24 nodes of the script of an instance or of the terms of an entry, or 2^21 bits of
-/// all registers of a body.
+/// Fails for want of memory, also where the script of an instance would keep more than 2^24 slices,
+/// operators, functions and choices while it is written out, where the script or the terms of an
+/// entry have more than 2^24 nodes, or where the registers of a body have more than 2^21 bits
+/// together.
 pub fn list_entries(alloc: Global, catalog: &Catalog) -> Result<Vec<u8>, AllocError>
     ensures { IfOk result (λ bytes. bytes.items ≡ entries_text (entries_in catalog.now)) }
 {

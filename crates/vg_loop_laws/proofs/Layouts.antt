@@ -104,7 +104,7 @@ blocks-respect l places n size k long layout fits x y cx cy bound =
         (apart-moved l places k a.turn b.turn a.own b.own long
         (layout (k + a.turn) (k + b.turn) (omega (arith, low)) (omega (arith, high)) a.own b.own a.listed b.listed own)))
 
--- the kernel of so many turns may be run where the loop may be run, behind so many
+-- the kernel of so many turns may be run where the loop may be run, after so many
 pub block-laid : (l : Loop) (n : ℕ) (first memory places : List ℕ) (size k : ℕ) → HasSteps l → IsLoopLaid l n first places
     → AreBytes memory → k + size ≤ n → IsLaid (unrolled l size) memory (places_at l.steps places k)
 block-laid l n first memory places size k has input are fits =

@@ -12,7 +12,7 @@ use Rattle.vg_loop_laws.proofs.Moved.{unrolled-are-turns}
 use Rattle.vg_loop_laws.proofs.Bytes.{meaning-keeps}
 use Rattle.vg_loop_laws.proofs.Layouts.{block-laid, turn-laid}
 
--- turns behind so many, counted from there
+-- turns after so many, counted from there
 pub turns-behind : (run : Run) (steps places args : List ℕ) (k n t : ℕ) (m : List ℕ) → turns (turn_of run steps (places_at steps places k) args) n t m ≡ turns (turn_of run steps places args) n (k + t) m
 unfolding turns
 turns-behind run steps places args k zero t m = refl

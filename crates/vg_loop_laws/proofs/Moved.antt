@@ -19,7 +19,7 @@ use Rattle.vg_loop_laws.proofs.Places.{place-moved}
 abbrev inputs : List ℕ → List ℕ → Inputs
 inputs places args = record { places = places; args = args }
 
--- a state behind names that were given before
+-- a state after names that were given before
 abbrev with_names : List ℕ → State → State
 with_names old s = record { memory = s.memory; numbers = old ++ s.numbers }
 

@@ -22,7 +22,7 @@ index-at (s ∷ ss) [] t k e = absurd (omega (arith, e))
 index-at (s ∷ ss) (p ∷ ps) t zero e = refl
 index-at (s ∷ ss) (p ∷ ps) t (suc k) e = index-at ss ps t k (omega (arith, e))
 
--- so many turns behind so many
+-- so many turns after so many
 pub at-at : (steps places : List ℕ) (a b : ℕ) → places_at steps (places_at steps places a) b ≡ places_at steps places (a + b)
 at-at [] places a b = refl
 at-at (s ∷ ss) [] a b = refl
@@ -39,7 +39,7 @@ place-moved steps places u a e =
     sum_moved (slice_index places a.pointer) (u * slice_index steps a.pointer) a.offset
     ∙ ap (λ (p : ℕ). pos p +ℤ a.offset) (sym (index-at steps places u a.pointer e))
 
--- places that are near behind all turns are near behind each of them
+-- places that are near after all turns are near after each of them
 pub near-at : (steps places : List ℕ) (n t : ℕ) → t ≤ n → StayNear steps n places → AllByRecursion (λ p. p < 2 ^ 64) (places_at steps places t)
 near-at [] places n t less near = near
 near-at (s ∷ ss) [] n t less near = tt

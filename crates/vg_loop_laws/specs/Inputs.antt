@@ -38,13 +38,13 @@ LoopRespects l n places =
     → Contains (accesses l.kernel) y → AreBound l.kernel x y
     → AreApartIn (places_at l.steps places t) x (places_at l.steps places u) y
 
--- the pointers have places of 64 bits behind so many turns
+-- the pointers have places of 64 bits after so many turns
 abbrev pub StayNear : List ℕ → ℕ → List ℕ → Type 0
 StayNear [] n places = AllByRecursion (λ p. p < 2 ^ 64) places
 StayNear (s ∷ ss) n [] = Unit {0}
 StayNear (s ∷ ss) n (p ∷ ps) = (p + n * s < 2 ^ 64) × StayNear ss n ps
 
--- any bytes, and a place for each pointer, of 64 bits behind all turns as well, so that the accesses of
+-- any bytes, and a place for each pointer, of 64 bits after all turns as well, so that the accesses of
 -- all turns keep what `noalias` says
 pub record IsLoopLaid (l : Loop) (n : ℕ) (memory places : List ℕ) : Type 0 where
   pub bytes : AreBytes memory

@@ -11,7 +11,7 @@ pub record Loop : Type 0 where
   pub times : ℕ
   pub steps : List ℕ
 
--- the places of the pointers behind so many turns
+-- the places of the pointers after so many turns
 abbrev pub places_at : List ℕ → List ℕ → ℕ → List ℕ
 places_at [] places t = places
 places_at (s ∷ ss) [] t = []

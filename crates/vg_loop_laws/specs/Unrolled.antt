@@ -1,4 +1,4 @@
--- A kernel whose statements are those of so many turns of another, one turn behind the other.
+-- A kernel whose statements are those of so many turns of another, one turn after the other.
 use Rattle.std.specs.Prelude.{ℕ, zero, suc, ◌+◌, ◌*◌, pos, ◌+ℤ◌, List, [], ◌∷◌, ◌++◌, length, map, slice_index}
 use Rattle.std.specs.List.{flat_map}
 use Rattle.vg_base.specs.declared.address.Address.{Address}
@@ -35,11 +35,11 @@ moved_statement steps u names (store w a e) =
 abbrev pub names_given : List Statement → ℕ
 names_given ss = length (flat_map gives ss)
 
--- the statements of the turn behind so many; its names are others than theirs
+-- the statements of the turn after so many; its names are others than theirs
 abbrev pub turn_statements : List ℕ → List Statement → ℕ → List Statement
 turn_statements steps ss u = map (moved_statement steps u (u * names_given ss)) ss
 
--- so many turns behind so many
+-- so many turns after so many
 unfoldable pub unrolled_from : List ℕ → List Statement → ℕ → ℕ → List Statement
 unrolled_from steps ss zero u = []
 unrolled_from steps ss (suc n) u = turn_statements steps ss u ++ unrolled_from steps ss n (u + 1)

@@ -56,7 +56,7 @@ pairs-back params k (suc n) (x ∷ xs) e are = elim (cases_Bool (x.0 == k)) [
     above (suc a) zero h g = absurd (omega (arith, h))
     above (suc a) (suc b) h g = (let r = above a b (omega (arith, h)) (λ e. g (ap suc e)) in omega (arith, r))
 
--- pairs behind k leave no step to it
+-- pairs after k leave no step to it
 later-pairs : (j : ℕ) (xs : List Pair) → Type 0
 later-pairs j [] = Unit {0}
 later-pairs j (x ∷ xs) = j ≤ x.0

@@ -44,7 +44,7 @@ steps-for k n (x ∷ xs) = by (x.0 == k) refl
     by true e = rw e refl
     by false e = rw e refl
 
--- the step of this pointer, and those behind it
+-- the step of this pointer, and those after it
 pub steps-next : (k n : ℕ) (xs : List Pair) → k < n → steps_of k (n - k) xs ≡ (step_for k xs).0 ∷ steps_of (k + 1) (n - (k + 1)) (step_for k xs).1
 steps-next k n xs less =
     let split : n - k ≡ suc (n - (k + 1)) = omega (arith, less) in

@@ -29,7 +29,7 @@ times_at params text = do
   k ← judged text (integer_of (named_in 0 0 params name.0))
   Ok (k.0, name.1)
 
--- a step behind its pointer
+-- a step after its pointer
 unfoldable pub step_at : ℕ → List ℕ → Read Pair
 step_at pointer text = do
   gap ← signs_at (codes " ") text
@@ -44,7 +44,7 @@ pair_at params least text = do
   pointer ← judged text (pointer_of (named_in 0 0 params name.0))
   if nat_lt pointer least then Err (met Shape text) else step_at pointer name.1
 
--- pairs behind these, with room for so many more; 17 are never in order
+-- pairs after these, with room for so many more; 17 are never in order
 unfoldable pub pairs_at : ℕ → List Param → List Pair → ℕ → List ℕ → Read (List Pair)
 pairs_at zero params done least text = Err (unfit text)
 pairs_at (suc room) params done least text = do

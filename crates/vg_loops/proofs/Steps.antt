@@ -36,7 +36,7 @@ went_on run now size steps start args places left k m r same here some is =
     turns-more (block_of size run steps start args) left k m some
     ∙ ap (λ o. o >>= turns (block_of size run steps start args) (left - 1) (k + 1)) (block-runs run now size steps start args places k m same here ∙ is)
 
--- places that stay near behind more turns stay near from here behind the others
+-- places that stay near after more turns stay near from here after the others
 pub near-on : (steps places : List ℕ) (a b n : ℕ) → a + b ≤ n → length places ≡ length steps → StayNear steps n places → StayNear steps b (places_at steps places a)
 near-on [] places a b n less long near = near
 near-on (s ∷ ss) [] a b n less long near = absurd (omega (arith, long))

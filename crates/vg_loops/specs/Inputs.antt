@@ -8,7 +8,7 @@ use Rattle.vg_looped.specs.declared.looped.Looped.{Looped}
 use Rattle.vg_loop_laws.specs.Inputs.{AreBytes, StayNear, LoopRespects}
 use Rattle.vg_loop_laws.specs.Loops.{Loop, Run, turns_asked, blocks_meaning}
 
--- What a loop may be run on: any memory, places that are below 2^64 behind all turns as well, any
+-- What a loop may be run on: any memory, places that are below 2^64 after all turns as well, any
 -- numbers of their widths, so that the accesses of all turns keep what `noalias` says.
 pub record IsLoopInput (l : Loop) (memory places args : List ℕ) : Type 0 where
   pub bytes : AreBytes memory

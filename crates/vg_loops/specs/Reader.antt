@@ -53,7 +53,7 @@ step_at params steps r = do
   step ← step_of number.0
   Ok (slice_set steps fresh step, number.1)
 
--- steps behind commas. No pointer has two, so that there are at most as many as parameters.
+-- steps after commas. No pointer has two, so that there are at most as many as parameters.
 unfoldable pub steps_behind : List KParam → List KParam → List ℕ → Reading
     → Result (List ℕ × Reading) KernelFault
 steps_behind [] params steps r = Ok (steps, r)
@@ -78,12 +78,12 @@ moves steps (store w a e) = nat_lt 0 (slice_index steps a.pointer)
 abbrev pub stores_moving : List ℕ → List Statement → Bool
 stores_moving steps ss = list_any (moves steps) ss
 
--- behind the brace that closes these statements, where one of them is
+-- after the brace that closes these statements, where one of them is
 unfoldable pub moving_at : List ℕ → (Tree × Place) × Reading → Result Reading KernelFault
 moving_at steps block =
     if stores_moving steps block.0.0.statements then Ok block.1 else Err (NoMovingStore block.0.1)
 
--- `loop name (parameters) times n step p S, .. { statements }`, and nothing behind it
+-- `loop name (parameters) times n step p S, .. { statements }`, and nothing after it
 unfoldable pub loop_at : Reading → Result Loop KernelFault
 loop_at r = do
   announced ← expect_at (codes "loop") r

@@ -20,8 +20,9 @@ use vg_looped::Looped;
 /// extension is in the set: a block of as many turns as one kernel may have, and a rest of one turn.
 ///
 /// It leaves the memory that the loop leaves and traps where a turn of the loop traps, in each layout
-/// in which the accesses of all turns respect noalias. Each of its programs is what `compile` gives
-/// for its kernel, or with `more` what `compile_more` gives.
+/// in which the accesses of all turns respect noalias and each pointer stays below 2^64 after all
+/// turns. Each of its programs has what `compile` promises of the program of its kernel, or with
+/// `more` what `compile_more` promises.
 ///
 /// Fails for want of memory, also at the bounds of `compile`.
 pub fn compile_loop(

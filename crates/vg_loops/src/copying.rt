@@ -5,7 +5,7 @@ ghost use Rattle.std.specs.Prelude.{◌≡◌, IfOk};
 use std::alloc::{AllocError, Global};
 use vg_kernel::KParam;
 
-/// A parameter like another.
+/// A copy of a parameter.
 fn copied_param(alloc: Global, param: &KParam) -> Result<KParam, AllocError>
     ensures { IfOk result (λ p. p ≡ param.now) }
 {
@@ -16,7 +16,7 @@ fn copied_param(alloc: Global, param: &KParam) -> Result<KParam, AllocError>
     })
 }
 
-/// Parameters like others.
+/// Copies of parameters, in their order.
 pub(crate) fn copied_params(alloc: Global, params: &[KParam]) -> Result<Vec<KParam>, AllocError>
     ensures { IfOk result (λ ps. ps.items ≡ params.now) }
 {

@@ -38,7 +38,7 @@ fn is_near(steps: &[u32], turn: u32, address: Address) -> bool
     is_offset(moved_offset(steps, turn, address))
 }
 
-/// Whether the loads of an expression do.
+/// Whether the loads of an expression keep offsets of 32 bits so many turns later.
 fn reads_stay(steps: &[u32], turn: u32, expression: &KExpr) -> bool
     ensures { result ≡ reads_stay steps.now turn (expression_of expression.now) }
 {
@@ -67,7 +67,7 @@ fn reads_stay(steps: &[u32], turn: u32, expression: &KExpr) -> bool
     }
 }
 
-/// Whether the accesses of a statement do.
+/// Whether the accesses of a statement keep offsets of 32 bits so many turns later.
 fn statement_stays(steps: &[u32], turn: u32, statement: &KStmt) -> bool
     ensures { result ≡ statement_stays steps.now turn (statement_of statement.now) }
 {
@@ -79,7 +79,7 @@ fn statement_stays(steps: &[u32], turn: u32, statement: &KStmt) -> bool
     }
 }
 
-/// Whether the accesses of all statements do.
+/// Whether the accesses of all statements keep offsets of 32 bits so many turns later.
 fn all_stay(steps: &[u32], turn: u32, statements: &[KStmt]) -> bool
     ensures { result ≡ list_all (statement_stays steps.now turn)
         (map statement_of statements.now) }
@@ -155,7 +155,8 @@ fn turns_that_fit(source: &Loop) -> u32
     }
 }
 
-/// How many turns a block has: the most that keep the limits of 16, 8, 4, 2 and 1. Takes no memory.
+/// How many turns a block has of a loop whose kernel is well formed: the most that keep the limits
+/// of 16, 8, 4, 2 and 1. Takes no memory.
 pub fn turns_of(source: &Loop) -> u32
     requires { IsWellFormed (tree_of source.now.kernel) }
     ensures turns { result ≡ turns_of (loop_of source.now) }

@@ -73,7 +73,8 @@ fn integer<'a>(params: &[KParam], lexer: Lexer<'a>) -> Result<(u32, Lexer<'a>), 
     Ok((integer, rest))
 }
 
-/// A step in bytes.
+/// The step that a word spells, in bytes: 1 to 65,536. `Shape` where it is no number,
+/// `LiteralRange` out of the range.
 fn step_of(word: Word<'_>) -> Result<u32, KernelFault>
     ensures { Gives (λ x. x) result (step_of (spelled_of word.entry)) }
 {
@@ -203,7 +204,7 @@ fn moves(steps: &[u32], statement: &KStmt) -> bool
     }
 }
 
-/// Whether some statement does.
+/// Whether some statement stores through a pointer that has a step.
 fn stores_moving(steps: &[u32], statements: &[KStmt]) -> bool
     ensures { result ≡ stores_moving steps.now (map statement_of statements.now) }
 {
@@ -311,8 +312,8 @@ pub fn parse_loop(alloc: Global, text: &[u8]) -> Result<Loop, KernelFault>
     read(alloc, text)
 }
 
-/// The place of the word `loop` where a text begins with it, and so is read as a loop. Takes no
-/// memory.
+/// The place of the word `loop` where a text of at most 262,144 bytes begins with it, white space
+/// and comments aside, and so is read as a loop. Takes no memory.
 pub fn loop_place(text: &[u8]) -> Option<Place>
     requires { length text.now ≤ 262144 }
     ensures place { result ≡ loop_place text.now }

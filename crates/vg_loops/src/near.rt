@@ -6,7 +6,7 @@ ghost use Rattle.vg_loop_laws.specs.Loops.{turns_asked};
 ghost use Rattle.vg_loops.specs.Near.{stay_near};
 
 /// How many turns the arguments ask for, where the parameter of this number among the integers says
-/// it. Takes no memory.
+/// it; 0 where it is missing. Takes no memory.
 pub fn turns_asked(times: u32, args: &[u64]) -> u64
     ensures { result ≡ turns_asked times args.now }
 {
@@ -35,8 +35,9 @@ fn stays(steps: &[u32], turns: u64, places: &[u64]) -> bool
     }
 }
 
-/// Whether there is a place for each step, and the places that move by these steps stand below 2^64
-/// after so many turns too, as a run of them wants it. Takes no memory.
+/// Whether there are as many places as steps, and each place is below 2^64, as a run asks, after so
+/// many turns too: with so many times its step, which is 0 for a pointer that stands still. Takes
+/// no memory.
 pub fn stay_near(steps: &[u32], turns: u64, places: &[u64]) -> bool
     ensures exact { result ≡ stay_near steps.now turns places.now }
     ensures near { result ≡ true → StayNear steps.now turns places.now }

@@ -144,7 +144,8 @@ pub fn run_loop(
 /// entries. The places are those of its pointers at the first turn, in bytes from the start of the
 /// memory, and the args the numbers of its integer parameters, each kind in the order of the first
 /// line. `Trap` exactly where a block or a turn that is left over traps; then the memory may hold
-/// any bytes. Takes no memory. A text that stores nothing may have 2^64 - 1 turns.
+/// any bytes. Takes no memory. A text that stores nothing may have 2^64 - 1 turns, and then runs
+/// for years.
 pub fn run_looped(
     looped: &Looped,
     block: &mut Machine<'_>,

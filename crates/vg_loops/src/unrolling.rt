@@ -73,7 +73,8 @@ fn unrolled_statements(alloc: Global, source: &Loop, turns: u32) -> Result<Vec<K
 }
 
 /// The kernel of so many turns of a loop: its statements so many times, one turn after the other,
-/// each with its offsets moved on by the turns before it and with names of its own.
+/// each with its offsets moved on by the turns before it and with names of its own. It is well
+/// formed. Fails for want of memory alone.
 pub fn unroll(alloc: Global, source: &Loop, turns: u32) -> Result<Kernel, AllocError>
     requires well_formed { IsWellFormed (tree_of source.now.kernel) }
     requires limits { KeepsLimits (loop_of source.now) turns }

@@ -33,7 +33,7 @@ first_some None d e = absurd cc
 first_some (Some n) d e = refl
 
 module _ {K : Type 0} (items : K → List ℕ) where
-  -- a key behind the others
+  -- a key after the others
   lookup_last : (test : K → Bool) (es : List (K × ℕ)) (k : K) (v : ℕ) → lookup test (es ++ (k, v) ∷ []) ≡ first_of (lookup test es) (if test k then Some v else None)
   lookup_last test [] k v = by (test k) refl
     where

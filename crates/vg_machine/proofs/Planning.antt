@@ -257,7 +257,7 @@ stays_planned i j place (Call name rs imm width cost) same stays h =
 
 -- ---- lines, one after the other
 
--- Whatever is kept and planned behind these lines, they are planned where the lines that are left are.
+-- Whatever is kept and planned after these lines, they are planned where the lines that are left are.
 pub PlannedUpTo : Instances → List ℕ → List Line → List Line → Type 0
 PlannedUpTo i plan left lines =
     (after : Instances) (more : List ℕ) → after.entries ≡ i.entries → Stays i.kept after.kept

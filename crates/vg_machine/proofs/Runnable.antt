@@ -67,12 +67,12 @@ runnable_line i place b (Call name rs imm width cost) vs same rule plan = plan
 pub runnable_first : (i : Instances) (plan : List ℕ) (number : ℕ) (l : Line) (ls : List Line) (vs : List (List ℕ)) → AreRunnable i plan number (l ∷ ls) vs → IsRunnable i (get_or plan number 0) l vs
 runnable_first i plan number l ls vs a = runnable_line i (get_or plan number 0) a.before l vs a.widths a.rules.0 a.planned.0
 
--- ---- behind a line
+-- ---- after a line
 
 state_is : (x t : State) → Some x ≡ Some t → x ≡ t
 state_is x t e = cc
 
--- registers of these widths stand behind a step
+-- registers of these widths stand after a step
 abbrev Widths : State → List ℕ → Type 0
 Widths t ws = map length t.vectors ≡ ws
 
@@ -125,7 +125,7 @@ lane_long : (width : ℕ) (w : Width) (n x : ℕ) (r : List ℕ) → length r �
 lane_long width w n x r long lane =
     length-replaced (n * bits_of w) (bits (bits_of w) x) r (omega (arith, long, lane_inside width w n lane, length-bits (bits_of w) x)) ∙ long
 
--- the widths of the registers behind a line
+-- the widths of the registers after a line
 widths_behind : (called : Instances) (place : ℕ) (i : Inputs) (b : Before) (l : Line) (s t : State) → Widths s b.vectors → IsLine b l → IsRunnable called place l s.vectors → step (called_by called.entries) i l s ≡ Some t → Widths t (with_defined b (defined l)).vectors
 widths_behind called place i b (Load w a) s t same rule can e = bound (loaded s.memory (place_of i.places a) (size_of w)) (λ read. with_scalar s (number read)) t b.vectors (λ x h. same) e
 widths_behind called place i b (Store w a v) s t same rule can e = bound (stored s.memory (place_of i.places a) (bytes (size_of w) (operand_number i s.scalars v))) (λ memory. with_memory s memory) t b.vectors (λ x h. same) e

@@ -6,7 +6,7 @@ use Rattle.std.specs.List.{position_from}
 use Rattle.vg_catalog.specs.Entries.{Entry, name_of}
 use Rattle.vg_catalog.specs.Headers.{first_of}
 
--- where the first entry of this name stands, behind so many others
+-- where the first entry of this name stands, after so many others
 abbrev pub place_from : ℕ → List Entry → List ℕ → Option ℕ
 place_from k entries name = position_from (λ e. bytes_eq name (name_of e)) k entries
 

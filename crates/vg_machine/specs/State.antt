@@ -33,7 +33,7 @@ IsRunnable i place (Insert v bits n w x) vs = IsThere vs v bits × IsLane bits w
 IsRunnable i place (Extract v n w) vs = (v < length vs) × IsLane (length (register_bits vs v)) w n
 IsRunnable i place (Call name rs imm bits cost) vs = DoesCall i place name (length rs) imm bits
 
--- lines that keep the rules behind these registers, the first of which has this number in the plan
+-- lines that keep the rules after these registers, the first of which has this number in the plan
 pub record AreRunnable (i : Instances) (plan : List ℕ) (number : ℕ) (lines : List Line) (vectors : List (List ℕ)) : Type 0 where
   pub before : Before
   pub widths : map length vectors ≡ before.vectors

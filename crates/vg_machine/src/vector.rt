@@ -30,7 +30,7 @@ impl Model for Vector {
     ghost invariant = { λ v. (v.size ≤ 64) × (v.size ≤ length v.register.bytes) };
 }
 
-/// Puts bytes at the front.
+/// Overwrites the first bytes, as many as `from` has.
 fn put_front(to: &mut [u8], from: &[u8])
     requires { length from.now ≤ length to.old }
     ensures { to.new ≡ from.now ++ drop (length from.now) to.old }
@@ -38,7 +38,7 @@ fn put_front(to: &mut [u8], from: &[u8])
     to[..from.len()].copy_from_slice(from);
 }
 
-/// The bytes at the front.
+/// The first bytes, as many as `count`.
 fn front(bytes: &[u8], count: usize) -> &[u8]
     requires { count ≤ length bytes.now }
     ensures value { result.now ≡ take count bytes.now }

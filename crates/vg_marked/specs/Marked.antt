@@ -5,7 +5,7 @@ use Rattle.vg_text.specs.declared.place.Place.{Place}
 use Rattle.vg_text.specs.Place.{first_place, place_after}
 use Rattle.vg_marked.specs.declared.marked.Marked.{Marked}
 
--- what a row is without its first mark, and the place of what stands behind that
+-- what a row is without its first mark, and the place of what stands after that
 abbrev pub unmarked : List ℕ → Option (List ℕ × Place)
 unmarked row =
     if nat_le (length row) 1000000

@@ -108,7 +108,7 @@ module _ (d l : ℕ) where
   first : (x : LaneAt) (xs : List LaneAt) → IsThis x → Placed d l (x ∷ xs)
   first x xs e = record { place = x; has = inl refl; description = e.0; lane = e.1 }
 
-  -- it is the first, or stands behind it
+  -- it is the first, or stands after it
   front : (x : LaneAt) (xs : List LaneAt) → Placed d l (x ∷ xs) → IsThis x ⊎ Placed d l xs
   front x xs p = by p.place p.has p.description p.lane
     where

@@ -48,7 +48,7 @@ first-same m n ms ns o p (inr g) (inl e) = e
 first-same m n ms ns o p (inr g) (inr h) =
     absurd (not-both m n (all-has (λ k. Before m k) n ms o.0 h) (all-has (λ k. Before n k) m ns p.0 g))
 
--- a match behind the first is behind the first of the other table
+-- a match after the first is after the first of the other table
 behind-first : (m n : Match) (ms ns : List Match) → IsTable (m ∷ ms) → m ≡ n → Includes (m ∷ ms) (n ∷ ns) → Includes ms ns
 behind-first m n ms ns o e is x h = elim (is x (inr h)) [
   | inl f ↦
@@ -110,7 +110,7 @@ other f b h = elim (cases_Bool (is_leaf b.width b.key f)) [
   | inr g ↦ g
 ]
 
--- behind an entry, and behind one of the same leaf
+-- after an entry, and after one of the same leaf
 agree-behind : (f s : Bound) (fs ss bound : List Bound) → f.width ≡ s.width → f.key ≡ s.key → AllByRecursion (λ b. same_leaf f b ≡ false) bound
     → AllByRecursion (Agree (f ∷ fs) (s ∷ ss)) bound → AllByRecursion (Agree fs ss) bound
 agree-behind f s fs ss [] e g h a = tt

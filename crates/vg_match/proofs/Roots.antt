@@ -27,7 +27,7 @@ same-root r x = grind (arith, nat_tests)
 pub between : (r : Root) (x : LaneAt) → has_root r x ≡ (not (is_before x (lane_with r)) && not (is_before (lane_with r) x))
 between r x = grind (arith, nat_tests)
 
--- those before a lane, and those not behind it, are a front of sorted lanes
+-- those before a lane, and those not after it, are a front of sorted lanes
 pub front-before : (e : LaneAt) (xs : List LaneAt) → IsByRoot xs → IsPartitionedBy (λ x. is_before x e) xs
 front-before e xs s i j d le l t = elim (cases_Bool (is_before (get_or xs i d) e)) [
   | inl u ↦ u

@@ -59,7 +59,7 @@ module _ (e : ValueTerm) where
       last true = refl
       last false = refl
 
-  -- no value behind one that is not before e, and has not its term, has it
+  -- no value after one that is not before e, and has not its term, has it
   none-behind : (xs : List ValueTerm) → AllWithin (λ x. is_before e x ≡ true) xs 0 (length xs) → find has xs ≡ None
   none-behind [] h = refl
   none-behind (x ∷ xs) h =

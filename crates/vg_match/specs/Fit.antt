@@ -26,7 +26,7 @@ standing terms v (one op w k x) = value_below v (least_with terms (one op w k x)
 standing terms v (two op w x y) = value_below v (least_with terms (two op w x y))
 standing terms v (sel w c x y) = value_below v (least_with terms (sel w c x y))
 
--- A leaf is bound to this behind what is bound so far; it may stand there already with the same.
+-- A leaf is bound to this after what is bound so far; it may stand there already with the same.
 unfoldable pub bind : ℕ → LeafKey → Wanted → List Bound → Option (List Bound)
 bind w k x bound =
     if same_wanted x Nothing then None

@@ -8,7 +8,8 @@ pub fn found_matches_fit()
     ensures { FoundFit }
 {}
 
-/// A law: two bindings by which a term fits a value bind each leaf to the same.
+/// A law: two bindings by which a term fits a value, in one way or by the first of the ways, bind
+/// each leaf to the same.
 pub fn there_is_one_binding()
     ensures { OneBinding }
 {}

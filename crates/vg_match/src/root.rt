@@ -32,7 +32,7 @@ impl Root {
         }
     }
 
-    /// An order of roots.
+    /// An order of roots: by operation, then width, then places of a shift.
     pub(crate) fn compare(&self, other: &Root) -> Ordering
         ensures { result ≡ root_cmp self.now other.now }
     {

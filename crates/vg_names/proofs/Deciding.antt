@@ -129,7 +129,7 @@ either (suc a) (suc b) = elim (either a b) [
 ]
 
 module _ (given : List Register) (as' : List Assignment) where
-  -- what is known of signs behind so many steps, and of which right sides
+  -- what is known of signs after so many steps, and of which right sides
   abbrev Known : ℕ → Signs
   Known k = record { slices = is_signed_register (λ r. r.signed_slices) given; whole = signed_in given as' k }
 

@@ -9,7 +9,7 @@ use Rattle.vg_pseudo.specs.Resolve.{NameFault, resolved, all_resolved}
 use Rattle.vg_pseudo.specs.Resolved.{Expr, Arguments, end, more}
 use Rattle.vg_names.specs.Naming.{list_behind, all_behind, next_argument_of}
 
--- what is left, resolved behind the argument
+-- what is left, resolved after the argument
 abbrev pub rest_of : Scope → Option (Expr × tree.Arguments) → Result Arguments NameFault
 rest_of s None = Ok end
 rest_of s (Some p) = all_resolved s p.1 >>= λ xs. Ok (more p.0 xs)
@@ -25,7 +25,7 @@ all_is s tree.end = refl
 all_is s (tree.more x xs) = all_is_by s xs (resolved s x)
 
 module _ {A : Type 0} (f : A → Expr) where
-  -- the last of those that are done stands before what is behind
+  -- the last of those that are done stands before what is after
   pub list_last : (done : List A) (x : A) (xs : Arguments)
       → list_behind (map f (done ++ x ∷ [])) xs ≡ list_behind (map f done) (more (f x) xs)
   list_last [] x xs = refl

@@ -8,7 +8,7 @@ use Rattle.vg_names.specs.Assigned.{first_assigned, behind_first, assigned_behin
 use Rattle.vg_names.specs.Distinct.{with_name}
 use Rattle.vg_names.specs.Marks.{with_seen, marked, all_marked, marked_in, first_marked}
 
--- names behind names
+-- names after names
 pub behind_both : (before ms ns : List (List ℕ)) → distinct_behind before (ms ++ ns) ≡ distinct_behind (distinct_behind before ms) ns
 behind_both before [] ns = refl
 behind_both before (m ∷ ms) ns = behind_both (with_name before m) ms ns

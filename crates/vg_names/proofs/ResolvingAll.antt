@@ -43,7 +43,7 @@ pub same_scope : (given : List Register) (marks : List (List ℕ)) (functions : 
 same_scope given marks functions body registers variables e f =
     ap (λ rs. scope_over rs variables functions) e ∙ ap (λ vs. scope_over (scope_of given marks [] body).registers vs functions) f
 
--- a body whose code gave this, and what stands behind it
+-- a body whose code gave this, and what stands after it
 abbrev body_from : ℕ → Scope → Result Code NameFault → Result Body NameFault
 body_from n s r = r >>= λ code. Ok (body_in n s code)
 

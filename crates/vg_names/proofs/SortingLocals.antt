@@ -205,7 +205,7 @@ variables-behind marked before (n ∷ ns) = by (λ bs. variables-behind marked b
     by g true = g before
     by g false = g (with_name before n)
 
--- each is new behind those before it
+-- each is new after those before it
 abbrev Fresh : List (List ℕ) → List (List ℕ) → Type 0
 Fresh before [] = Unit {0}
 Fresh before (n ∷ ns) = (has_name before n ≡ false) × Fresh (before ++ n ∷ []) ns

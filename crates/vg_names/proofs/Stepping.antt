@@ -10,7 +10,7 @@ use Rattle.vg_pseudo.specs.Resolve.{NameFault, resolved, target_of, assigned_reg
 use Rattle.vg_pseudo.specs.Resolved.{Code, stop, assign, skip, repeat, choose, way, pick, arm}
 use Rattle.vg_names.specs.Pieces.{code_behind, code_done, before_rest, next_of}
 
--- what is left, resolved behind the statement
+-- what is left, resolved after the statement
 abbrev pub rest_of : Scope → Option ((Code → Code) × Statements) → Result Code NameFault
 rest_of s None = Ok stop
 rest_of s (Some p) = code_of s p.1 >>= λ c. Ok (p.0 c)
@@ -48,7 +48,7 @@ code_is s (tree.pick e arms rest) = two s rest (resolved s e) (code_of s arms) (
 code_is s (tree.arm n body arms) = one s arms (code_of s body) (arm n)
 
 module _ {A : Type 0} (f : A → Code → Code) where
-  -- the last of those that are done stands before what is behind
+  -- the last of those that are done stands before what is after
   pub behind_last : (done : List A) (x : A) (c : Code)
       → code_behind (map f (done ++ x ∷ [])) c ≡ code_behind (map f done) (f x c)
   behind_last [] x c = refl

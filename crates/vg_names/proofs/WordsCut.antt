@@ -92,7 +92,7 @@ nothing-small : Small []
 unfolding decimal_value
 nothing-small n e = absurd (cc)
 
--- the bytes of a token, and what stands behind it
+-- the bytes of a token, and what stands after it
 abbrev Bytes : List ℕ → Token → List ℕ → List ℕ → Type 0
 Bytes text t lexeme behind = (slice_range text t.start t.end ≡ lexeme) × (drop t.end text ≡ behind)
 
@@ -115,7 +115,7 @@ word_ok x = Ok x
 same_word : {a b : Worded} → word_ok a ≡ word_ok b → a ≡ b
 same_word e = cc
 
--- what is left behind a word of a text is cut too, and a number that the word spells is that of a text
+-- what is left after a word of a text is cut too, and a number that the word spells is that of a text
 abbrev Goes : Worded → Type 0
 Goes x = IsCut x.1 × Small x.0.bytes
 

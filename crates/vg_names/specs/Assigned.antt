@@ -32,7 +32,7 @@ first_assigned ts (last body) = []
 first_assigned ts (pick e arms rest) = assignments ts arms
 first_assigned ts (arm n body arms) = assignments ts body
 
--- what stands behind it
+-- what stands after it
 abbrev pub behind_first : Statements → Option Statements
 behind_first stop = None
 behind_first (assign at t e rest) = Some rest

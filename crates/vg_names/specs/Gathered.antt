@@ -55,11 +55,11 @@ signs_of given names flags = record {
 abbrev pub with_sign : Signs → Bool → Assignment → Bool
 with_sign s b a = b || is_signed s a.turns a.value
 
--- what is known behind one step more
+-- what is known after one step more
 abbrev pub signed_next : List Register → List (List ℕ) → List Assignment → List Bool → List Bool
 signed_next given names as' flags = gathered (with_sign (signs_of given names flags)) false names as'
 
--- what is known behind so many steps
+-- what is known after so many steps
 abbrev pub signed_after : List Register → List (List ℕ) → List Assignment → ℕ → List Bool
 signed_after given names as' zero = replicate (length names) false
 signed_after given names as' (suc k) = signed_next given names as' (signed_after given names as' k)

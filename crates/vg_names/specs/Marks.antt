@@ -4,7 +4,7 @@ use Rattle.vg_pseudo.specs.Tree.{Expression, number, name, slice, bit, element, 
 use Rattle.vg_pseudo.specs.Names.{has_name}
 use Rattle.vg_names.specs.Distinct.{with_name}
 
--- behind these names
+-- after these names
 abbrev pub with_seen : List (List ℕ) → List ℕ → List (List ℕ) → List (List ℕ)
 with_seen ts n before = if has_name ts n then before else with_name before n
 

@@ -29,7 +29,7 @@ abbrev pub spread_by : Expression → Expression → Expression → Option ℕ
 spread_by x (number place n) low = if same x low then Some n else None
 spread_by x _ low = None
 
--- these arguments, and the others behind them
+-- these arguments, and the others after them
 abbrev pub list_behind : List Expr → Arguments → Arguments
 list_behind [] xs = xs
 list_behind (x ∷ done) xs = more x (list_behind done xs)

@@ -1,4 +1,4 @@
--- Statements with their names resolved, one after the other: each is what it makes of those behind it.
+-- Statements with their names resolved, one after the other: each is what it makes of those after it.
 use Rattle.std.specs.Prelude.{ℕ, List, [], ◌∷◌, length, Option, Some, None, Result, Ok, box_value}
 use Rattle.vg_base.specs.Bind.{◌>>=◌}
 use Rattle.vg_text.specs.declared.place.Place.{Place}
@@ -11,7 +11,7 @@ use Rattle.vg_names.specs.declared.piece.Piece.{Piece}
 use Rattle.vg_names.specs.declared.piece.Piece.TheVariants as piece
 use Rattle.vg_names.specs.Views.{expr_of, target_view, code_view}
 
--- a statement with others behind it
+-- a statement with others after it
 abbrev pub behind : Piece → Code → Code
 behind (piece.Assign p t e) rest = assign p (target_view t) (expr_of (box_value e)) rest
 behind (piece.Skip p) rest = skip p rest
@@ -23,7 +23,7 @@ behind piece.Last rest = last rest
 behind (piece.Pick e a) rest = pick (expr_of (box_value e)) (code_view (box_value a)) rest
 behind (piece.Arm n s) rest = arm n (code_view (box_value s)) rest
 
--- these statements, and others behind them
+-- these statements, and others after them
 abbrev pub code_behind : List (Code → Code) → Code → Code
 code_behind [] rest = rest
 code_behind (f ∷ fs) rest = f (code_behind fs rest)

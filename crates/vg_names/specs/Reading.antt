@@ -21,7 +21,7 @@ pub record HasNumbersOfTexts (o : Operation) : Type 0 where
   pub body : AreWritten o.body
 
 -- What is read from a text, wherever a lexer stands in it, has numbers of texts; and it stays cut
--- behind each word and behind an operation.
+-- after each word and after an operation.
 pub record ReadAreWritten : Type 0 where
   pub lexers : (l : Lexer) → IsCut (reading l)
   pub words : (r q : Reading) (w : Spelled) → IsCut r → word_at r ≡ Ok (w, q) → IsCut q

@@ -19,7 +19,7 @@ pub(crate) enum Forms {
 }
 
 impl Forms {
-    /// One form more.
+    /// The forms in which a local is assigned, after one assignment more in this form.
     pub(crate) fn with(self, form: Form) -> Forms
         ensures { result ≡ form_behind self (form_view form) }
     {

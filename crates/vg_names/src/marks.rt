@@ -28,7 +28,7 @@ fn mark_name(
     names.add(alloc, name.bytes())
 }
 
-/// Those of an expression.
+/// Marks the names of an expression that stand with brackets or with an element.
 #[cycle(marks)]
 pub(crate) fn mark(
     alloc: Global,
@@ -79,7 +79,7 @@ pub(crate) fn mark(
     }
 }
 
-/// Those of arguments, along the list in a loop.
+/// Marks those names of arguments, along the list in a loop.
 #[cycle(marks)]
 fn mark_all(
     alloc: Global,

@@ -102,7 +102,7 @@ fn operation_body(
 /// registers, number variables and DEFINEs go by their numbers. Else its first name, in the order of
 /// the text, that is not known there or that means no bits, with its place.
 ///
-/// Faults: `UnknownName` and `BareRegister` of the text; `Memory` where there is none, which says
+/// Faults: `UnknownName` and `BareRegister` of the text; `Memory` where memory ran out, which says
 /// nothing of the text.
 pub fn resolve(alloc: Global, header: &Header, operation: &Operation) -> Result<Resolved, NameFault>
     ensures exact { Gives resolved_of result (resolve header.now (operation_of operation.now)) }

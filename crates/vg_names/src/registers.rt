@@ -57,7 +57,7 @@ impl Registers {
         }
     }
 
-    /// And one register more.
+    /// The registers and one more, which has the next number. Fails for want of memory alone.
     pub(crate) fn with(self, alloc: Global, register: Register) -> Result<Registers, AllocError>
         ensures { IfOk result (λ s. s ≡ self ++ register_view register ∷ []) }
     {
@@ -67,7 +67,7 @@ impl Registers {
         Ok(Registers { all, names })
     }
 
-    /// Their widths in bits.
+    /// Their widths in bits, by their numbers. Fails for want of memory alone.
     pub(crate) fn widths(&self, alloc: Global) -> Result<Vec<u128>, AllocError>
         ensures { IfOk result (λ w. w.items ≡ map (λ r. r.width) self.now) }
     {

@@ -13,7 +13,7 @@ use std::alloc::{AllocError, Global};
 use std::marker::Model;
 use vg_text::byte::is_text;
 
-/// What a name means.
+/// What a name means at a place of a body.
 #[derive(Clone, Copy)]
 pub(crate) enum Meaning<'a> {
     /// The variable of a FOR, by how many FORs lie between.
@@ -50,7 +50,7 @@ impl<'a> Model for Scope<'a> {
 }
 
 impl<'a> Scope<'a> {
-    /// Outside of all FORs.
+    /// The names at a place outside of all FORs.
     pub(crate) fn new(
         alloc: Global,
         registers: &'a Registers,

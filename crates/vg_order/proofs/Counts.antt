@@ -32,7 +32,7 @@ fewer-behind : (f : ℕ → ℕ) (x : ℕ) (xs : List ℕ) → count_of x xs ≤
 fewer-behind f x [] = omega arith
 fewer-behind f x (y ∷ ys) = omega (arith, fewer-behind f x ys, same-behind f x y)
 
--- what stands once behind a function stands once
+-- what stands once after a function stands once
 pub once-from_map : (f : ℕ → ℕ) (xs : List ℕ) → AreOnce (map f xs) → AreOnce xs
 once-from_map f xs h x = omega (arith, fewer-behind f x xs, h (f x))
 
@@ -55,7 +55,7 @@ none_stands (y ∷ ys) x h =
     let first : one_if (x == y) ≡ 0 = ap one_if (ne_eqb x y (λ e. h 0 (omega arith) (sym e))) in
     omega (arith, none_stands ys x (λ k b. h (suc k) (omega arith)))
 
--- behind the first so many
+-- after the first so many
 pub stands-drop : (x from : ℕ) (xs : List ℕ) → Stands x (drop from xs) → (k : ℕ) × (from ≤ k) × (k < length xs) × (slice_index xs k ≡ x)
 stands-drop x zero xs h = let at = stands_where x xs h in (at.0, omega arith, at.1, at.2)
 stands-drop x (suc from) [] h = absurd (omega arith)

@@ -36,7 +36,7 @@ counts-more order flags m n h f counts = count_of-push n m order ∙ elim (cases
       omega (arith, counts n)
 ]
 
--- one node more behind an order
+-- one node more after an order
 pub follows-push : (needs : ℕ → List ℕ) (home : ℕ → ℕ) (done order : List ℕ) (m : ℕ) → FollowsHomes needs home done order
     → ((x : ℕ) → Stands x (needs m) → Stands (home x) (done ++ order)) → FollowsHomes needs home done (order ++ m ∷ [])
 follows-push needs home done [] m follows here =

@@ -13,7 +13,7 @@ use Rattle.vg_order.specs.Paths.{AreAllPlaced, AreUnitsPlaced, FollowsHomes, hom
 use Rattle.vg_order.proofs.Building.{numbers_from-more}
 use Rattle.vg_order.proofs.Looks.{left-begin}
 
--- numbers before the first and behind the last of a run, and those of it
+-- numbers before the first and after the last of a run, and those of it
 pub count_of-before : (x first n : ℕ) → x < first → count_of x (numbers_from first n) ≡ 0
 count_of-before x first zero h = refl
 count_of-before x first (suc n) h =

@@ -52,7 +52,7 @@ IsCycleBy deps ssa matches packs (n ∷ ns) =
     AllByRecursion (Contains (nodes ssa packs)) (n ∷ ns)
     × LeadsToBy deps ssa matches packs n n ns
 
--- an order that is legal by a list: each node once, behind all units on which it depends
+-- an order that is legal by a list: each node once, after all units on which it depends
 pub record IsOrderBy (deps : List (ℕ × ℕ)) (ssa : Ssa) (matches : List Match) (packs : List Packed) (order : List Node) : Type 0 where
   pub once : IsPermutation (nodes ssa packs) order
   pub follows : Follows (node_depends_by deps ssa matches packs) (units_at packs) [] order

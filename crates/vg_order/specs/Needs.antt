@@ -27,7 +27,7 @@ Passes homes placed before after =
     (x : ℕ) → Stands x before →
     (flag_at placed (slice_index homes x) ≡ true) ⊎ Stands x after
 
--- where a look along rows stops: at a unit that is not placed, or behind the last row
+-- where a look along rows stops: at a unit that is not placed, or after the last row
 abbrev pub StopsAt : List ℕ → List Bool → List (List ℕ) → List ℕ → Option ℕ → Type 0
 StopsAt homes placed rows left None = left ≡ []
 StopsAt homes placed rows left (Some x) =

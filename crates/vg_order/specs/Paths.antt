@@ -43,14 +43,14 @@ pub record IsGraph (deps : List (ℕ × ℕ)) (g : Graph) : Type 0 where
 
 -- ---- orders of numbers
 
--- behind those that are done, each node stands behind the nodes of the units on which it depends
+-- after those that are done, each node stands after the nodes of the units on which it depends
 abbrev pub FollowsHomes : (ℕ → List ℕ) → (ℕ → ℕ) → List ℕ → List ℕ → Type 0
 FollowsHomes needs home done [] = Unit {0}
 FollowsHomes needs home done (n ∷ ns) =
     ((x : ℕ) → Stands x (needs n) → Stands (home x) done)
     × FollowsHomes needs home (done ++ n ∷ []) ns
 
--- each of so many nodes once, behind the nodes of the units on which it depends
+-- each of so many nodes once, after the nodes of the units on which it depends
 pub record IsOrdered (needs : ℕ → List ℕ) (home : ℕ → ℕ) (count : ℕ) (order : List ℕ) : Type 0 where
   pub once : (n : ℕ) → n < count → count_of n order ≡ 1
   pub none : (n : ℕ) → count ≤ n → count_of n order ≡ 0

@@ -170,7 +170,7 @@ fn nodes_at(alloc: Global, nodes: &[Node], numbers: &[u32]) -> Result<Vec<Node>,
 }
 
 /// An order of the packs of a plan and the units outside them, each of them once and after all units
-/// on which it depends by a list; else units whose nodes wait for each other in a circle. A call depends
+/// on which it depends by a list; else units whose nodes wait for each other in a cycle. A call depends
 /// on the units to which its lanes are bound. Looks at each pair of the list once or twice.
 ///
 /// Under the empty plan, where units depend on lesser ones alone, the units come in their order. More

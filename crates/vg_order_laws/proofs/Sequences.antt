@@ -1,4 +1,4 @@
--- Where each step commutes with each lesser one behind it, the steps do what they do in rising order; and
+-- Where each step commutes with each lesser one after it, the steps do what they do in rising order; and
 -- a list with the numbers of a rising one, each as often, is that one in order.
 use Rattle.std.proofs.Common.{◌≡◌, ◌≢◌, ℕ, zero, suc, ◌+◌, ◌<◌, ◌≤◌, Bool, true, false, List, [], ◌∷◌, ◌++◌, length, Option, Some, None, refl, sym, ap, subst, ◌∙◌, arith, inl, inr}
 use Rattle.std.specs.Prelude.{nat_le, ◌==◌}
@@ -84,7 +84,7 @@ all-standing P (y ∷ ys) h =
 
 -- ---- rising lists
 
--- each member is at most each one behind it
+-- each member is at most each one after it
 abbrev pub Rises : List ℕ → Type 0
 Rises [] = Unit {0}
 Rises (x ∷ xs) = AllByRecursion (λ y. x ≤ y) xs × Rises xs

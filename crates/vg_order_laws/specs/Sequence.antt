@@ -21,7 +21,7 @@ abbrev pub in_order : List ℕ → List ℕ
 in_order [] = []
 in_order (y ∷ ys) = put_in y (in_order ys)
 
--- each step commutes with each one of a lesser number behind it
+-- each step commutes with each one of a lesser number after it
 abbrev pub MayBeSorted : {S : Type 0} → (ℕ → S → Option S) → List ℕ → Type 0
 MayBeSorted step [] = Unit {0}
 MayBeSorted step (y ∷ ys) =

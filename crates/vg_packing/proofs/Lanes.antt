@@ -15,7 +15,7 @@ use Rattle.vg_packing.specs.Wants.{slot}
 apart : (s : Slot) (low w v : ℕ) → nat_eq s.low low ≡ false → same_slot s (slot low w (Value v)) ≡ false
 apart s low w v f = rw f refl
 
--- no lane behind it is the slot
+-- no lane after it is the slot
 pub behind : (s : Slot) (low w : ℕ) (lanes : List (Option ℕ)) → s.low < low
     → list_any (same_slot s) (lanes_from low w lanes) ≡ false
 behind s low w [] l = refl

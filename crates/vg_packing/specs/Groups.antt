@@ -21,13 +21,13 @@ unit_numbers ssa = numbers_from (arguments ssa) (length ssa.units)
 abbrev pub stores_at : Ssa → Address → Width → List ℕ
 stores_at ssa a w = filter (λ v. stores_to a w (unit_at ssa v)) (unit_numbers ssa)
 
--- for so many places beside each other the store of this rank to each, where there is one
+-- for so many consecutive places the store of this rank to each, where there is one
 abbrev pub stores_from : Ssa → Address → Width → ℕ → ℕ → List (Option ℕ)
 stores_from ssa a w rank zero = []
 stores_from ssa a w rank (suc n) =
     slice_get (stores_at ssa a w) rank ∷ stores_from ssa (behind a (size_of w)) w rank n
 
--- The group of so many bytes that a store begins: it and the stores behind it in memory, each with
+-- The group of so many bytes that a store begins: it and the stores after it in memory, each with
 -- as many before it to its own place.
 abbrev pub group_of : Ssa → ℕ → ℕ → Option Work → List Packed
 group_of ssa size v None = []

@@ -30,7 +30,7 @@ loads_from a w (Some (Operation op v k xs)) = false
 loads_from a w (Some (Load b v)) =
     nat_eq b.pointer a.pointer && (int_eq b.offset a.offset && nat_eq (bits_of v) (bits_of w))
 
--- loads beside each other in memory, the first from this address
+-- loads consecutive in memory, the first from this address
 abbrev pub are_loads : Ssa → Address → Width → List ℕ → Bool
 are_loads ssa a w [] = true
 are_loads ssa a w (v ∷ vs) =

@@ -5,7 +5,7 @@ ghost use Rattle.std.specs.Prelude.{◌≡◌, IfOk};
 use std::alloc::{AllocError, Global};
 use vg_shapes::Pack;
 
-/// The same pack a second time. Fails only for want of memory.
+/// A copy of the pack. Fails only for want of memory.
 pub fn copy_pack(alloc: Global, pack: &Pack) -> Result<Pack, AllocError>
     ensures { IfOk result (λ p. p ≡ pack.now) }
 {
@@ -19,7 +19,7 @@ pub fn copy_pack(alloc: Global, pack: &Pack) -> Result<Pack, AllocError>
     }
 }
 
-/// The same packs a second time. Fails only for want of memory.
+/// A copy of the packs, in their order. Fails only for want of memory.
 pub fn copy_packs(alloc: Global, packs: &[Pack]) -> Result<Vec<Pack>, AllocError>
     ensures { IfOk result (λ copies. copies.items ≡ packs.now) }
 {

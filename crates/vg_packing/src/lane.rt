@@ -11,7 +11,8 @@ pub fn lane_of(low: u32, width: u32) -> u32
     if width == 0 { 0 } else { low / width }
 }
 
-/// A lane for each unit. Fails only for want of memory.
+/// The lanes of a call that computes each of these units, in their order: no lane is without one.
+/// Fails only for want of memory.
 pub fn some_lanes(alloc: Global, units: &[u32]) -> Result<Vec<Option<u32>>, AllocError>
     ensures { IfOk result (λ lanes. lanes.items ≡ map Some units.now) }
 {

@@ -4,7 +4,7 @@ ghost use Rattle.std.specs.Prelude.{◌≡◌, IfOk, false, replicate};
 
 use std::alloc::{AllocError, Global};
 
-/// So many marks, none set. Fails only for want of memory.
+/// As many marks as `count`, none set. Fails only for want of memory.
 pub fn clear_marks(alloc: Global, count: usize) -> Result<Vec<bool>, AllocError>
     ensures { IfOk result (λ marks. marks.items ≡ replicate count false) }
 {

@@ -35,7 +35,8 @@ fn push_bounds(
     }
 }
 
-/// What each matched lane of a call binds, lane 0 first.
+/// The leaves that each matched lane of a call binds, and to what, lane 0 first. Fails for want of
+/// memory alone.
 pub fn bounds_of(
     alloc: Global,
     table: &MatchTable,
@@ -76,7 +77,7 @@ fn push_new(slots: &mut Vec<Slot>, slot: Slot) -> Result<(), AllocError>
     Ok(())
 }
 
-/// Whether a slot is among others.
+/// Whether one of some slots stands at the same place as this one and wants the same.
 pub fn has_slot(slots: &[Slot], slot: &Slot) -> bool
     ensures { result ≡ list_any (same_slot slot.now) slots.now }
 {

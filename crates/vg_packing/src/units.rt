@@ -31,7 +31,7 @@ pub fn unit_width(unit: Option<Unit>) -> u32
     }
 }
 
-/// What a store stores.
+/// What a store stores; nothing where the unit is no store.
 pub fn stored(unit: Option<Unit>) -> Wanted
     ensures { result ≡ stored unit }
 {

@@ -7,7 +7,7 @@ ghost use Rattle.vg_packing.specs.Wants.{is_constant, is_wanted, value_of, wante
 use std::alloc::{AllocError, Global};
 use vg_shapes::{Operand, Slot, Wanted};
 
-/// The value that is wanted, if it is one.
+/// The number of the value that is wanted; none where a constant or nothing is.
 pub fn value_of(wanted: Wanted) -> Option<u32>
     ensures { result ≡ value_of wanted }
 {
@@ -18,7 +18,7 @@ pub fn value_of(wanted: Wanted) -> Option<u32>
     }
 }
 
-/// Whether something is wanted.
+/// Whether a value or a constant is wanted.
 pub fn is_wanted(wanted: Wanted) -> bool
     ensures { result ≡ is_wanted wanted }
 {
@@ -29,7 +29,7 @@ pub fn is_wanted(wanted: Wanted) -> bool
     }
 }
 
-/// Whether a value is wanted.
+/// Whether a value is wanted, and neither a constant nor nothing.
 pub fn wants_value(wanted: Wanted) -> bool
     ensures { result ≡ wants_value wanted }
 {
@@ -40,7 +40,8 @@ pub fn wants_value(wanted: Wanted) -> bool
     }
 }
 
-/// The slots that want something, by rising lowest bit.
+/// The slots that want a value or a constant, in the order of the operand. Fails for want of memory
+/// alone.
 pub fn wanted_slots(alloc: Global, operand: &Operand) -> Result<Vec<Slot>, AllocError>
     ensures { IfOk result (λ slots. slots.items ≡ wanted_slots operand.now) }
 {
@@ -52,7 +53,8 @@ pub fn wanted_slots(alloc: Global, operand: &Operand) -> Result<Vec<Slot>, Alloc
         .collect(alloc)
 }
 
-/// The values that an operand wants, one for each slot that wants a value.
+/// The numbers of the values that an operand wants, one for each slot that wants a value, in the
+/// order of the slots. Fails for want of memory alone.
 pub fn wanted_values(alloc: Global, operand: &Operand) -> Result<Vec<u32>, AllocError>
     ensures { IfOk result (λ values. values.items ≡ wanted_values operand.now) }
 {
@@ -63,7 +65,7 @@ pub fn wanted_values(alloc: Global, operand: &Operand) -> Result<Vec<u32>, Alloc
         .collect(alloc)
 }
 
-/// Whether no slot wants a value.
+/// Whether no slot of an operand wants a value, so that constants fill it.
 pub fn is_constant(operand: &Operand) -> bool
     ensures { result ≡ is_constant operand.now }
 {

@@ -63,7 +63,7 @@ kept-first : (p : ℕ → Bool) (f v : ℕ) (xs : List ℕ) → p f ≡ true →
     → slice_get (filter p (f ∷ xs)) 0 ≡ Some v
 kept-first p f v xs t e = rw t (ap Some e)
 
--- a number that passes stands behind those below it that do
+-- a number that passes stands after those below it that do
 pub nth-kept : (p : ℕ → Bool) (f n v : ℕ) → f ≤ v → v < f + n → p v ≡ true
     → slice_get (filter p (numbers_from f n)) (count_below p f n v) ≡ Some v
 nth-kept p f zero v a b t = absurd (omega (arith, a, b))

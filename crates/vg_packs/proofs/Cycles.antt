@@ -1,4 +1,4 @@
--- A pack closes a cycle behind a plan exactly where a walk down from its needs comes back to it.
+-- A pack closes a cycle after a plan exactly where a walk down from its needs comes back to it.
 use Rattle.std.proofs.Common.{◌≡◌, ℕ, zero, suc, ◌+◌, ◌-◌, ◌<◌, ◌≤◌, Bool, true, false, not, List, [], ◌∷◌, ◌++◌, length, get_or, refl, sym, ◌∙◌, ap, inl, inr, arith}
 use Rattle.std.specs.Prelude.{◌&&◌, ◌||◌, All, filter, nat_eq, nat_lt, replicate, slice_get, Option, Some, None, is_some}
 use Rattle.std.specs.List.{filter_map, list_any}

@@ -51,7 +51,7 @@ number-has u f (suc n) a b = elim (cases_Bool (nat_eq f u)) [
       inr (number-has u (f + 1) n (omega (arith, l)) (omega (arith, b)))
 ]
 
--- a number that passes stands behind as many as are below it
+-- a number that passes stands after as many as are below it
 kept-nth : (p : ℕ → Bool) (f n r u : ℕ) → slice_get (filter p (numbers_from f n)) r ≡ Some u → count_below p f n u ≡ r
 kept-nth p f zero zero u e = absurd (cc)
 kept-nth p f zero (suc r) u e = absurd (cc)

@@ -13,7 +13,7 @@ begins_with wanted low width None = true
 begins_with [] low width (Some v) = false
 begins_with (s ∷ ss) low width (Some v) = same_slot s (slot low width (Value v))
 
--- the slots behind a lane
+-- the slots after a lane
 abbrev pub rest_behind : List Slot → Option ℕ → List Slot
 rest_behind wanted None = wanted
 rest_behind [] (Some v) = []

@@ -1,4 +1,4 @@
--- The stores of a kernel by their places in memory, and which stands behind which.
+-- The stores of a kernel by their places in memory, and which stands after which.
 use Rattle.std.specs.Prelude.{ℕ, zero, suc, ◌/◌, ◌&&◌, Bool, List, [], ◌∷◌, length, filter, map, Option, Some, None, nat_eq, nat_le, position, slice_get, if◌then◌else◌}
 use Rattle.std.specs.List.{flat_map}
 use Rattle.std.specs.Ordering.{int_eq}
@@ -26,7 +26,7 @@ stands_at a w s =
 abbrev pub is_ranked : Address → Width → ℕ → PlacedStore → Bool
 is_ranked a w rank s = nat_eq s.rank rank && stands_at a w s
 
--- the second stands right behind the first in memory, with as many before it to its own place
+-- the second stands right after the first in memory, with as many before it to its own place
 abbrev pub is_next : PlacedStore → PlacedStore → Bool
 is_next s t = is_ranked (behind s.address (size_of s.width)) s.width s.rank t
 
@@ -38,7 +38,7 @@ placed_as v rank (Some (Operation op w k xs)) = []
 placed_as v rank (Some (Store a w x)) =
     record { unit = v; address = a; width = w; rank = rank a w } ∷ []
 
--- behind these stores
+-- after these stores
 abbrev pub placed_here : List PlacedStore → ℕ → Option Work → List PlacedStore
 placed_here before v unit = placed_as v (λ a w. length (filter (stands_at a w) before)) unit
 
@@ -61,7 +61,7 @@ abbrev pub link_behind : List Link → Option ℕ → Option Link
 link_behind links None = None
 link_behind links (Some k) = slice_get links k
 
--- the units of the stores from this one on, each right behind the one before, at most so many
+-- the units of the stores from this one on, each right after the one before, at most so many
 abbrev pub run_from : List Link → ℕ → Option Link → List ℕ
 run_from links zero at = []
 run_from links (suc n) None = []

@@ -23,7 +23,7 @@ fn values_in(alloc: Global, lanes: &[Option<u32>]) -> Result<Vec<u32>, AllocErro
     lanes.iter().filter_map(|lane| *lane).collect(alloc)
 }
 
-/// The units of a pack.
+/// The numbers of the units of a pack, lane 0 first; lanes of a call that have none are left out.
 pub(crate) fn units_in(alloc: Global, pack: &Pack) -> Result<Vec<u32>, AllocError>
     ensures { IfOk result (λ units. units.items ≡ units_of pack.now) }
 {

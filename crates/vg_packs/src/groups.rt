@@ -83,7 +83,7 @@ fn push_groups(
 }
 
 /// The store groups of a kernel, by falling size in bytes, those of one size by rising first unit: stores
-/// that stand beside each other in memory, of 4 to 64 bytes, each with as many before it to its own place.
+/// that are consecutive in memory, of 4 to 64 bytes, each with as many before it to its own place.
 /// Takes time by the square of the number of stores.
 pub fn store_groups(alloc: Global, ssa: &Ssa) -> Result<Vec<Pack>, AllocError>
     ensures { IfOk result (λ groups. groups.items ≡ store_groups ssa.now) }

@@ -1,5 +1,5 @@
-//! Packs and plans of kernels: the store groups of a kernel, the packs that produce an operand, whether a
-//! plan stays one with a pack after it, which packs may follow it, and the plain plan.
+//! Packs and plans of kernels: the store groups of a kernel, the packs that produce an operand,
+//! whether a plan is still one with a pack after it, which packs may follow it, and the plain plan.
 //!
 //! `specs/Placed.antt` says how the stores of a kernel are linked to those beside them in memory.
 //!

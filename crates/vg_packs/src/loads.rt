@@ -1,4 +1,4 @@
-//! Loads that stand beside each other in memory.
+//! Loads that are consecutive in memory.
 
 ghost use Rattle.std.specs.Prelude.{◌≡◌, ◌<◌, ◌^◌, IfOk, length};
 ghost use Rattle.vg_packing.specs.Producers.{are_beside, are_loads, begin_loads, loads_from};
@@ -36,7 +36,7 @@ fn loads_from(unit: Option<Unit>, first: Address, bytes: u64, width: Width) -> b
     }
 }
 
-/// Whether units are loads of a width beside each other in memory, the first from this address.
+/// Whether units are loads of a width that are consecutive in memory, the first from this address.
 fn are_loads(ssa: &Ssa, first: Address, width: Width, units: &[u32]) -> bool
     requires { length units.now < 2 ^ 32 }
     ensures { result ≡ are_loads ssa.now first width units.now }
@@ -65,7 +65,7 @@ fn begin_loads(ssa: &Ssa, first: Option<Unit>, units: &[u32]) -> bool
     }
 }
 
-/// Whether there are units, and they are loads of one width beside each other in memory.
+/// Whether there are units, and they are loads of one width that are consecutive in memory.
 fn are_beside(ssa: &Ssa, units: &[u32]) -> bool
     requires { length units.now < 2 ^ 32 }
     ensures { result ≡ are_beside ssa.now units.now }

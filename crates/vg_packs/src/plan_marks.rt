@@ -42,8 +42,8 @@ impl PlanMarks {
     }
 
     /// Whether the plan, which has no cycle, stays one with a pack after it: no unit of the pack is in
-    /// it, and no unit of the pack depends on another by way of units outside it. The dependences name
-    /// units alone.
+    /// it, and no unit of the pack depends on another through units outside it. The dependences
+    /// name units alone.
     pub fn stays_plan(
         &self,
         alloc: Global,

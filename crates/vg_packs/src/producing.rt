@@ -177,10 +177,10 @@ fn push_calls(
     Ok(())
 }
 
-/// The packs that produce an operand: the loads that it wants, if they stand beside each other in memory,
-/// then the calls of instances that compute what it wants, in the order of the instances. An operand that
-/// wants fewer than two values, one twice, or a constant, has none. Where an operand wants, or a
-/// description has, more than some 2^24 lanes, there is no memory.
+/// The packs that produce an operand: the loads that it wants, if they are consecutive in memory,
+/// then the calls of instances that compute what it wants, in the order of the instances. An
+/// operand that wants fewer than two values, one twice, or a constant, has none. Where an operand
+/// wants, or a description has, more than some 2^24 lanes, there is no memory.
 pub fn producers(
     alloc: Global,
     operand: &Operand,

@@ -264,7 +264,8 @@ pub(crate) fn overlaps(packed: &[bool], plan: &[Pack], pack: &Pack) -> bool
 }
 
 /// Whether a plan that has no cycle stays one with a pack after it: no unit of the pack is in it, and
-/// no unit of the pack depends on another by way of units outside it. The dependences name units alone.
+/// no unit of the pack depends on another through units outside it. The dependences name units
+/// alone.
 pub fn stays_plan(
     alloc: Global,
     plan: &[Pack],

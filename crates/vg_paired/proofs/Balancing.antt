@@ -1,4 +1,4 @@
--- What is left of the events of a kernel behind those of lines.
+-- What is left of the events of a kernel after those of lines.
 use Rattle.std.proofs.Common.{◌≡◌, ℕ, ◌+◌, ◌-◌, ◌<◌, ◌≤◌, Bool, true, false, List, [], ◌∷◌, ◌++◌, length, map, take, get_or, Option, Some, refl, sym, ap, subst, ◌∙◌, inl, inr, arith, append_assoc, append-nil, length-take}
 use Rattle.std.specs.Prelude.{◌&&◌, ◌||◌, if◌then◌else◌, nat_lt, unwrap_or}
 use Rattle.std.specs.List.{list_any}
@@ -22,7 +22,7 @@ use Rattle.vg_paired.proofs.Counts.{byte_at, count-long, count-other, count-same
 use Rattle.vg_paired.proofs.Noting.{of_label}
 use Rattle.vg_paired.proofs.Leasts.{least-more, least-same}
 
--- the number of a label behind a note
+-- the number of a label after a note
 pub number-here : (old new : LabelNumbers) (m : Label) (k : ℕ) → Notes old new m k → (l : Label) → same_label l m ≡ true → number_of new l ≡ k
 number-here old new m k notes l t = ap (λ o. unwrap_or o 0) (notes l ∙ cond-true _ _ _ t)
 

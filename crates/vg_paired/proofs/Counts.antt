@@ -1,4 +1,4 @@
--- Labels of accesses one behind the other, and how often a label stands there.
+-- Labels of accesses one after the other, and how often a label stands there.
 use Rattle.std.proofs.Common.{◌≡◌, ℕ, zero, suc, ◌+◌, ◌<◌, ◌≤◌, pos, Bool, true, false, List, [], ◌∷◌, ◌++◌, length, map, take, get_or, Option, refl, sym, ap, ◌∙◌, inl, inr, arith, append_assoc, append-nil}
 use Rattle.std.specs.Prelude.{◌+ℤ◌}
 use Rattle.std.proofs.lemmas.Int.{ints}
@@ -32,7 +32,7 @@ count-long l (x ∷ xs) = elim (cases_Bool (same_label l x)) [
   | inr f ↦ let none : one_if (same_label l x) ≡ 0 = ap one_if f in omega (arith, count-long l xs)
 ]
 
--- so many bytes behind an address
+-- so many bytes after an address
 abbrev pub byte_at : Bool → Address → ℕ → Label
 byte_at w a i = record { writes = w; address = record { pointer = a.pointer; offset = a.offset +ℤ pos i } }
 

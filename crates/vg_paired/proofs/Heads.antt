@@ -51,7 +51,7 @@ event-rises l (suc k) (x ∷ xs) = elim (cases_Bool (same_label l x)) [
   | inr f ↦ let e = at-behind l x xs (suc k) f in let g = at-behind l x xs (suc (suc k)) f in let b = event-rises l (suc k) xs in omega arith
 ]
 
--- behind the event of a rank its next one has the next rank
+-- after the event of a rank its next one has the next rank
 event-next : (l : Label) (k : ℕ) (xs : List Label) → event_at l k xs < length xs → event_at l (suc k) xs ≡ event_behind xs (event_at l k xs)
 event-next l k [] h = absurd (omega arith)
 event-next l zero (x ∷ xs) h = elim (cases_Bool (same_label l x)) [
@@ -156,7 +156,7 @@ heads-done ls h k none from =
 
 -- ---- taking events
 
--- the rank of the next event of a label behind one more
+-- the rank of the next event of a label after one more
 rank-same : (ls done : List Label) (l m : Label) → same_label l m ≡ true → event_at l (count_label l (done ++ m ∷ [])) ls ≡ event_at m (suc (count_label m done)) ls
 rank-same ls done l m t =
     let one : count_label l done + 1 ≡ suc (count_label l done) = omega arith in

@@ -14,7 +14,7 @@ use Rattle.vg_events.proofs.Ranks.{number-inside}
 use Rattle.vg_paired.proofs.Lowering.{early-is}
 use Rattle.vg_paired.proofs.Heads.{label-mapped}
 
--- the first of some numbers, and those behind it
+-- the first of some numbers, and those after it
 pub between-first : (first last : ℕ) → first < last → between first last ≡ first ∷ between (first + 1) last
 between-first first last less =
     let more : last - first ≡ suc (last - (first + 1)) = omega arith in ap (numbers_from first) more
@@ -60,7 +60,7 @@ units-turn p k left units b old new step inside is picked before =
     picked ∙ (λ i. if is i then Some k else before i) ∙ ap (λ n. if p k then Some k else find p (between n units)) (sym one)
     ∙ sym (ap (find p) (between-first k units (omega arith)))
 
--- behind the last event there is none
+-- after the last event there is none
 pub rows-begin : (ls : List Label) (line : ℕ → ℕ) (rows : Table) (first : ℕ) → length ls ≤ first → AreRows ls line [] rows → AreRows ls line (between first (length ls)) rows
 rows-begin ls line rows first most none = subst (λ es. AreRows ls line es rows) (sym (between-none first (length ls) most)) none
 

@@ -109,7 +109,7 @@ any-turned p xs (y ∷ ys) = ap (λ b. list_any (λ x. p x y) xs || b) (any-turn
     both [] = refl
     both (x ∷ xs) = middle (p x y) (list_any (λ z. p z y) xs) (list_any (p x) ys) (list_any (λ z. list_any (p z) ys) xs) ∙ ap (λ b. (p x y || list_any (p x) ys) || b) (both xs)
 
--- ---- numbers behind others
+-- ---- numbers after others
 
 any-shifted : (p h : ℕ → Bool) (a k m : ℕ) → ((j : ℕ) → k ≤ j → j < k + m → p (a + j) ≡ h j) → list_any p (numbers_from (a + k) m) ≡ list_any h (numbers_from k m)
 any-shifted p h a k zero same = refl

@@ -1,4 +1,4 @@
--- How many events of each label are left behind those of some lines, and of which labels these have too many.
+-- How many events of each label are left after those of some lines, and of which labels these have too many.
 use Rattle.std.specs.Prelude.{◌≡◌, ℕ, ◌-◌, ◌&&◌, ◌||◌, Bool, true, false, List, ◌++◌, Option, Some, None, nat_lt, unwrap_or}
 use Rattle.std.specs.List.{list_any}
 use Rattle.std.specs.Option.{option_map}
@@ -23,7 +23,7 @@ IsLeast p (Some b) = (p b ≡ true) × ((l : Label) → is_before l b ≡ true �
 abbrev pub is_over : List Label → List Label → Label → Bool
 is_over ls done l = nat_lt (count_label l ls) (count_label l done)
 
--- of each label so many events are left behind these, and the least of which they have too many
+-- of each label so many events are left after these, and the least of which they have too many
 pub record IsBalance (ls done : List Label) (b : Balance) : Type 0 where
   pub left : (l : Label) → number_of b.left l ≡ count_label l ls - count_label l done
   pub least : IsLeast (is_over ls done) (option_map label_of b.least)

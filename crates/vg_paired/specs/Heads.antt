@@ -25,7 +25,7 @@ pub record AreHeadsFrom (ls : List Label) (k : ℕ) (heads : LabelNumbers) (behi
   pub next : (e : ℕ) → k ≤ e → e < length ls → slice_index behind e ≡ event_behind ls e
   pub all : length behind ≡ length ls
 
--- behind those that are done, for each label its next event, and for each event the next one of its label
+-- after those that are done, for each label its next event, and for each event the next one of its label
 pub record AreHeads (ls done : List Label) (h : Heads) : Type 0 where
   pub first : (l : Label) → unwrap_or (noted h.first l) (length ls) ≡ event_at l (count_label l done) ls
   pub next : (e : ℕ) → e < length ls → slice_index h.next.items e ≡ event_behind ls e

@@ -33,7 +33,7 @@ SetsAll old new es number =
 
 -- ---- events of units
 
--- the labels of all events, and for each unit the number of its first event, with the number of all events behind them
+-- the labels of all events, and for each unit the number of its first event, with the number of all events after them
 pub record AreSpans (xs : List (Option Access)) (s : Spans) : Type 0 where
   pub events : map label_of s.labels.items ≡ labels xs
   pub units : length s.begins.items ≡ length xs + 1
@@ -45,7 +45,7 @@ between first last = numbers_from first (last - first)
 
 -- ---- the sweep
 
--- an event behind this number stands too early for one of these
+-- an event after this number stands too early for one of these
 abbrev pub is_turned : List Bool → List Label → (ℕ → ℕ) → ℕ → ℕ → Bool
 is_turned flags ls line first last =
     list_any (λ x. list_any (is_early flags ls line x) (between last (length ls)))
@@ -57,7 +57,7 @@ PutsBefore ls line first last old new =
     (end : ℕ) → last ≤ end → end ≤ length ls →
     AreRows ls line (between last end) old → AreRows ls line (between first end) new
 
--- the first events of units stand in order, and behind the last unit stands the number of all events
+-- the first events of units stand in order, and after the last unit stands the number of all events
 pub record AreRising (begins : List ℕ) (n : ℕ) : Type 0 where
   pub some : 0 < length begins
   pub rises : (k : ℕ) → k + 1 < length begins → slice_index begins k ≤ slice_index begins (k + 1)

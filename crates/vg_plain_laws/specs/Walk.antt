@@ -6,7 +6,7 @@ use Rattle.vg_plans.specs.World.{World}
 
 -- The walk from a plan, with the operands that wait, to its last plan, however long it takes. The
 -- first operand that waits is left where it is settled or no producer can join the plan; else its
--- first producer that can does, and the operands of that wait behind the others. The walk ends
+-- first producer that can does, and the operands of that wait after the others. The walk ends
 -- where no operand waits.
 pub data WalksTo {P O N : Type 0} (w : World P O N) : List P → List O → List P → Type 0 where
   ended : (plan : List P) → WalksTo w plan [] plan

@@ -54,7 +54,7 @@ pub record IsSingle
 further : (z : ℤ) (m : ℕ) → 0 < m → z ≡ z +ℤ pos m → ⊥
 further z m l e = absurd (omega (arith, ints))
 
--- a store so many bytes behind an address
+-- a store so many bytes after an address
 abbrev IsBehind : Ssa → Address → ℕ → Type 0
 IsBehind ssa a v =
     (b : Address) × (w : Width) × (x : Wanted) × (n : ℕ) × (unit_at ssa v ≡ Some (Store b w x))

@@ -63,7 +63,7 @@ lower-ends : (k l w m x : ℕ)
     → nat_eq l m ≡ false → l ≤ m → l + w ≤ m
 lower-ends k l w m x c n le = grind (arith, nat_tests, c, n, le)
 
--- behind a slot the others begin where it ends or later
+-- after a slot the others begin where it ends or later
 abbrev AreApart : List Slot → Type 0
 AreApart [] = Unit {0}
 AreApart (s ∷ ss) = Every (λ t. s.low + s.width ≤ t.low) ss × AreApart ss

@@ -37,7 +37,7 @@ use Rattle.vg_plan_laws.proofs.Terms.{went}
 
 -- ---- runs
 
--- what is known behind the arguments
+-- what is known after the arguments
 abbrev made : ℕ → List ℕ
 made n = n ∷ n ∷ 0 ∷ 0 ∷ []
 

@@ -46,7 +46,7 @@ AreTrue called ds = AllByRecursion (IsTrueOf called) ds
 
 -- ---- packs and operands
 
--- each pack of a plan is a store group, loads that stand beside each other, or a matched call
+-- each pack of a plan is a store group, consecutive loads, or a matched call
 abbrev pub PlansAreMade : Type 0
 PlansAreMade =
     (ds : List Description) (matches : List Match) (ssa : Ssa) (deps : List (ℕ × ℕ))

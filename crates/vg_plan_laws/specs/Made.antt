@@ -21,7 +21,7 @@ pub record IsMatchedCall
   pub matched : are_matched matches d 0 lanes ≡ true
   pub agreed : list_all (λ o. agree o.slots) (operands_of ds matches ssa (Call d lanes)) ≡ true
 
--- a store group, loads that stand beside each other, or a call whose lanes match
+-- a store group, consecutive loads, or a call whose lanes match
 abbrev pub IsMade : List Description → List Match → Ssa → Packed → Type 0
 IsMade ds matches ssa (Stores us) = IsStoreGroup ssa us
 IsMade ds matches ssa (Loads us) = IsLoadPack ssa us

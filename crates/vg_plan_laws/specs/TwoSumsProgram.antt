@@ -1,4 +1,4 @@
--- What is emitted for two sums that are stored beside each other, by a plan with a call.
+-- What is emitted for two sums that are stored to consecutive places, by a plan with a call.
 use Rattle.std.specs.Prelude.{◌≡◌, List, [], ◌∷◌, codes, replicate, None}
 use Rattle.vg_base.specs.declared.width.Width.TheVariants.{W32}
 use Rattle.vg_program.specs.declared.line.Line.TheVariants as line

@@ -21,7 +21,7 @@ use Rattle.vg_plan_relations.specs.Produces.{AreRising, HasLane}
 
 -- ---- rising slots
 
--- a slot behind the first begins behind it
+-- a slot after the first begins after it
 behind-first : (s t : Slot) (ss : List Slot) → AreRising (s ∷ ss) → Has t ss → s.low < t.low
 behind-first s t ss r h = every-has (λ (u : Slot). s.low < u.low) t ss r.0 h
 

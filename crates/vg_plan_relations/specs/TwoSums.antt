@@ -1,4 +1,4 @@
--- One sum of two arguments stored to two places beside each other: a plan with a call.
+-- One sum of two arguments stored to two consecutive places: a plan with a call.
 use Rattle.std.specs.Prelude.{◌≡◌, ℕ, ◌*◌, true, List, [], ◌∷◌, pos, codes, Some, None}
 use Rattle.vg_base.specs.declared.address.Address.{Address}
 use Rattle.vg_base.specs.declared.width.Width.TheVariants.{W32}

@@ -1,4 +1,4 @@
--- A pack behind a plan closes a cycle exactly where it reaches itself.
+-- A pack after a plan closes a cycle exactly where it reaches itself.
 use Rattle.std.proofs.Common.{◌≡◌, ℕ, zero, suc, ◌<◌, ◌≤◌, ◌⊎◌, Bool, true, false, List, [], ◌∷◌, ◌++◌, length, refl, sym, ◌∙◌, ap, subst, inl, inr, arith}
 use Rattle.std.specs.Prelude.{◌||◌, if◌then◌else◌, filter, nat_eq}
 use Rattle.std.specs.List.{list_any}
@@ -76,7 +76,7 @@ module _ {P O N : Type 0} (w : World P O N) where
   holding-cycle : (plan : List P) (vs : List ℕ) (v : ℕ) → Has v vs → Includes vs w.units → HoldEachOther plan vs → has_no_cycle w plan ≡ false
   holding-cycle plan vs v here i h = not-empty _ v (survive plan vs h (length w.units) w.units i v here)
 
-  -- the needs of a unit, with a pack behind the plan
+  -- the needs of a unit, with a pack after the plan
   packed-behind : (plan : List P) (p : P) (v : ℕ) → is_packed w (plan ++ p ∷ []) v ≡ (is_packed w plan v || is_in v (w.units_of p))
   packed-behind [] p v = elim (is_in v (w.units_of p)) as (λ b. (b || false) ≡ (false || b)) [ true ↦ refl | false ↦ refl ]
   packed-behind (q ∷ plan) p v = elim (cases_Bool (is_in v (w.units_of q))) [ inl t ↦ rw t refl | inr f ↦ rw f (packed-behind plan p v) ]
@@ -110,7 +110,7 @@ module _ {P O N : Type 0} (w : World P O N) where
         | inr r ↦ elim r [ inl e ↦ subst (λ q. Has x (w.needs_of q)) (sym e) m.1 | inr none ↦ absurd none ]
       ]
 
-  -- units of other nodes that hold each other behind the pack hold each other before it
+  -- units of other nodes that hold each other after the pack hold each other before it
   hold-before : (plan : List P) (p : P) (vs : List ℕ) → ((v : ℕ) → Has v vs → is_in v (w.units_of p) ≡ false) → HoldEachOther (plan ++ p ∷ []) vs → HoldEachOther plan vs
   hold-before plan p vs other h = λ v k.
       let y = any-found (λ x. is_in x vs) (needs w (plan ++ p ∷ []) v) (h v k) in

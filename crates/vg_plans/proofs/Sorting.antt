@@ -9,7 +9,7 @@ use Rattle.vg_plans.proofs.Members.{filter-agree}
 use Rattle.vg_plans.specs.Levels.{insert_by, sort_by}
 use Rattle.vg_plans.specs.Members.{Every}
 
--- each key is at most those behind it
+-- each key is at most those after it
 abbrev pub Rises : {X : Type 0} → (X → ℕ) → List X → Type 0
 Rises key [] = Unit {0}
 Rises key (x ∷ xs) = Every (λ y. key x ≤ key y) xs × Rises key xs

@@ -1,4 +1,4 @@
--- When a pack behind a plan closes no cycle.
+-- When a pack after a plan closes no cycle.
 use Rattle.std.specs.Prelude.{◌≡◌, ℕ, true, false, List}
 use Rattle.vg_plans.specs.Members.{Has}
 use Rattle.vg_plans.specs.World.{World, is_in, is_packed, needs}

@@ -1,4 +1,4 @@
--- What a pack behind a plan changes of the recipes.
+-- What a pack after a plan changes of the recipes.
 use Rattle.std.specs.Prelude.{◌≡◌, ℕ, true, false, List}
 use Rattle.vg_plans.specs.Members.{Has}
 use Rattle.vg_plans.specs.World.{World, is_in}

@@ -66,7 +66,7 @@ module _ {P O N : Type 0} (w : World P O N) where
   abbrev pub has_no_cycle : List P → Bool
   has_no_cycle plan = is_empty (left_after plan (length w.units) w.units)
 
-  -- the plan stays a plan with the pack behind it, where the pack is a store group or produces an operand
+  -- the plan stays a plan with the pack after it, where the pack is a store group or produces an operand
   abbrev pub stays_plan : List P → P → Bool
   stays_plan plan p = not (list_any (is_packed plan) (w.units_of p)) && has_no_cycle (plan ++ p ∷ [])
 

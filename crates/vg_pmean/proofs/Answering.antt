@@ -18,7 +18,7 @@ use Rattle.vg_range.specs.Unrolled.{IsGiven}
 use Rattle.vg_pmean.specs.Applied.{left_in_dst, place_of}
 use Rattle.vg_pmean.specs.Entries.{IsInstance, AreInstances, AreAll, Answers, AnswersAll, AnswersOne, least_of}
 
--- one more behind those found so far
+-- one more after those found so far
 pub one_more : (h : Header) (o : Operation) (imm n : ℕ) (is : List code.Whole) (i : code.Whole) → AreInstances h o imm is → length is ≡ n
     → IsInstance h o (Some (imm + n)) i → AreInstances h o imm (is ++ i ∷ [])
 one_more h o imm n [] i all e last = (subst (λ k. IsInstance h o (Some k) i) (omega (arith, e)) last, tt)
@@ -49,7 +49,7 @@ one_more_instance h o lo n imm is new i all count at means e = (
   ap (λ (l : List Instance). length l) e ∙ omega (arith, length_behind is i, count),
 )
 
--- the immediate stands behind the parameters
+-- the immediate stands after the parameters
 behind_params : (params : List ℕ) (n imm : ℕ) → length params ≡ n → get_or (params ++ imm ∷ []) n 0 ≡ imm
 behind_params [] zero imm e = refl
 behind_params [] (suc n) imm e = absurd (omega (arith, e))

@@ -1,4 +1,4 @@
--- Registers as a body begins, and the widths of registers behind each step.
+-- Registers as a body begins, and the widths of registers after each step.
 use Rattle.std.proofs.Common.{◌≡◌, ℕ, zero, suc, ◌+◌, ◌≤◌, ◌<◌, List, [], ◌∷◌, ◌++◌, length, get_or, set, refl, ap, ◌∙◌, arith, length-append}
 use Rattle.std.specs.Prelude.{map}
 use Rattle.vg_base.specs.Bits.{bits}

@@ -1,4 +1,4 @@
--- Registers that lie one behind the other in a list of bits.
+-- Registers that lie one after the other in a list of bits.
 use Rattle.std.proofs.Common.{◌≡◌, inl, inr, ℕ, zero, suc, ◌+◌, ◌-◌, ◌<◌, ◌≤◌, List, [], ◌∷◌, ◌++◌, length, get_or, set, take, drop, replicate, refl, sym, ap, ◌∙◌, arith, subst}
 use Rattle.std.specs.Prelude.{map, min}
 use Rattle.std.proofs.lemmas.Bool.{cases_lt}
@@ -34,7 +34,7 @@ width_at l [] at r laid fits = refl
 width_at l (e ∷ es) at zero laid fits = length-range e.start e.width l (omega (arith, laid.0))
 width_at l (e ∷ es) at (suc r) laid fits = width_at l es (at + e.width) r laid.1 (omega arith)
 
--- the bits of registers that lie behind a place stay when those before are replaced
+-- the bits of registers that lie after a place stay when those before are replaced
 behind : (l new : List ℕ) (at low : ℕ) (es : List Extent) → IsLaid at es → low + length new ≤ at → at + total (widths_of es) ≤ length l
     → registers_in (replaced low new l) es ≡ registers_in l es
 behind l new at low [] laid before fits = refl

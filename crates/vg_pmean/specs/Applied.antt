@@ -10,7 +10,7 @@ use Rattle.vg_script.specs.declared.whole.Whole as code
 use Rattle.vg_pmean.specs.declared.room.Room.{Room}
 use Rattle.vg_pmean.specs.Room.{Suffices, around, script_room}
 
--- the numbers of the parameters, and behind them the immediate
+-- the numbers of the parameters, and after them the immediate
 abbrev pub given : {B : ℕ} → List (Reg B) → ℕ → List ℕ
 given params imm = map (λ p. num (bits_of_bytes p.bytes)) params ++ imm ∷ []
 

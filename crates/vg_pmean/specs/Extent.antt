@@ -4,7 +4,7 @@ use Rattle.vg_bits.specs.Range.{range}
 use Rattle.vg_pmean.specs.declared.extent.Extent.{Extent}
 use Rattle.vg_pmean.specs.declared.room.Room.{Room}
 
--- one behind the other, from this place on
+-- one after the other, from this place on
 abbrev pub IsLaid : ℕ → List Extent → Type 0
 IsLaid at [] = Unit {0}
 IsLaid at (e ∷ es) = (e.start ≡ at) × IsLaid (at + e.width) es

@@ -8,7 +8,7 @@ use Rattle.vg_pool.specs.declared.content.Content.{Content}
 use Rattle.vg_pool.specs.declared.content.Entry.{Entry}
 use Rattle.vg_pool.specs.Content.{NamesBelow, listed, rooted}
 
--- the trees, and behind them that of one content more
+-- the trees, and after them that of one content more
 abbrev pub with_root : List Tree → Content → List Tree
 with_root trees content = trees ++ rooted trees content ∷ []
 

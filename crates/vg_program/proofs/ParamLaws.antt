@@ -81,7 +81,7 @@ proper_more (x ∷ xs) q p named fresh =
     apart [] all e = (e, tt)
     apart (y ∷ ys) all e = (all.0, apart ys all.1 e)
 
--- what stands behind other names that differ from it is not given among them
+-- what stands after other names that differ from it is not given among them
 fresh_behind : (before : List Param) (q : Param) (others : List Param) → IsDistinct bytes_eq (map (λ r. r.name) (before ++ q ∷ others)) → is_given q.name before ≡ false
 unfolding IsDistinct
 fresh_behind [] q others d = refl
@@ -102,7 +102,7 @@ params_text-cons q r qs rest = joined (param_text q) (codes ", ") (param_text r)
     joined : (a b c d e : List ℕ) → (a ++ ((b ++ c) ++ d)) ++ e ≡ a ++ (b ++ ((c ++ d) ++ e))
     joined a b c d e = simp append_assoc
 
--- the parameters that are read behind others, up to the bracket
+-- the parameters that are read after others, up to the bracket
 record TakesParams (room : ℕ) (done : List Param) (text : List ℕ) (x : List Param × List ℕ) : Type 0 where
   first : Param
   others : List Param

@@ -299,7 +299,7 @@ headers_with b defines.Nothing = refl
 headers_with b (defines.Scalar bits) = refl
 headers_with b (defines.Vector bits) = refl
 
--- what stands behind the word of a valid line
+-- what stands after the word of a valid line
 operands-short : (b : Before) (l : Line) → IsFew b → IsLine b l → length (operands_text b.params l) ≤ 140
 operands-short b (Load w a) few is = omega (arith, address_text-short b.params a few.names is.offset)
 operands-short b (Store w a v) few is =
@@ -391,7 +391,7 @@ signature-short s named proper =
     let all = names-short s.params proper.names in
     simp length-append (omega (arith, name-short s.name named, params-short s.params all, proper.few))
 
--- a law: the lines behind the first
+-- a law: the lines after the first
 pub bodies_short : BodiesAreShort
 unfolding HasRoom
 bodies_short headers p few rules short =

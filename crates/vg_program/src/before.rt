@@ -127,7 +127,8 @@ impl<'p, 'h> Before<'p, 'h> {
         header_in(self.headers, name)
     }
 
-    /// And this, too.
+    /// What stands before the next line, where this line defines so much. Fails for want of memory
+    /// alone.
     pub(crate) fn with(self, defined: Defined) -> Result<Before<'p, 'h>, AllocError>
         requires scalars { length self.scalars < 4194304 }
         requires vectors { length self.vectors < 4194304 }

@@ -1,4 +1,4 @@
-//! The fronts of lines, up to their operands.
+//! The beginnings of lines, up to their operands.
 
 ghost use Rattle.std.specs.Prelude.{◌≡◌};
 ghost use Rattle.std.specs.List.{find};

@@ -16,7 +16,8 @@ use vg_base::address::Address;
 use vg_base::width::Width;
 use vg_text::byte::begins_digit;
 
-/// The number of the pointer that a name stands for.
+/// The number of the pointer that a name stands for, among the pointers. `WidthMismatch` where it
+/// stands for an integer, `UnknownRegister` where it stands for nothing.
 pub fn pointer_of(named: Named) -> Result<u32, Fault>
     ensures { result ≡ pointer_of named }
 {
@@ -27,7 +28,8 @@ pub fn pointer_of(named: Named) -> Result<u32, Fault>
     }
 }
 
-/// The number and the width of the integer that a name stands for.
+/// The number of the integer that a name stands for, among the integers, and its width.
+/// `WidthMismatch` where it stands for a pointer, `UnknownRegister` where it stands for nothing.
 pub fn integer_of(named: Named) -> Result<(u32, Width), Fault>
     ensures { result ≡ integer_of named }
 {
@@ -38,7 +40,7 @@ pub fn integer_of(named: Named) -> Result<(u32, Width), Fault>
     }
 }
 
-/// A judgement of what these bytes begin with: its fault is met in front of them.
+/// A judgement of what these bytes begin with: its fault is met where they are left.
 pub fn judged<T>(text: &[u8], judgement: Result<T, Fault>) -> Result<T, ReadError>
     ensures { Gives (λ x. x) result (judged text.now judgement) }
 {

@@ -1,8 +1,8 @@
 //! The parts of which programs are made, for other texts that hold programs: readers of words,
 //! numbers, names, signatures and bodies, the places of their faults, and printers.
 //!
-//! A reader takes the front of a text and gives what it read with the bytes after it. Its error is
-//! a `Stop`, the first fault with the number of bytes that are left there, or want of memory;
+//! A reader takes a prefix of a text and gives what it read with the bytes after it. Its error is a
+//! `Stop`, the first fault with the number of bytes that are left there, or want of memory;
 //! `refused_by` makes it the refusal of the whole text, wherever in it the reader began.
 
 pub use crate::fault::Fault;

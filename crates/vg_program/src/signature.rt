@@ -1,4 +1,4 @@
-//! What stands in front of the lines of a program.
+//! What stands before the lines of a program.
 
 ghost use Rattle.std.specs.Prelude.{◌≡◌, IfOk};
 
@@ -15,7 +15,7 @@ pub struct Signature {
     pub params: Items<Param>,
 }
 
-/// The same parameters a second time.
+/// A copy of parameters, in their order.
 fn copy_params(alloc: Global, params: &[Param]) -> Result<Vec<Param>, AllocError>
     ensures { IfOk result (λ copies. copies.items ≡ params.now) }
 {
@@ -31,7 +31,7 @@ fn copy_params(alloc: Global, params: &[Param]) -> Result<Vec<Param>, AllocError
 }
 
 impl Signature {
-    /// The same signature a second time. Fails for want of memory alone.
+    /// A copy of the signature. Fails for want of memory alone.
     pub fn copy(&self, alloc: Global) -> Result<Signature, AllocError>
         ensures { IfOk result (λ signature. signature ≡ self.now) }
     {

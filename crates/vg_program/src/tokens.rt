@@ -1,4 +1,4 @@
-//! The tokens of a program, read from the front of a text.
+//! The tokens of a program, read from the beginning of a text.
 
 ghost use Rattle.std.specs.Prelude.{◌≡◌, ◌≤◌, ◌&&◌, ◌||◌, ◌^◌, ◌==◌, List, length, take, drop, nat_le, nat_lt, not, min};
 ghost use Rattle.std.specs.List.{list_all, prefix_len, starts_with};
@@ -71,7 +71,7 @@ fn begins_no_token(text: &[u8]) -> bool
     }
 }
 
-/// A fault that is met in front of these bytes.
+/// A fault that is met where these bytes of the text are left.
 pub fn met(fault: Fault, text: &[u8]) -> Stop
     ensures { result ≡ met fault text.now }
 {
@@ -81,7 +81,8 @@ pub fn met(fault: Fault, text: &[u8]) -> Stop
     }
 }
 
-/// The fault of a token that does not fit what stands before it, or of what is no token.
+/// The fault where these bytes are left: `Shape` of a token that does not fit what stands before
+/// it, `Token` of what is no token.
 #[tactic(auto, unfolding(crate::specs::Tokens::unfit))]
 pub fn unfit(text: &[u8]) -> Stop
     ensures { result ≡ unfit text.now }
@@ -124,7 +125,7 @@ pub fn signs_at<'a>(signs: &[u8], text: &'a [u8]) -> Result<&'a [u8], ReadError>
     Ok(rest)
 }
 
-/// Whether a text begins with this word.
+/// Whether the letters, digits and `_` with which a text begins are this word.
 #[tactic(auto, unfolding(crate::specs::Tokens::is_word))]
 pub fn is_word(word: &[u8], text: &[u8]) -> bool
     ensures { result ≡ is_word word.now text.now }
@@ -132,7 +133,7 @@ pub fn is_word(word: &[u8], text: &[u8]) -> bool
     is_text(word_of(text), word)
 }
 
-/// Reads this word, and gives what stands after it.
+/// Reads this word, and gives what stands after it. The error is what stands in its place.
 #[tactic(auto, unfolding(crate::specs::Tokens::word_at))]
 pub fn word_at<'a>(word: &[u8], text: &'a [u8]) -> Result<&'a [u8], ReadError>
     ensures { Gives (λ rest. rest.now) result (word_at word.now text.now) }
@@ -143,7 +144,7 @@ pub fn word_at<'a>(word: &[u8], text: &'a [u8]) -> Result<&'a [u8], ReadError>
     Ok(behind_word(text))
 }
 
-/// Reads a name, and gives it with what stands after it.
+/// Reads a name, and gives it with what stands after it. The error is what stands in its place.
 #[tactic(auto, unfolding(crate::specs::Tokens::name_at))]
 pub fn name_at(text: &[u8]) -> Result<(&[u8], &[u8]), ReadError>
     ensures { Gives (λ x. (x.0.now, x.1.now)) result (name_at text.now) }

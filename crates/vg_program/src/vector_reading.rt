@@ -174,7 +174,7 @@ fn no_constant(text: &[u8]) -> Stop
     }
 }
 
-/// The bytes of digits.
+/// The bytes that lower-case hexadecimal digits spell, two digits a byte.
 #[tactic(auto, unfolding(crate::specs::Vectors::bytes_in))]
 fn bytes_in(alloc: Global, run: &[u8]) -> Result<Vec<u8>, AllocError>
     requires { list_all is_low_hex run.now ≡ true }

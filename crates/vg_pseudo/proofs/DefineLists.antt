@@ -10,7 +10,7 @@ use Rattle.vg_pseudo.specs.Reader.{unread, accept_at}
 use Rattle.vg_pseudo.specs.Operations.{Defined, Defines, and_define, define_at, defines_from, defines_at}
 use Rattle.vg_pseudo.proofs.ItemLists.{fails-bind}
 
--- where a DEFINE is read behind these
+-- where a DEFINE is read after these
 abbrev pub inside : List Known → Context
 inside known = record { known = known; inside = true }
 
@@ -18,14 +18,14 @@ inside known = record { known = known; inside = true }
 pub as_inside : (x : Context) → x.inside ≡ true → x ≡ inside x.known
 as_inside x e = ap (λ (b : Bool). record { known = x.known; inside = b }) e
 
--- DEFINEs behind those that are done, read from here on, are the whole
+-- DEFINEs after those that are done, read from here on, are the whole
 pub record GoesOn (whole : Result (Defines × Reading) PseudoFault) (done : Defines) (r : Reading) : Type 0 where
   pub room : ℕ
   pub enough : unread r < room
   pub read : defines_from room done r ≡ whole
 
 module _ (whole : Result (Defines × Reading) PseudoFault) where
-  -- what stands behind the test
+  -- what stands after the test
   abbrev step : ℕ → Defines → Bool × Reading → Result (Defines × Reading) PseudoFault
   step room done (true, r) = define_at (inside done.known) r >>= λ d. defines_from room (and_define done d.0) d.1
   step room done (false, r) = Ok (done, r)

@@ -11,14 +11,14 @@ use Rattle.vg_pseudo.specs.Reader.{Follows, unread, items_from, items_behind}
 pub fails-bind : {A B : Type 0} (fault : PseudoFault) (r : Result A PseudoFault) (f : A → Result B PseudoFault) → Fails fault r → Fails fault (r >>= f)
 fails-bind fault r f e = fails_bind (told fault) r f e
 
--- items behind those that are done, read from here on, are the whole
+-- items after those that are done, read from here on, are the whole
 pub record Goes {X : Type 0} (follows : Follows) (item : Reading → Result (X × Reading) PseudoFault) (whole : Result (List X × Reading) PseudoFault) (done : List X) (r : Reading) : Type 0 where
   pub room : ℕ
   pub enough : unread r < room
   pub read : items_from follows item room done r ≡ whole
 
 module _ {X : Type 0} (follows : Follows) (item : Reading → Result (X × Reading) PseudoFault) (whole : Result (List X × Reading) PseudoFault) where
-  -- what stands behind the test
+  -- what stands after the test
   abbrev step : ℕ → List X → Bool × Reading → Result (List X × Reading) PseudoFault
   step room done (true, r) = item r >>= λ x. items_from follows item room (done ++ x.0 ∷ []) x.1
   step room done (false, r) = Ok (done, r)

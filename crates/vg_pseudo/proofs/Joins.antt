@@ -1,4 +1,4 @@
--- Operators behind an expression, one step of reading them.
+-- Operators after an expression, one step of reading them.
 use Rattle.std.proofs.Common.{◌≡◌, ℕ, zero, suc, ◌+◌, ◌-◌, ◌<◌, Option, Some, None, Ok, refl, sym, ◌∙◌, ap, subst, arith, add-one}
 use Rattle.vg_base.specs.Bind.{◌>>=◌}
 use Rattle.vg_text.specs.declared.place.Place.{Place}

@@ -53,14 +53,14 @@ Inner = ℕ → Reading → Result (Part × Reading) PseudoFault
 abbrev pub Index : Type 0
 Index = Reading → Result (Part × Reading) PseudoFault
 
--- `low]` behind `name[high:`
+-- `low]` after `name[high:`
 unfoldable pub slice_end : Index → Spelled → Part → Reading → Result (Part × Reading) PseudoFault
 slice_end index word high r = do
   low ← index r
   closed ← expect_at (codes "]") low.1
   Ok (above_two (slice (spot_at word.place) word.bytes high.expression low.0.expression) high low.0, closed.1)
 
--- `high:low]` or `index]` behind `name[`
+-- `high:low]` or `index]` after `name[`
 unfoldable pub bracket_at : Index → Spelled → Reading → Result (Part × Reading) PseudoFault
 bracket_at index word r = do
   high ← index r
@@ -68,14 +68,14 @@ bracket_at index word r = do
   if colon.0 then slice_end index word high.0 colon.1
       else expect_at (codes "]") colon.1 >>= λ closed. Ok (above_one (bit (spot_at word.place) word.bytes high.0.expression) high.0, closed.1)
 
--- `index]` behind `name.elem[`
+-- `index]` after `name.elem[`
 unfoldable pub element_end : Index → Spelled → Width → Reading → Result (Part × Reading) PseudoFault
 element_end index word size r = do
   at ← index r
   closed ← expect_at (codes "]") at.1
   Ok (above_one (element (spot_at word.place) word.bytes size at.0.expression) at.0, closed.1)
 
--- `elem` or `elem[index]` behind `name.`
+-- `elem` or `elem[index]` after `name.`
 unfoldable pub element_at : Index → Spelled → Reading → Result (Part × Reading) PseudoFault
 element_at index word r = do
   text ← next_at r
@@ -84,7 +84,7 @@ element_at index word r = do
   if opened.0 then element_end index word size opened.1
       else Ok (leaf (part (spot_at word.place) word.bytes size), opened.1)
 
--- what stands behind a name that is no call: brackets, an element, or nothing of its own
+-- what stands after a name that is no call: brackets, an element, or nothing of its own
 unfoldable pub form_at : Index → Spelled → Reading → Result (Part × Reading) PseudoFault
 form_at index word r = do
   bracket ← accept_at (codes "[") r
@@ -92,20 +92,20 @@ form_at index word r = do
       else accept_at (codes ".") bracket.1 >>= λ dot. if dot.0 then element_at index word dot.1
       else Ok (leaf (name (spot_at word.place) word.bytes), dot.1)
 
--- an expression in parentheses, behind the first, which stands at this place
+-- an expression in parentheses, after the first, which stands at this place
 unfoldable pub parenthesised_at : Inner → Place → Reading → Result (Part × Reading) PseudoFault
 parenthesised_at inner place r = do
   inside ← inner 8 r
   closed ← expect_at (codes ")") inside.1
   Ok (above_one (with_outer place inside.0.expression) inside.0, closed.1)
 
--- the operand behind NOT or `-`, which stands at this place
+-- the operand after NOT or `-`, which stands at this place
 unfoldable pub prefixed_at : Inner → UnaryOp → Place → Reading → Result (Part × Reading) PseudoFault
 prefixed_at inner op place r = do
   operand ← inner 0 r
   Ok (above_one (unary (spot_at place) op operand.0.expression) operand.0, operand.1)
 
--- arguments behind `(`, up to `)`
+-- arguments after `(`, up to `)`
 unfoldable pub arguments_at : Inner → Reading → Result (List Part × Reading) PseudoFault
 arguments_at inner r = do
   first ← inner 8 r
@@ -119,7 +119,7 @@ function_of (functions.One op) place (x ∷ []) = Some (above_one (unary (spot_a
 function_of (functions.Two op) place (x ∷ y ∷ []) = Some (above_two (binary (spot_at place) op x.expression y.expression) x y)
 function_of f place parts = None
 
--- a call of a function behind its name, which stands at this place
+-- a call of a function after its name, which stands at this place
 unfoldable pub function_at : Inner → Function → Place → Reading → Result (Part × Reading) PseudoFault
 function_at inner f place r = do
   opened ← expect_at (codes "(") r
@@ -145,7 +145,7 @@ unfoldable pub linked : List Part → Linked → Linked
 linked [] l = l
 linked (x ∷ xs) l = linked_one x (linked xs l)
 
--- no arguments, behind a call of a DEFINE that counts for so much
+-- no arguments, after a call of a DEFINE that counts for so much
 abbrev pub linked_none : ℕ → Linked
 linked_none calls = record { arguments = end; depth = 0; calls = calls }
 
@@ -168,7 +168,7 @@ abbrev pub takes : Option Callee → ℕ → Bool
 takes (Some k) n = nat_eq n k.arity
 takes None n = true
 
--- a call of a DEFINE behind its name and `(`
+-- a call of a DEFINE after its name and `(`
 unfoldable pub call_at : Context → Inner → Spelled → Reading → Result (Part × Reading) PseudoFault
 call_at context inner word r = do
   calls ← counted context (callee_of context.known word.bytes) word.place
@@ -210,7 +210,7 @@ abbrev pub operator_at : ℕ → Reading → Result (Option BinaryOp × Reading)
 operator_at level r =
     next_at r >>= λ w. option_map_or (λ op. Ok (Some op, w.1)) (operator_of level w.0.bytes) (Ok (None, r))
 
--- the right operand of an operator, behind it
+-- the right operand of an operator, after it
 unfoldable pub join_at : Inner → ℕ → Part → BinaryOp → Reading → Result (Part × Reading) PseudoFault
 join_at inner level left op r = do
   right ← inner level r
@@ -238,7 +238,7 @@ compared_at whole inner room left r = do
   op ← operator_at 4 r
   option_map_or (λ o. joined_one whole inner room 3 left o op.1) op.0 (Ok (left, op.1))
 
--- `first : second` behind a condition and `?`
+-- `first : second` after a condition and `?`
 unfoldable pub choice_at : Inner → Part → Reading → Result (Part × Reading) PseudoFault
 choice_at inner condition r = do
   first ← inner 8 r
@@ -246,7 +246,7 @@ choice_at inner condition r = do
   second ← inner 8 colon.1
   Ok (above_three (choice (spot_at (outer_of condition.expression)) condition.expression first.0.expression second.0.expression) condition first.0 second.0, second.1)
 
--- `? first : second` behind a condition, where it follows
+-- `? first : second` after a condition, where it follows
 unfoldable pub chosen_at : Place → Inner → ℕ → Part → Reading → Result (Part × Reading) PseudoFault
 chosen_at whole inner room condition r = do
   mark ← accept_at (codes "?") r

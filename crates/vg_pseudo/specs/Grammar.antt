@@ -34,7 +34,7 @@ Counts context None calls = calls ≡ 0
 -- An expression, by how loose its operators may be. Level 0 has no operators outside of calls, parentheses and brackets;
 -- levels 1 to 7 have those that bind as loose or tighter, and level 8 has the choice by `?` too. On the left of an
 -- operator stands its own level, on the right the next tighter one, so operators of one level nest to the left; but a
--- comparison has the next tighter level on both sides. `AreMore` are further arguments, each behind a comma.
+-- comparison has the next tighter level on both sides. `AreMore` are further arguments, each after a comma.
 mutual
   pub data IsExpression (context : Context) : ℕ → Words → Part → Type 0 where
     literal : (w : Spelled) (n : ℕ)
@@ -172,7 +172,7 @@ BeginsNot text [] = Unit {0}
 BeginsNot text (w ∷ ws) = Is w text → ⊥
 
 -- Statements that nest at most so deep, with the greatest depth of the DEFINEs that they call. The ways of an IF stand
--- behind its first word; `ELSE IF` goes on with them, so that what stands behind the last ELSE does not begin with IF.
+-- after its first word; `ELSE IF` goes on with them, so that what stands after the last ELSE does not begin with IF.
 mutual
   pub data AreStatements (context : Context) : ℕ → Words → Statements → ℕ → Type 0 where
     done : (room : ℕ) → AreStatements context room [] stop 0
@@ -274,7 +274,7 @@ IsParam (w ∷ opening ∷ high ∷ colon ∷ low ∷ closing ∷ []) p =
     × Is closing (codes "]")
 IsParam _ p = ⊥
 
--- further parameters, each behind a comma
+-- further parameters, each after a comma
 abbrev pub AreMoreParams : Words → List DefineParam → Type 0
 AreMoreParams words [] = words ≡ []
 AreMoreParams words (p ∷ ps) =
@@ -323,7 +323,7 @@ pub record IsDefine (known : List Known) (words : Words) (d : Define) (depth : �
   pub deep : depth ≡ max calls answer.calls + 1
   pub whole : words ≡ first ∷ named ∷ opening ∷ (between ++ closing ∷ begin ∷ (inside ++ return ∷ (back ++ end ∷ [])))
 
--- DEFINEs one behind the other, each with those known before it, and what is known behind them
+-- DEFINEs one after the other, each with those known before it, and what is known after them
 abbrev pub AreDefines : List Known → Words → List Define → List Known → Type 0
 AreDefines known words [] behind = (words ≡ []) × (behind ≡ known)
 AreDefines known words (d ∷ ds) behind =
@@ -350,6 +350,6 @@ unfoldable pub Stand : Words → Reading → Reading → Type 0
 Stand [] r q = r ≡ q
 Stand (w ∷ ws) r q = (m : Reading) × (word_at r ≡ Ok (w, m)) × (w.is_end ≡ false) × Stand ws m q
 
--- words at the front of what is left spell the operation, and this is left behind them
+-- words at the front of what is left spell the operation, and this is left after them
 abbrev pub IsOperationText : Reading → Operation → Reading → Type 0
 IsOperationText r o q = (words : Words) × Stand words r q × IsOperation words o

@@ -1,4 +1,4 @@
--- What an instance of an instruction means: the bits of dst behind its operation.
+-- What an instance of an instruction means: the bits of dst after its operation.
 use Rattle.std.specs.Prelude.{ℕ, zero, suc, ℤ, pos, List, [], ◌∷◌, ◌++◌, take, get_or, map, min}
 use Rattle.vg_base.specs.Bits.{bits}
 use Rattle.vg_pseudo.specs.Resolved.{Body, Function, Resolved}
@@ -21,7 +21,7 @@ zeros (suc n) = pos 0 ∷ zeros n
 abbrev pub begun : Body → List ℕ → State
 begun b given = record { registers = entered b.widths (take b.parameters given); numbers = zeros b.numbers }
 
--- a body behind its statements
+-- a body after its statements
 abbrev pub ended : Functions → Body → List ℕ → State
 ended fs b given = run fs [] b.code (begun b given)
 
@@ -44,7 +44,7 @@ abbrev pub functions_from : Functions → List Function → Functions
 functions_from fs [] = fs
 functions_from fs (f ∷ rest) = functions_from (fs ++ called fs f ∷ []) rest
 
--- The bits of dst, where the parameters have these numbers and behind them the immediate, if there
+-- The bits of dst, where the parameters have these numbers and after them the immediate, if there
 -- is one.
 unfoldable pub meaning : Resolved → List ℕ → List ℕ
 meaning r given = get_or (ended (functions_from [] r.functions) r.body given).registers r.result []

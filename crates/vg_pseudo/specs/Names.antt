@@ -119,7 +119,7 @@ pub data Meaning : Type 0 where
   a_variable : ℕ → Meaning
   nothing : Meaning
 
--- the last register of this name, with its number, behind so many: of two parameters of one name
+-- the last register of this name, with its number, after so many: of two parameters of one name
 -- the later one is meant
 abbrev pub last_register : ℕ → Option (ℕ × Register) → List Register → List ℕ
     → Option (ℕ × Register)
@@ -127,7 +127,7 @@ last_register k found [] n = found
 last_register k found (r ∷ rs) n =
     last_register (k + 1) (if bytes_eq r.name n then Some (k, r) else found) rs n
 
--- the place of the last DEFINE of this name, behind so many
+-- the place of the last DEFINE of this name, after so many
 abbrev pub last_function : ℕ → Option ℕ → List (List ℕ) → List ℕ → Option ℕ
 last_function k found [] n = found
 last_function k found (m ∷ ms) n =

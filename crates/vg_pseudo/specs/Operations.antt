@@ -21,7 +21,7 @@ zero_at r = next_at r >>= λ w. if is_zero (number_of w.0.bytes) then Ok (0, w.1
     is_zero (Some n) = nat_eq n 0
     is_zero None = false
 
--- `high:0]` behind `name[`
+-- `high:0]` after `name[`
 unfoldable pub high_at : Reading → Result (ℕ × Reading) PseudoFault
 high_at r = do
   high ← number_at r
@@ -38,7 +38,7 @@ param_at r = do
   if opened.0 then (high_at opened.1 >>= λ high. Ok (record { name = name.0.bytes; high = Some high.0 }, high.1))
       else Ok (record { name = name.0.bytes; high = None }, opened.1)
 
--- parameters behind `(`, up to `)`
+-- parameters after `(`, up to `)`
 unfoldable pub params_at : Reading → Result (List DefineParam × Reading) PseudoFault
 params_at r = do
   first ← param_at r
@@ -51,7 +51,7 @@ pub record Defined : Type 0 where
   pub define : Define
   pub depth : ℕ
 
--- a DEFINE behind its first word
+-- a DEFINE after its first word
 unfoldable pub define_at : Context → Reading → Result (Defined × Reading) PseudoFault
 define_at context r = do
   name ← name_at r
@@ -86,7 +86,7 @@ and_define done d = record {
   known = with_callee done.known d.define.name (callee d);
 }
 
--- DEFINEs behind those that are done, as long as one follows; one has a word or more, so that `room` never runs out where
+-- DEFINEs after those that are done, as long as one follows; one has a word or more, so that `room` never runs out where
 -- it is greater than the number of words left
 unfoldable pub defines_from : ℕ → Defines → Reading → Result (Defines × Reading) PseudoFault
 defines_from zero done r = Ok (done, r)
@@ -99,7 +99,7 @@ defines_from (suc room) done r = do
 abbrev pub defines_at : Reading → Result (Defines × Reading) PseudoFault
 defines_at r = defines_from (suc (unread r)) (record { defines = []; known = [] }) r
 
--- an operation, up to the END behind it
+-- an operation, up to the END after it
 unfoldable pub operation_at : Reading → Result (Operation × Reading) PseudoFault
 operation_at r = do
   defines ← defines_at r

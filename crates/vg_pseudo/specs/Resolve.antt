@@ -29,7 +29,7 @@ abbrev pub or_fault : {A : Type 0} → NameFault → Option A → Result A NameF
 or_fault fault (Some x) = Ok x
 or_fault fault None = Err fault
 
--- n, where an index is another one with `+ n` behind it, the number n being one literal
+-- n, where an index is another one with `+ n` after it, the number n being one literal
 abbrev pub spread : Expression → Expression → Option ℕ
 spread (tree.binary at operator.Add x (tree.number place n)) low =
     if same x low then Some n else None
@@ -268,7 +268,7 @@ function_of before d = do
   answer ← resolved (define_scope before d) d.answer
   Ok (record { body = body_in (length d.params) (define_scope before d) code; answer = answer })
 
--- the DEFINEs in their order, each behind those of these names
+-- the DEFINEs in their order, each after those of these names
 abbrev pub functions_of : List (List ℕ) → List Define → Result (List Function) NameFault
 functions_of before [] = Ok []
 functions_of before (d ∷ ds) = do

@@ -8,7 +8,7 @@ use Rattle.vg_pseudo.specs.declared.operators.UnaryOp.{UnaryOp}
 use Rattle.vg_pseudo.specs.declared.operators.BinaryOp.{BinaryOp}
 
 -- Three are slice forms, of a register that is read as signed or not: `slice` is `name[high:low]`,
--- with n where the text of the high index is that of the low one and `+ n` behind it; `element` is
+-- with n where the text of the high index is that of the low one and `+ n` after it; `element` is
 -- `name.elem[index]` or `name[index]`, with the size of the element, or 1; `front` is a bare name
 -- or `name.elem`: this many bits from bit 0 on.
 mutual
@@ -36,7 +36,7 @@ pub data Target : Type 0 where
   whole : ℕ → ℕ → Target
   number : ℕ → Target
 
--- Statements, each with those behind it. `skip` is an assignment with MAX. `choose` is an IF, by
+-- Statements, each with those after it. `skip` is an assignment with MAX. `choose` is an IF, by
 -- its ways: `way`s, then `last`. `pick` is a CASE, by its arms: `arm`s, then `stop`.
 pub data Code : Type 0 where
   stop : Code
@@ -50,7 +50,7 @@ pub data Code : Type 0 where
   arm : ℕ → Code → Code → Code
 
 -- A body: the widths of its registers in bits, how many of them are parameters, how many number
--- variables it has, and its statements. Parameters come first among the registers; behind those of
+-- variables it has, and its statements. Parameters come first among the registers; after those of
 -- the operation the immediate, where there is one, which counts as one of them, and then dst.
 pub record Body : Type 0 where
   pub widths : List ℕ

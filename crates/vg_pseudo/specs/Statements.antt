@@ -18,7 +18,7 @@ pub record Block : Type 0 where
   pub statements : Statements
   pub calls : ℕ
 
--- one statement, way or arm, with these behind it in place of its own
+-- one statement, way or arm, with these after it in place of its own
 abbrev pub followed : Statements → Statements → Statements
 followed (assign p t e s) rest = assign p t e rest
 followed (above p n l e s) rest = above p n l e rest
@@ -36,7 +36,7 @@ followed_by b rest = record {
   calls = max b.calls rest.calls;
 }
 
--- one behind the other, with this behind the last
+-- one after the other, with this after the last
 unfoldable pub chained : List Block → Block → Block
 chained [] rest = rest
 chained (b ∷ bs) rest = followed_by b (chained bs rest)
@@ -59,14 +59,14 @@ block_at statement r = do
   all ← items_behind statement_follows statement [] r
   Ok (chained all.0 nothing, all.1)
 
--- `:= expression` behind a target, which stands at this place
+-- `:= expression` after a target, which stands at this place
 unfoldable pub assigned_at : Context → Place → Expression → Reading → Result (Block × Reading) PseudoFault
 assigned_at context place target r = do
   sign ← expect_at (codes ":=") r
   value ← whole_at context sign.1
   Ok (record { statements = assign place target value.0.expression stop; calls = value.0.calls }, value.1)
 
--- `low] := expression` behind `name[MAX:`
+-- `low] := expression` after `name[MAX:`
 unfoldable pub above_at : Context → Spelled → Reading → Result (Block × Reading) PseudoFault
 above_at context word r = do
   low ← own_index_at context r
@@ -91,7 +91,7 @@ above_follows r = do
       else Ok (false, r))
       else Ok (false, r)
 
--- an assignment behind its name
+-- an assignment after its name
 unfoldable pub assignment_at : Context → Spelled → Reading → Result (Block × Reading) PseudoFault
 assignment_at context word r = do
   greatest ← above_follows r
@@ -100,7 +100,7 @@ assignment_at context word r = do
       assigned_at context word.place target.0.expression target.1 >>= λ block.
       Ok (record { statements = block.0.statements; calls = max target.0.calls block.0.calls }, block.1)
 
--- a loop behind FOR, which stands at this place
+-- a loop after FOR, which stands at this place
 unfoldable pub for_at : Context → Body → Place → Reading → Result (Block × Reading) PseudoFault
 for_at context body place r = do
   variable ← name_at r
@@ -146,7 +146,7 @@ else_at body r = do
   if other.0 then (body other.1 >>= λ inside. Ok (record { statements = last inside.0.statements; calls = inside.0.calls }, inside.1))
       else Ok (record { statements = last stop; calls = 0 }, other.1)
 
--- a choice of ways behind IF
+-- a choice of ways after IF
 unfoldable pub if_at : Context → Body → Reading → Result (Block × Reading) PseudoFault
 if_at context body r = do
   first ← way_at context body r
@@ -173,7 +173,7 @@ arm_at body r = do
   inside ← body colon.1
   Ok (record { statements = arm number.0 inside.0.statements stop; calls = inside.0.calls }, inside.1)
 
--- a choice by a number behind CASE
+-- a choice by a number after CASE
 unfoldable pub case_at : Context → Body → Reading → Result (Block × Reading) PseudoFault
 case_at context body r = do
   selector ← whole_at context r

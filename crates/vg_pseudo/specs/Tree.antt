@@ -33,7 +33,7 @@ mutual
     end : Arguments
     more : Expression → Arguments → Arguments
 
--- Statements, each with those behind it. `choose` is an IF, by its ways: `way`s, then `last`. `pick` is a CASE, by its
+-- Statements, each with those after it. `choose` is an IF, by its ways: `way`s, then `last`. `pick` is a CASE, by its
 -- arms: `arm`s, then `stop`.
 pub data Statements : Type 0 where
   stop : Statements

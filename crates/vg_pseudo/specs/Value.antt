@@ -40,7 +40,7 @@ abbrev pub count : ℤ → ℤ → ℕ
 count first last = natural ((last +ℤ negative first) +ℤ pos 1)
 
 -- How many bits there are between two indices: one more than n, where the high index is the low one
--- with `+ n` behind it.
+-- with `+ n` after it.
 abbrev pub slice_width : Option ℕ → ℤ → ℤ → ℕ
 slice_width (Some n) low high = n + 1
 slice_width None low high = count low high

@@ -24,7 +24,7 @@ width_of bytes =
     if bytes_eq bytes (codes "8") then Some W8 else if bytes_eq bytes (codes "16") then Some W16
     else if bytes_eq bytes (codes "32") then Some W32 else if bytes_eq bytes (codes "64") then Some W64 else None
 
--- the width behind this stem, where the word is the stem and a width
+-- the width after this stem, where the word is the stem and a width
 abbrev pub width_behind : List ℕ → List ℕ → Option Width
 width_behind stem bytes =
     if bytes_eq (take (length stem) bytes) stem then width_of (drop (length stem) bytes) else None

@@ -15,7 +15,7 @@ use Rattle.vg_pseudo_laws.proofs.Standing.{Reads, Reads-fewer}
 use Rattle.vg_pseudo_laws.proofs.WordsAgain.{next-again, no-more, split, expect-again, free-is, stops, Ends, ends-text, ends-number, not_text, number-begins}
 use Rattle.vg_pseudo_laws.proofs.ListsAgain.{Steps, ended, step, steps-again}
 
--- what stands behind statements: a word that ends them
+-- what stands after statements: a word that ends them
 pub record Over (m : Reading) : Type 0 where
   pub word : Spelled
   pub behind : Reading

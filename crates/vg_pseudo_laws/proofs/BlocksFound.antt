@@ -18,14 +18,14 @@ Kind = Words → Block → Type 0
 abbrev pub Before : Kind → Words → Block → Type 0
 Before Is ws b = (rest : Words) (t : Block) → Is rest t → Is (ws ++ rest) (followed_by b t)
 
--- items one behind the other, before those of the kind
+-- items one after the other, before those of the kind
 pub chain-found : (Is : Kind) {ws : Words} {bs : List Block} → Many (Before Is) ws bs → (rest : Words) (t : Block) → Is rest t → Is (ws ++ rest) (chained bs t)
 unfolding chained
 chain-found Is no_items rest t is = is
 chain-found Is (another ws more b bs one others) rest t is =
     subst (λ (vs : Words). Is vs (followed_by b (chained bs t))) (sym (append_assoc ws more rest)) (one (more ++ rest) (chained bs t) (chain-found Is others rest t is))
 
--- the same where nothing stands behind them
+-- the same where nothing stands after them
 pub all-found : (Is : Kind) {ws : Words} {bs : List Block} → Many (Before Is) ws bs → (t : Block) → Is [] t → Is ws (chained bs t)
 all-found Is {ws} {bs} many t is = subst (λ (vs : Words). Is vs (chained bs t)) (append-nil ws) (chain-found Is many [] t is)
 

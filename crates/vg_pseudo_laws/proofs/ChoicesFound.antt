@@ -77,7 +77,7 @@ comes_next w ws m q reads = by reads.stand
     by : Stand (w ∷ ws) m q → (n : Reading) × (next_at m ≡ Ok (w, n))
     by (n, read, some, rest) = (n, ap or_token read)
 
--- where ELSE IF does not follow, IF does not stand behind ELSE
+-- where ELSE IF does not follow, IF does not stand after ELSE
 begins_not : (r q : Reading) (o : Spelled × Reading) (rest : Words) → next_at r ≡ Ok o → bytes_eq o.0.bytes (codes "ELSE") ≡ true → else_if_follows r ≡ Ok (false, r) → Reads rest o.1 q → BeginsNot (codes "IF") rest
 unfolding else_if_follows
 begins_not r q o [] t other e reads = tt
@@ -115,13 +115,13 @@ record FoundWay (context : Context) (room : ℕ) (r : Reading) (x : Block × Rea
   reads_inside : Reads inside middle x.1
   same : x.0 ≡ record { statements = way condition.expression statements stop; calls = max condition.calls calls }
 
--- what stands behind the ways behind the first
+-- what stands after the ways after the first
 record FoundTail (Is : Kind) (r : Reading) (x : Block × Reading) : Type 0 where
   words : Words
   is : Is words x.0
   reads : Reads words r x.1
 
--- The ways of an IF were read, and FI behind them.
+-- The ways of an IF were read, and FI after them.
 pub record FoundWays (context : Context) (room : ℕ) (r : Reading) (x : Block × Reading) : Type 0 where
   pub words : Words
   pub ways : Statements
@@ -138,7 +138,7 @@ pub record FoundArms (context : Context) (room : ℕ) (r : Reading) (x : List Bl
   pub are : AreArms context room words (chained x.0 nothing).statements (chained x.0 nothing).calls
   pub reads : Reads words r x.1
 
--- what may stand behind a way, which makes ways with it
+-- what may stand after a way, which makes ways with it
 abbrev Behind : Context → ℕ → Kind
 Behind context room ws b =
     (es inside : Words) (e : Part) (s : Statements) (calls : ℕ)
@@ -172,7 +172,7 @@ module _ (context : Context) (room : ℕ) (body : Body) (sound : SoundBody conte
         same = refl;
       })
 
-  -- a way behind ELSE IF
+  -- a way after ELSE IF
   another_way : (r q : Reading) (x : Block × Reading) → FoundElseIf r q → FoundWay context room q x → FoundItem (Before (Behind context room)) r x
   another_way r q x o f =
       subst (λ (b : Block). FoundItem (Before (Behind context room)) r (b, x.1)) (sym f.same)

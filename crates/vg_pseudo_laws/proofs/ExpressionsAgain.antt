@@ -1,5 +1,5 @@
 -- Expressions that are in the language are read. An expression of a level is read up to the operators of the level, which
--- join it to what stands behind.
+-- join it to what stands after.
 use Rattle.std.proofs.Common.{◌≡◌, ℕ, zero, suc, ◌+◌, ◌<◌, ◌≤◌, false, List, ◌∷◌, ◌++◌, Option, Some, None, Result, Ok, refl, sym, ◌∙◌, subst, inl, inr, arith}
 use Rattle.std.specs.Prelude.{codes, nat_eq, if◌then◌else◌}
 use Rattle.std.specs.Option.{option_map_or}
@@ -48,7 +48,7 @@ module _ (context : Context) where
   abbrev pub at_level : Place → ℕ → ℕ → Reading → Result (Part × Reading) PseudoFault
   at_level whole room level r = level_at context whole (expression_at context whole room) room level r
 
-  -- it is read, where it ends behind its words
+  -- it is read, where it ends after its words
   abbrev pub Closes : ℕ → Words → Part → Type 0
   Closes level ws x = (whole : Place) (room : ℕ) (r m : Reading) → Reads ws r m → Ends level m → x.depth ≤ suc room → at_level whole room level r ≡ Ok (x, m)
 

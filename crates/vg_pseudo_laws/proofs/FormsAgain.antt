@@ -20,7 +20,7 @@ use Rattle.vg_pseudo_laws.proofs.WordsAgain.{next-again, no-more, split, expect-
 abbrev pub GivesIndex : Index → Words → Part → Type 0
 GivesIndex index ws x = (r m : Reading) → Reads ws r m → Ends 7 m → index r ≡ Ok (x, m)
 
--- what stands behind the name
+-- what stands after the name
 abbrev pub GivesForm : Index → Spelled → Words → Part → Type 0
 GivesForm index w ws x = (r m : Reading) → Reads ws r m → Ends 0 m → form_at index w r ≡ Ok (x, m)
 

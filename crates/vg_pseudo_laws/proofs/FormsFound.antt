@@ -30,7 +30,7 @@ Sound context room inner = (level : ℕ) (r : Reading) (x : Part × Reading) →
 abbrev pub SoundIndex : Context → ℕ → Index → Type 0
 SoundIndex context room index = (r : Reading) (x : Part × Reading) → index r ≡ Ok x → Found context room 7 r x
 
--- The rest of an expression was read behind the name with which it begins; it may be a target.
+-- The rest of an expression was read after the name with which it begins; it may be a target.
 pub record FoundForm (context : Context) (most : ℕ) (w : Spelled) (r : Reading) (x : Part × Reading) : Type 0 where
   pub rest : Words
   pub is : IsExpression context 0 (w ∷ rest) x.0
@@ -71,7 +71,7 @@ sliced-found context room w opening colon hs high r m n q x name_is opening_is h
       target = refl;
     })
 
--- brackets behind a name
+-- brackets after a name
 bracket-found : (context : Context) (room : ℕ) (index : Index) → SoundIndex context room index → (w : Spelled) (r m : Reading) (x : Part × Reading) → IsName w → FoundWord (codes "[") r m → bracket_at index w m ≡ Ok x → FoundForm context (suc room) w r x
 unfolding bracket_at
 bracket-found context room index sound w r m x name_is opening e =
@@ -96,7 +96,7 @@ bracket-found context room index sound w r m x name_is opening e =
           })
     ]
 
--- an element behind a name
+-- an element after a name
 nothing_is_no_element : is_some (element_named []) ≡ false
 nothing_is_no_element = refl
 
@@ -138,7 +138,7 @@ element-found context room index sound w r m x name_is dot e =
           })
     ]
 
--- what stands behind a name that is no call
+-- what stands after a name that is no call
 pub form-found : (context : Context) (room : ℕ) (index : Index) → SoundIndex context room index → (w : Spelled) (r : Reading) (x : Part × Reading) → IsName w → form_at index w r ≡ Ok x → FoundForm context (suc room) w r x
 unfolding form_at
 form-found context room index sound w r x name_is e =

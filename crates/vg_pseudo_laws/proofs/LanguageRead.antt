@@ -22,7 +22,7 @@ use Rattle.vg_pseudo_laws.proofs.FormsAgain.{GivesIndex, named-form, indexed-for
 use Rattle.vg_pseudo_laws.proofs.OperandsAgain.{Gives, GivesArguments, literal-operand, form-operand, parenthesised-operand, prefixed-operand, function-operand, called-operand, GivesMore, no-arguments, more-arguments, arguments-again}
 use Rattle.vg_pseudo_laws.proofs.ExpressionsAgain.{Law, Repeats, gives, operand-law, tighter-law, joined-law, compared-law, chosen-law}
 
--- what stands behind a name is no call
+-- what stands after a name is no call
 not_round : (w : Spelled) (text : List ℕ) → Is w text → bytes_eq text (codes "(") ≡ false → (rest : Words) (r m : Reading) → Reads (w ∷ rest) r m → accept_at (codes "(") r ≡ Ok (false, r)
 not_round w text is other rest r m h = (let a = next-again h in accept-not (codes "(") w r a.behind (ap (λ (t : List ℕ). bytes_eq t (codes "(")) is ∙ other) a.next)
 

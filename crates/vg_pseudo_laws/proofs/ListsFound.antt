@@ -16,7 +16,7 @@ pub record FoundItem {X : Type 0} (One : Words → X → Type 0) (r : Reading) (
   pub is : One (first ∷ rest) x.0
   pub reads : Reads (first ∷ rest) r x.1
 
--- items one behind the other
+-- items one after the other
 pub data Many {X : Type 0} (One : Words → X → Type 0) : Words → List X → Type 0 where
   nothing : Many One [] []
   another : (ws more : Words) (x : X) (xs : List X) → One ws x → Many One more xs → Many One (ws ++ more) (x ∷ xs)
@@ -26,7 +26,7 @@ pub record SoundItems {X : Type 0} (One : Words → X → Type 0) (follows : Fol
   pub goes : (r q : Reading) (x : X × Reading) → follows r ≡ Ok (true, q) → item q ≡ Ok x → FoundItem One r x
   pub stays : (r q : Reading) → follows r ≡ Ok (false, q) → q ≡ r
 
--- Items were read behind those that were done: their words, and that no more follows.
+-- Items were read after those that were done: their words, and that no more follows.
 pub record FoundItems {X : Type 0} (One : Words → X → Type 0) (follows : Follows) (done : List X) (r : Reading) (x : List X × Reading) : Type 0 where
   pub items : List X
   pub words : Words

@@ -22,7 +22,7 @@ use Rattle.vg_pseudo_laws.proofs.WordsAgain.{next-again, no-more, split, expect-
 use Rattle.vg_pseudo_laws.proofs.ListsAgain.{Steps, ended, step, steps-again}
 use Rattle.vg_pseudo_laws.proofs.FormsAgain.{GivesForm}
 
--- an expression of these words and this level is read, where it ends behind them
+-- an expression of these words and this level is read, where it ends after them
 abbrev pub Gives : Inner → ℕ → Words → Part → Type 0
 Gives inner level ws x = (r m : Reading) → Reads ws r m → Ends level m → inner level r ≡ Ok (x, m)
 
@@ -30,7 +30,7 @@ Gives inner level ws x = (r m : Reading) → Reads ws r m → Ends level m → i
 abbrev pub GivesOperand : Context → Inner → Words → Part → Type 0
 GivesOperand context inner ws x = (r m : Reading) → Reads ws r m → Ends 0 m → operand_at context inner r ≡ Ok (x, m)
 
--- a list of arguments is read behind `(`
+-- a list of arguments is read after `(`
 abbrev pub GivesArguments : Inner → Words → List Part → Type 0
 GivesArguments inner ws ps = (r m : Reading) → Reads ws r m → arguments_at inner r ≡ Ok (ps, m)
 
@@ -148,7 +148,7 @@ more-arguments inner comma xs rest x ps is law others = record { begins = begins
         let fewer = Reads-fewer (a.one ▷ b.first) in
         step r a.behind b.middle m x ps (accept-again (codes ",") comma r a.behind is a.next) (law a.behind b.middle b.first last) fewer (others.steps b.middle m b.second end none)
 
--- arguments and the parenthesis behind them
+-- arguments and the parenthesis after them
 pub arguments-again : (inner : Inner) (xs rest : Words) (x : Part) (ps : List Part) (closing : Spelled) → Gives inner 8 xs x → GivesMore inner rest ps → Is closing (codes ")") → GivesArguments inner (xs ++ (rest ++ closing ∷ [])) (x ∷ ps)
 unfolding arguments_at
 arguments-again inner xs rest x ps closing law others closing_is r m h =

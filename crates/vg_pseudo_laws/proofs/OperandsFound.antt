@@ -29,7 +29,7 @@ use Rattle.vg_pseudo_laws.proofs.FormsFound.{Found, Sound, form-found}
 abbrev MoreArguments : Context → Words → Part → Type 0
 MoreArguments context ws x = (rest : Words) (ps : List Part) → AreMore context rest ps → AreMore context (ws ++ rest) (x ∷ ps)
 
--- Arguments were read, and the parenthesis behind them.
+-- Arguments were read, and the parenthesis after them.
 record FoundArguments (context : Context) (room : ℕ) (r : Reading) (x : List Part × Reading) : Type 0 where
   first : Words
   part : Part
@@ -45,7 +45,7 @@ record FoundArguments (context : Context) (room : ℕ) (r : Reading) (x : List P
   same : x.0 ≡ part ∷ parts
 
 module _ (context : Context) (room : ℕ) (inner : Inner) (sound : Sound context room inner) where
-  -- an argument behind a comma
+  -- an argument after a comma
   abbrev OneArgument : Words → Part → Type 0
   OneArgument ws x = MoreArguments context ws x × (x.depth ≤ room)
 

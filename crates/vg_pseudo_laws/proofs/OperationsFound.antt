@@ -95,7 +95,7 @@ param-found r x e =
           (record { words = n.0.0 ∷ []; is = (named.0, refl, refl); reads = subst (λ (m : Reading). Reads (n.0.0 ∷ []) r m) (sym none.1) named.1 })
     ]
 
--- a parameter behind a comma
+-- a parameter after a comma
 abbrev OneParam : Words → DefineParam → Type 0
 OneParam ws p = (rest : Words) (ps : List DefineParam) → AreMoreParams rest ps → AreMoreParams (ws ++ rest) (p ∷ ps)
 
@@ -127,7 +127,7 @@ are_params : {ws : Words} {ps : List DefineParam} → Many OneParam ws ps → Ar
 are_params nothing = refl
 are_params (another ws more x xs one rest) = one more xs (are_params rest)
 
--- Parameters were read, and the parenthesis behind them.
+-- Parameters were read, and the parenthesis after them.
 record FoundParams (r : Reading) (x : List DefineParam × Reading) : Type 0 where
   words : Words
   are : AreParams words x.0
@@ -217,7 +217,7 @@ define-found known r m x w e =
       reads = w.reads ▷ named.1 ▷ opening.reads ▷ params.reads ▷ params.closes ▷ begin.reads ▷ inside.reads ▷ return.reads ▷ answer.reads ▷ end.reads;
     })
 
--- DEFINEs were read behind those that were done.
+-- DEFINEs were read after those that were done.
 record FoundDefines (done : Defines) (r : Reading) (x : Defines × Reading) : Type 0 where
   defines : List Define
   words : Words

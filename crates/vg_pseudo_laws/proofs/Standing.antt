@@ -31,7 +31,7 @@ unfolding Stand
 Stand-append [] vs r m q first second = subst (λ (x : Reading). Stand vs x q) (sym first) second
 Stand-append (w ∷ ws) vs r m q (n, read, some, rest) second = (n, read, some, Stand-append ws vs n m q rest second)
 
--- words behind words
+-- words after words
 infixr 5 ◌▷◌
 pub ◌▷◌ : {ws vs : Words} {r m q : Reading} → Reads ws r m → Reads vs m q → Reads (ws ++ vs) r q
 ◌▷◌ {ws} {vs} {r} {m} {q} first second = record { stand = Stand-append ws vs r m q first.stand second.stand }

@@ -88,7 +88,7 @@ module _ (context : Context) (room : ℕ) where
       (assigned_above room t.calls w a.opening a.greatest a.colon closing.word sign.word low.words value.words rest l.0.0 v.0.0 t.statements
       name_is a.is_opening a.is_greatest a.is_colon (low.is, low.deep) closing.is sign.is (value.is, value.deep) are)))
 
-  -- `:= expression` behind a target
+  -- `:= expression` after a target
   target-found : (w : Spelled) (r m : Reading) (t : Part × Reading) (y x : Block × Reading) → IsName w → Reads (w ∷ []) r m → FoundForm context 65 w m t → assigned_at context w.place t.0.expression t.1 ≡ Ok y
       → (let all : Result (Block × Reading) PseudoFault = Ok (record { statements = y.0.statements; calls = max t.0.calls y.0.calls }, y.1) in all ≡ Ok x) → FoundItem (Before (Statement context (suc room))) r x
   unfolding assigned_at

@@ -21,7 +21,7 @@ use Rattle.vg_pseudo_laws.proofs.WordsAgain.{next-again, no-more, split, stops, 
 use Rattle.vg_pseudo_laws.proofs.FormsAgain.{GivesIndex, GivesForm, named-form, indexed-form, sliced-form, parted-form, placed-form}
 use Rattle.vg_pseudo_laws.proofs.LanguageRead.{own_index-again}
 
--- behind the name of a function that was read stands a parenthesis
+-- after the name of a function that was read stands a parenthesis
 function-opens : (context : Context) (inner : Inner) (f : _) (place : Place) (n : Reading) (x : Part × Reading) → function_at inner f place n ≡ Ok x → (p : Spelled × Reading) × (next_at n ≡ Ok p) × Is p.0 (codes "(")
 unfolding function_at
 function-opens context inner f place n x e =
@@ -76,7 +76,7 @@ no-bracket : (r n : Reading) (w : Spelled) → next_at r ≡ Ok (w, n) → bytes
 unfolding above_follows
 no-bracket r n w t f = bind_to (next_at r) _ t (rw f refl)
 
--- a target is read behind its name, and not as one with MAX
+-- a target is read after its name, and not as one with MAX
 pub record TargetLaw (context : Context) (w : Spelled) (ws : Words) (x : Part) : Type 0 where
   pub reads : GivesForm (own_index_at context) w ws x
   pub other : (r m : Reading) → Reads ws r m → Ends 0 m → above_follows r ≡ Ok (false, r)

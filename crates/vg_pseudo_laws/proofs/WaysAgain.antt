@@ -67,7 +67,7 @@ else_if m w n v p e is f k =
     let u : bytes_eq v.bytes (codes "IF") ≡ true = ap (λ (b : List ℕ). bytes_eq b (codes "IF")) k in
     bind_to (next_at m) _ e (rw t (bind_to (next_at n) _ f (rw u refl)))
 
--- the word behind ELSE is not IF
+-- the word after ELSE is not IF
 record Behind (rest : Words) (n : Reading) : Type 0 where
   word : Spelled
   behind : Reading

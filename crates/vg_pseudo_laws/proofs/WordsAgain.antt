@@ -15,7 +15,7 @@ use Rattle.vg_pseudo.specs.Words.{level_of, operator_named, prefix_named, functi
 use Rattle.vg_pseudo.proofs.Taking.{same_text}
 use Rattle.vg_pseudo_laws.proofs.Standing.{Reads, no-words}
 
--- a word stands next, and these behind it
+-- a word stands next, and these after it
 pub record Next (w : Spelled) (ws : Words) (r m : Reading) : Type 0 where
   pub behind : Reading
   pub next : next_at r ≡ Ok (w, behind)
@@ -34,7 +34,7 @@ pub no-more : {r m : Reading} → Reads [] r m → r ≡ m
 unfolding Stand
 no-more h = h.stand
 
--- words, and those behind them
+-- words, and those after them
 pub record Parts (ws vs : Words) (r m : Reading) : Type 0 where
   pub middle : Reading
   pub first : Reads ws r middle
@@ -183,7 +183,7 @@ free-is bytes h =
       no_number = number-digit bytes (name-digit bytes (and-left (is_name_text bytes) (not (is_reserved bytes)) h));
     }
 
--- What may stand behind an expression of a level.
+-- What may stand after an expression of a level.
 pub record Ends (level : ℕ) (m : Reading) : Type 0 where
   pub word : Spelled
   pub behind : Reading
@@ -237,7 +237,7 @@ ends-operator level op v n m e is l =
       dot = some (codes ".") refl;
     }
 
--- `?` behind a condition
+-- `?` after a condition
 pub ends-mark : (v : Spelled) (n m : Reading) → next_at m ≡ Ok (v, n) → Is v (codes "?") → Ends 7 m
 ends-mark v n m e is =
     let none : operator_named v.bytes ≡ None = ap operator_named is in

@@ -17,7 +17,7 @@ use Rattle.vg_range.specs.Walk.{Course, Stand, Arms, all_arms, arm_taken, arms_d
 use Rattle.vg_range.proofs.Stepping.{again}
 use Rattle.vg_range.proofs.WaysLeft.{and_moved}
 
--- one arm, and then those behind it
+-- one arm, and then those after it
 abbrev pub armed : Course → Code → Stand → Arms → Count → Result (Arms × Count) RangeFault
 armed x c w found n =
     option_map_or (λ r. first_arm x c w found n >>= λ g. all_arms x r w g.0 g.1) (rest_arms c) (Ok (found, n))

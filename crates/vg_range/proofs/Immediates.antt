@@ -43,7 +43,7 @@ unfolding judged_from
 judged_done r imm step count h =
     let none : count - step ≡ 0 = omega (arith, h) in ap (judged_from r imm) none
 
--- behind the first immediate
+-- after the first immediate
 judged_next : (r : Resolved) (imm n : ℕ) (w : Stand) → 0 < n → instance_at false r (Some imm) ≡ Ok w
     → judged_from r (imm + 1) (n - 1) ≡ judged_from r imm n
 unfolding judged_from

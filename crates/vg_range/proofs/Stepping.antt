@@ -21,7 +21,7 @@ pub alike : {A B : Type 0} (r : Result A RangeFault) (f g : A → Result B Range
 alike (Ok x) f g h = h x
 alike (Err e) f g h = refl
 
--- the first statement, and then those behind it
+-- the first statement, and then those after it
 abbrev pub stepped : Course → Code → Stand → Result Stand RangeFault
 stepped x c w = option_map_or (λ r. first_of x c w >>= λ v. walk x r v) (rest_code c) (Ok w)
 
@@ -44,7 +44,7 @@ walk_is x (arm n body arms) w = refl
 pub walk_ends : (x : Course) (c : Code) (w : Stand) → rest_code c ≡ None → walk x c w ≡ Ok w
 walk_ends x c w e = sym (walk_is x c w) ∙ ap (λ o. option_map_or (λ r. first_of x c w >>= λ v. walk x r v) o (Ok w)) e
 
--- behind the first statement
+-- after the first statement
 pub walk_next : (x : Course) (c r : Code) (w v : Stand) → rest_code c ≡ Some r → first_of x c w ≡ Ok v → walk x r v ≡ walk x c w
 walk_next x c r w v e h =
     sym (ap (λ o. o >>= λ u. walk x r u) h)

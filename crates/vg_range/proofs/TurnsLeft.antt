@@ -58,6 +58,6 @@ fewer_by : (z l : ℤ) (n : ℕ) → count z l ≡ n → how_many l (if nat_lt 0
 fewer_by z l zero e = omega arith
 fewer_by z l (suc n) e = omega (arith, count_next z l n e, ap (how_many l) (more_than_none (suc n) (Some z) None (omega arith)))
 
--- there are fewer turns behind a turn
+-- there are fewer turns after a turn
 pub fewer : (z l : ℤ) → how_many l (first_turn (z +ℤ pos 1) l) < how_many l (Some z)
 fewer z l = fewer_by (z +ℤ pos 1) l (count (z +ℤ pos 1) l) refl

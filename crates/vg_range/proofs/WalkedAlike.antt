@@ -15,7 +15,7 @@ use Rattle.vg_range.proofs.Alike.{Alike, judge-alike, known_at, same_numbers, sa
 
 -- ---- ways
 
--- what is known behind the last way
+-- what is known after the last way
 closed-known : (x : Course) (w v : Stand) (found : Ways) → known_at (closed x w found v) ≡ (joined_with found.joined v.numbers, v.count)
 closed-known x w v found =
     unscripted x (branch_of found.scripts v.script) (record { numbers = joined_with found.joined v.numbers; count = v.count; script = w.script })

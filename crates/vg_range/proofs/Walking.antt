@@ -51,7 +51,7 @@ Spares ks (last body) = Spares ks body
 Spares ks (pick e arms rest) = Spares ks arms × Spares ks rest
 Spares ks (arm n body arms) = (n < 2 ^ 127) × Spares ks body × Spares ks arms
 
--- ---- scripts one behind the other
+-- ---- scripts one after the other
 
 pub empty-is : (t : Script) → is_empty t ≡ true → t ≡ script.stop
 empty-is script.stop e = refl
@@ -248,7 +248,7 @@ kept_of-keeps ws c (moving i x) z h = (h.inside, h.ends)
 pub some_none : (n : ℕ) → Some n ≡ None → ⊥
 some_none n e = absurd (cc)
 
--- what is known behind a write inside of a register that is not constant
+-- what is known after a write inside of a register that is not constant
 pub written-knows : (x : Course) (fs : Functions) (ks : List Kept) (s : State) (r low width : ℕ) (z : ℤ) → Knows x.sight ks (seen fs x.sight.turns s)
     → low + width ≤ min 512 (get_or x.sight.widths r 0) → get_or x.sight.constants r None ≡ None
     → Knows x.sight ks (seen fs x.sight.turns (written r low width z s))
@@ -368,7 +368,7 @@ turns-go x fs place f g each (suc n) z c w v s h e =
     let one = each z c (at_count w m.0) u.0 s (in_turn-together x fs c (at_count w m.0) s z (counted x fs c w s m.0 h)) u.1 in
     turns-go x fs place f g each n (z +ℤ pos 1) c u.0 v (g z s) (out_turn-together x fs c u.0 (g z s) z one) u.2
 
--- ---- what is known behind one of several ways
+-- ---- what is known after one of several ways
 
 pub keeps-span : (k : Kept) (z : ℤ) → Keeps k z → In (kept_span k) z × EndsFit (kept_span k)
 keeps-span (constant y) z h =

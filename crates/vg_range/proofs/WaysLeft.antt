@@ -50,7 +50,7 @@ by_judged : (x : Course) (s : Spot) (body more : Code) (w : Stand) (found : Ways
 by_judged x s body more w found (Err e) = refl
 by_judged x s body more w found (Ok f) = by_operand x body more w found f.0 f.1 (operand s f.0)
 
--- one way, and then those behind it
+-- one way, and then those after it
 abbrev pub met : Course → Code → Stand → Ways → Count → Result Stand RangeFault
 met x c w found n =
     option_map_or (λ r. first_way x c w found n >>= ways_behind x r w) (rest_ways c) (last_at x c w n >>= λ v. Ok (closed x w found v))
@@ -66,7 +66,7 @@ met_is x (last body) w found n = refl
 met_is x (pick e arms rest) w found n = refl
 met_is x (arm k body arms) w found n = refl
 
--- where there are ways behind
+-- where there are ways after
 at_more : (x : Course) (c r : Code) (w : Stand) (found : Ways) (n : Count) → rest_ways c ≡ Some r
     → (first_way x c w found n >>= ways_behind x r w) ≡ walk_ways x c w found n
 at_more x c r w found n e =

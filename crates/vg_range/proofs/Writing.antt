@@ -52,7 +52,7 @@ bits-set [] r new h p = tt
 bits-set (l ∷ ls) zero new h p = (p, h.1)
 bits-set (l ∷ ls) (suc r) new h p = (h.0, bits-set ls r new h.1 p)
 
--- the cells of a body behind a write inside of what is kept of a register
+-- the cells of a body after a write inside of what is kept of a register
 pub written-cells : (ws : List ℕ) (s : State) (r low width : ℕ) (z : ℤ) → AreCells ws (cells s) → low + width ≤ min 512 (get_or ws r 0)
     → AreCells ws (cells (run.written r low width z s))
 written-cells ws s r low width z h inside =

@@ -30,7 +30,7 @@ kept_found s (within i y) = Ok (varying i)
 kept_found s (wide y) = Err (TooWide s.outer)
 kept_found s (loose y) = Err (TooWide s.inner)
 
--- the same of what is judged, and the counts behind it
+-- the same of what is judged, and the counts after it
 abbrev pub estimate_of : Spot → Result (Found × Count) RangeFault → Result (Kept × Count) RangeFault
 estimate_of s judged = do
   f ← judged
@@ -44,7 +44,7 @@ kept_joined s op (constant y) (constant z) =
 kept_joined s op a b =
     or_too_wide s.inner (option_map (λ i. varying i) (binary_span op (kept_span a) (kept_span b)))
 
--- the same of two expressions, one behind the other
+-- the same of two expressions, one after the other
 abbrev pub joined_estimate : Sight → List Kept → Spot → BinaryOp → Expr → Expr → Count
     → Result (Kept × Count) RangeFault
 joined_estimate s ks p op x y c = do
@@ -76,7 +76,7 @@ abbrev pub way_behind : Course → Code → Stand → Ways → Result (Condition
 way_behind x body w found decided =
     decided >>= λ d. way_by x (walk x body (beginning w d.1)) found d.0 d.1
 
--- what an expression is worth, behind the target of an assignment
+-- what an expression is worth, after the target of an assignment
 abbrev pub given_at : Course → Target → Option Goal → Expr → Stand → Result Stand RangeFault
 given_at x t g e w = do
   f ← judged x w e

@@ -9,7 +9,7 @@ use Rattle.vg_script.specs.Formed.{ScriptFormed}
 use Rattle.vg_names.specs.Proper.{IsProper}
 use Rattle.vg_range.specs.Walk.{Stand, imm_constant, instance_at}
 
--- the cells of an instance as it begins, where its parameters and behind them the immediate have
+-- the cells of an instance as it begins, where its parameters and after them the immediate have
 -- these numbers
 abbrev pub first_cells : Resolved → List ℕ → Cells
 first_cells r given = record {

@@ -48,7 +48,7 @@ abbrev pub how_many : ℤ → Option ℤ → ℕ
 how_many l None = 0
 how_many l (Some z) = 1 + count (z +ℤ pos 1) l
 
--- A way that was looked at: others may be taken behind those found, or it is the last.
+-- A way that was looked at: others may be taken after those found, or it is the last.
 pub data Met : Type 0 where
   further : Ways → Count → Met
   final : Ways → Stand → Met
@@ -73,7 +73,7 @@ abbrev pub first_way : Course → Code → Stand → Ways → Count → Result M
 first_way x (way c body more) w found n = way_at x c body w found n
 first_way x c w found n = last_at x c w n >>= λ v. Ok (final found v)
 
--- the ways behind the first
+-- the ways after the first
 abbrev pub rest_ways : Code → Option Code
 rest_ways (way c body more) = Some more
 rest_ways c = None
@@ -94,7 +94,7 @@ first_arm x (arm n body more) w found c = do
   Ok (with_arm x n v found, v.count)
 first_arm x c w found n = Ok (found, n)
 
--- the arms behind the first
+-- the arms after the first
 abbrev pub rest_arms : Code → Option Code
 rest_arms (arm n body more) = Some more
 rest_arms c = None

@@ -47,7 +47,7 @@ stand_view w = record {
 abbrev pub goal_view : goals.Goal → Goal
 goal_view g = record { register = g.register; bits = bits_view g.bits }
 
--- what is known of an expression, with the counts behind it
+-- what is known of an expression, with the counts after it
 abbrev pub leaf : Found → Count → Result (Found × Count) RangeFault
 leaf f c = Ok (f, c)
 
@@ -68,7 +68,7 @@ either_of y s first t second c = do
   b ← branch t second a.1
   Ok (either y a.0 b.0, b.1)
 
--- what is left of the uses of expressions, behind the last expression in them: here it is known
+-- what is left of the uses of expressions, after the last expression in them: here it is known
 abbrev pub slice_behind : Sight → Spot → Bool → ℕ → Option ℕ → Index → Spot → Found → Count → Result (Found × Count) RangeFault
 slice_behind s p is_signed r n high t g c =
     index_of t g >>= λ low. slice_at s p.inner is_signed r n high low c
@@ -95,7 +95,7 @@ abbrev pub decision_view : deciding.Decision → Condition
 decision_view (d.Always z) = always z
 decision_view (d.Tested y) = tested (word_of y.value)
 
--- what a condition says, with the counts behind it
+-- what a condition says, with the counts after it
 abbrev pub tested_at : Spot → Result (Found × Count) RangeFault → Result (Condition × Count) RangeFault
 tested_at s judged = do
   f ← judged
@@ -111,7 +111,7 @@ by_condition s first t second (tested y) c = either_of y s first t second c
 abbrev pub chosen_by : Result (Condition × Count) RangeFault → Spot → Judges → Spot → Judges → Result (Found × Count) RangeFault
 chosen_by judged s first t second = judged >>= λ d. by_condition s first t second d.0 d.1
 
--- these arguments, and those that are still to be judged behind them
+-- these arguments, and those that are still to be judged after them
 abbrev pub behind_passed : List Passed → Result (List Passed × Count) RangeFault → Result (List Passed × Count) RangeFault
 behind_passed done r = r >>= λ g. Ok (done ++ g.0, g.1)
 
@@ -119,7 +119,7 @@ behind_passed done r = r >>= λ g. Ok (done ++ g.0, g.1)
 abbrev pub number_set : Stand → ℕ → Kept → Stand
 number_set w k n = record { numbers = set w.numbers k n; count = w.count; script = w.script }
 
--- what stands behind the first statement
+-- what stands after the first statement
 abbrev pub rest_code : Code → Option Code
 rest_code (assign place t e rest) = Some rest
 rest_code (skip place rest) = Some rest

@@ -50,7 +50,7 @@ cells_given i given = record {
   variables = replicate i.variables 0;
 }
 
--- the bits that an instance leaves in dst, where its parameters and behind them the immediate have
+-- the bits that an instance leaves in dst, where its parameters and after them the immediate have
 -- these numbers
 abbrev pub left_by : Whole → List ℕ → List ℕ
 left_by i given = get_or (after i.script (cells_given i given)).registers i.result []
@@ -59,12 +59,12 @@ abbrev pub meant_by : Result Resolved NameFault → List ℕ → List ℕ
 meant_by (Ok r) given = meaning r given
 meant_by (Err fault) given = []
 
--- the bits of dst that an entry means, where its parameters and behind them the immediate have these
+-- the bits of dst that an entry means, where its parameters and after them the immediate have these
 -- numbers
 abbrev pub meant : Header → Operation → List ℕ → List ℕ
 meant h o given = meant_by (resolve h o) given
 
--- the immediate stands behind the parameters
+-- the immediate stands after the parameters
 abbrev pub IsGiven : Header → Option ℕ → List ℕ → Type 0
 IsGiven h None given = Unit {0}
 IsGiven h (Some imm) given = get_or given (length h.params) 0 ≡ imm

@@ -32,7 +32,7 @@ abbrev pub is_empty : Script → Bool
 is_empty script.stop = true
 is_empty s = false
 
--- one script behind the other, either of which may be empty
+-- one script after the other, either of which may be empty
 abbrev pub behind : Script → Script → Script
 behind s t = if is_empty t then s else if is_empty s then t else script.both s t
 
@@ -180,7 +180,7 @@ turns_at body place z (suc n) w = do
   turns_at body place (z +ℤ pos 1) n v
 
 -- Ways that may be taken, found so far: the conditions and the scripts, the last first, and what is
--- known behind any of them.
+-- known after any of them.
 pub record Ways : Type 0 where
   pub scripts : List (Word × Script)
   pub joined : Option (List Kept)
@@ -227,7 +227,7 @@ closed x w ways v =
 abbrev pub beginning : Stand → Count → Stand
 beginning w c = record { numbers = w.numbers; count = c; script = script.stop }
 
--- Arms that may be taken, the last first, and what is known behind any of them or none.
+-- Arms that may be taken, the last first, and what is known after any of them or none.
 pub record Arms : Type 0 where
   pub scripts : List (ℕ × Script)
   pub joined : List Kept
@@ -260,8 +260,8 @@ arms_of x w (moving i y) one all = do
   Ok (with_script x (pick_of y found.0.scripts)
       (record { numbers = found.0.joined; count = found.1; script = w.script }))
 
--- A way, by how its body goes, what is looked at behind a body that may be taken, what else there
--- is, and what is left behind a body that is the last.
+-- A way, by how its body goes, what is looked at after a body that may be taken, what else there
+-- is, and what is left after a body that is the last.
 abbrev pub way_taken : Operand → Result Stand RangeFault → (Stand → Result Stand RangeFault)
     → Result Stand RangeFault → (Stand → Stand) → Result Stand RangeFault
 way_taken (fixed z) body more others only =
@@ -294,7 +294,7 @@ abbrev mutual
   walk x (last body) w = Ok w
   walk x (arm n body arms) w = Ok w
 
-  -- the ways of an IF that begins here, behind those found so far, with the counts behind them
+  -- the ways of an IF that begins here, after those found so far, with the counts after them
   pub walk_ways : Course → Code → Stand → Ways → Count → Result Stand RangeFault
   walk_ways x (way c body more) w found n = do
     f ← judge x.sight w.numbers c n
@@ -313,7 +313,7 @@ abbrev mutual
       if int_eq z (pos n) then walk x body w else arm_taken x more w z
   arm_taken x _ w z = Ok w
 
-  -- all arms of a CASE that begins here, behind those found so far
+  -- all arms of a CASE that begins here, after those found so far
   pub all_arms : Course → Code → Stand → Arms → Count → Result (Arms × Count) RangeFault
   all_arms x (arm n body more) w found c = do
     v ← walk x body (beginning w c)

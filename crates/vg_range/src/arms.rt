@@ -36,7 +36,8 @@ pub struct Arms {
     pub joined: Vec<Kept>,
 }
 
-/// No arm is found yet.
+/// The arms of a CASE before the first: none is found yet, and this is known. Fails for want of
+/// memory alone.
 #[inline(never)]
 pub fn no_arms(alloc: Global, stand: &Stand) -> Result<Box<Arms>, AllocError>
     ensures { IfOk result (λ a. arms_view a.value ≡ no_arms (stand_view stand.now)) }
@@ -79,7 +80,8 @@ fn with_arm(
     }
 }
 
-/// One arm more.
+/// The arms found so far and one of this number that may be taken, which leaves the walk at
+/// `stand`. Fails for want of memory alone.
 #[inline(never)]
 pub fn one_arm_more(
     alloc: Global,

@@ -28,7 +28,7 @@ pub fn target_number(target: &Target) -> usize
     }
 }
 
-/// The same with another number in a number variable.
+/// The stand where this is known of a number variable. Fails for want of memory alone.
 #[inline(never)]
 #[tactic(auto, using(crate::proofs::Lists::view_set, crate::proofs::Lists::view_set_past))]
 pub fn with_number(

@@ -22,7 +22,7 @@ pub struct Checked {
 impl Checked {
     ghost use Rattle.vg_range.specs.Checks.{header_in, operation_in};
 
-    /// An accepted entry.
+    /// The accepted entry of these parts.
     pub(crate) fn new(header: Header, operation: Operation, resolved: Resolved) -> Checked
         requires { checked header (operation_of operation) ≡ Ok (resolved_of resolved) }
         ensures header { header_in result ≡ header }
@@ -42,7 +42,7 @@ impl Checked {
         &self.header
     }
 
-    /// The operation.
+    /// The operation as it was read, with its names.
     pub fn operation(&self) -> &Operation
         ensures operation { operation_of result.now ≡ operation_in self.now }
     {

@@ -17,7 +17,7 @@ pub enum Decision {
     Tested { word: Box<Word> },
 }
 
-/// The same with its word on the heap.
+/// A condition with its word on the heap. Fails for want of memory alone.
 pub fn decision_of(alloc: Global, condition: Condition) -> Result<Decision, AllocError>
     ensures { IfOk result (λ d. decision_view d ≡ condition_view condition) }
 {

@@ -17,7 +17,8 @@ fn kept_span(kept: Kept) -> Span
     }
 }
 
-/// What is known of a number variable where either was known. The same constant stays one.
+/// What is known of a number variable where one of two things is known of it: a constant where both
+/// are the same constant, else the least interval that holds both.
 pub fn join_kept(first: Kept, second: Kept) -> Kept
     ensures { kept_view result ≡ join_kept (kept_view first) (kept_view second) }
 {
@@ -34,7 +35,8 @@ pub fn join_kept(first: Kept, second: Kept) -> Kept
     }
 }
 
-/// What is known where either way was taken, number variable by number variable.
+/// What is known where either way was taken, number variable by number variable. Fails for want of
+/// memory alone.
 pub fn join(alloc: Global, first: &[Kept], second: &[Kept]) -> Result<Vec<Kept>, AllocError>
     ensures { IfOk result (λ ks. map kept_view ks.items ≡ join (map kept_view first.now) (map kept_view second.now)) }
 {

@@ -18,7 +18,7 @@ pub enum Selector {
     Moving { span: Span, word: Box<Word> },
 }
 
-/// The same with its word on the heap.
+/// An operand as a selector, with its word on the heap. Fails for want of memory alone.
 pub fn selector_of(alloc: Global, operand: Operand) -> Result<Selector, AllocError>
     ensures { IfOk result (λ s. selector_view s ≡ operand_view operand) }
 {

@@ -7,7 +7,7 @@ ghost use Rattle.vg_names.specs.Views.{expr_of};
 use vg_names::ResolvedExpr;
 use vg_pseudo::Spot;
 
-/// Where an expression stands.
+/// Where an expression stands in the text of its operation.
 pub fn spot_of(expr: &ResolvedExpr) -> Spot
     ensures { result ≡ spot_of (expr_of expr.now) }
 {

@@ -19,7 +19,7 @@ pub struct Stand {
     pub script: Script,
 }
 
-/// The same with other counts.
+/// The stand with these counts in the place of its own.
 pub fn at_count(stand: Box<Stand>, count: Count) -> Box<Stand>
     ensures { stand_view result.value ≡ at_count (stand_view stand.value) (count_view count) }
 {
@@ -38,7 +38,7 @@ pub fn is_empty(script: &Script) -> bool
     }
 }
 
-/// One script after the other, either of which may be empty.
+/// One script after the other, either of which may be empty. Fails for want of memory alone.
 pub fn behind(alloc: Global, first: Script, second: Script) -> Result<Script, AllocError>
     ensures { IfOk result (λ s. script_of s ≡ behind (script_of first) (script_of second)) }
 {
@@ -51,7 +51,8 @@ pub fn behind(alloc: Global, first: Script, second: Script) -> Result<Script, Al
     }
 }
 
-/// The same with a script after its own, where scripts are kept.
+/// The stand with this script after its own where the course keeps scripts, else as it was. Fails
+/// for want of memory alone.
 #[inline(never)]
 pub fn with_script(
     alloc: Global,

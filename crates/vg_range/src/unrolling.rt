@@ -52,7 +52,7 @@ fn wide(imm: Option<u8>) -> Option<u128>
     }
 }
 
-/// There was no memory.
+/// The want of memory that the fault of an accepted entry is.
 fn memory_error(fault: RangeFault) -> AllocError
     requires { is_memory fault ≡ true }
 {

@@ -25,7 +25,8 @@ use vg_names::ResolvedExpr;
 use vg_pseudo::{BinaryOp, Spot, UnaryOp};
 use vg_script::{WholeNumber, Word};
 
-/// The variable of a FOR.
+/// What is known of the variable of a FOR, by how many FORs lie between, and the counts. Fails for
+/// want of memory alone.
 #[inline(never)]
 pub fn turn_of(
     alloc: Global,
@@ -39,7 +40,8 @@ pub fn turn_of(
     boxed(alloc, counter(course.turns, turn), count)
 }
 
-/// A number variable.
+/// What is known of a number variable, by its number, and the counts. Fails for want of memory
+/// alone.
 #[inline(never)]
 pub fn variable_of(
     alloc: Global,
@@ -53,7 +55,7 @@ pub fn variable_of(
     boxed(alloc, variable(numbers, number), count)
 }
 
-/// An expression as an operand.
+/// An expression as an operand, by what is known of it; or its first fault.
 #[inline(never)]
 pub fn operand_of(
     alloc: Global,
@@ -66,7 +68,7 @@ pub fn operand_of(
     Ok(Box::new(alloc, operand)?)
 }
 
-/// An expression as an index.
+/// An expression as an index, by what is known of it; or its first fault.
 #[inline(never)]
 pub fn index_in(
     alloc: Global,
@@ -79,7 +81,7 @@ pub fn index_in(
     Ok(Box::new(alloc, index)?)
 }
 
-/// An expression as a condition.
+/// An expression as a condition, by what is known of it; or its first fault.
 #[inline(never)]
 pub fn condition_in(
     alloc: Global,
@@ -93,7 +95,7 @@ pub fn condition_in(
     Ok(Box::new(alloc, decision)?)
 }
 
-/// An expression as what selects the arm of a CASE.
+/// An expression as what selects the arm of a CASE, by what is known of it; or its first fault.
 #[inline(never)]
 pub fn selector_in(
     alloc: Global,
@@ -107,7 +109,7 @@ pub fn selector_in(
     Ok(Box::new(alloc, selector)?)
 }
 
-/// An expression as an argument.
+/// An expression as an argument of a call, by what is known of it; or its first fault.
 #[inline(never)]
 pub fn passed_in(
     alloc: Global,
@@ -120,7 +122,7 @@ pub fn passed_in(
     Ok(Box::new(alloc, passed)?)
 }
 
-/// One argument more.
+/// Appends an argument. Fails for want of memory alone.
 #[inline(never)]
 pub(crate) fn give(given: &mut Vec<Passed>, passed: Box<Passed>) -> Result<(), AllocError>
     ensures { IfOk result (λ u. given.new.items ≡ given.old.items ++ passed.value ∷ []) }

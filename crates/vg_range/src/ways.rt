@@ -37,7 +37,7 @@ pub enum Met {
     Final { found: Box<Ways>, last: Box<Stand> },
 }
 
-/// No way is found yet.
+/// The ways of an IF before the first: none is found yet. Fails for want of memory alone.
 #[inline(never)]
 pub fn no_ways(alloc: Global) -> Result<Box<Ways>, AllocError>
     ensures { IfOk result (λ w. ways_view w.value ≡ no_ways) }
@@ -94,7 +94,8 @@ fn with_way(
     }
 }
 
-/// One way more.
+/// The ways found so far and one that may be taken where `condition` is 1, which leaves the walk at
+/// `stand`. Fails for want of memory alone.
 #[inline(never)]
 pub fn one_way_more(
     alloc: Global,

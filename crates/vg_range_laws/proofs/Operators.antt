@@ -138,7 +138,7 @@ slice_found-static b (Some n) r x = tt
 abbrev found_at : Found → Count → Result (Found × Count) RangeFault
 found_at f c = Ok (f, c)
 
--- behind what depends on data there is nothing to show
+-- after what depends on data there is nothing to show
 vacuous : (f : Found) (c : Count) → Settled is_met FirstStatic c.is_dynamic (found_at f (dynamic c))
 vacuous f c e = absurd (true-false e)
   where

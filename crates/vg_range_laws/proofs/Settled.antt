@@ -1,4 +1,4 @@
--- Steps of a walk behind which a flag is false only where it was before.
+-- Steps of a walk after which a flag is false only where it was before.
 use Rattle.std.proofs.Common.{◌≡◌, Bool, true, false}
 use Rattle.std.specs.Prelude.{if◌then◌else◌, Result, Ok, Err}
 use Rattle.vg_base.specs.Bind.{◌>>=◌}
@@ -18,7 +18,7 @@ pub onward : {B : Type 0} (g : B → Bool) (Q : B → Type 0) (b c : Bool) (r : 
 onward g Q b c (Ok y) h s = λ e. let t = s e in (h t.0, t.1)
 onward g Q b c (Err e) h s = tt
 
--- one step and then another, which knows what holds behind the first
+-- one step and then another, which knows what holds after the first
 pub then_settled : {A B : Type 0} (f : A → Bool) (P : A → Type 0) (g : B → Bool) (Q : B → Type 0) (b : Bool) (r : Result A RangeFault) (k : A → Result B RangeFault)
     → Settled f P b r → ((x : A) → (f x ≡ false → (b ≡ false) × P x) → Settled g Q (f x) (k x)) → Settled g Q b (r >>= k)
 then_settled f P g Q b (Ok x) k h n = onward g Q b (f x) (k x) (λ e. (h e).0) (n x h)

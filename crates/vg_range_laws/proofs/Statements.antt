@@ -53,7 +53,7 @@ if_stand : (b : Bool) (f : Bool) (u w : Stand) → Settled met StandStatic f (gi
 if_stand true f u w h g = h
 if_stand false f u w h g = g
 
--- a script behind the one so far
+-- a script after the one so far
 with_script-settled : (x : Course) (s : Script) (w : Stand) (b : Bool) → (met w ≡ false → (b ≡ false) × IsStatic s × StandStatic w) → Settled met StandStatic b (given (with_script x s w))
 with_script-settled x s w b h =
     if_stand x.is_kept b _ w (λ e. let k = h e in (k.0, behind-static w.script s k.2 k.1)) (λ e. let k = h e in (k.0, k.2))

@@ -177,7 +177,7 @@ asks (extension v) ps rows r m = tt
 asks (flag f) ps rows r m = m.unset f (some_flag f ps)
 asks (word v) ps rows r m = tt
 
--- what is left of the flags behind one of them
+-- what is left of the flags after one of them
 fewer : (f g : Flag) (ps : List Part) → length (flags_in g (flag f ∷ ps)) < 2 → length (flags_in g ps) < 2
 fewer Guard Guard ps few = omega (arith, few)
 fewer Guard More ps few = few
@@ -508,7 +508,7 @@ read (w ∷ v ∷ ws) ps e = by (read ws) (read (v ∷ ws)) (bytes_eq w (codes "
     by others behind false x true y = by_with w v ws ps ((bytes_eq-Decides w (codes "--with")).0 y) others (rw (x, y) at e)
     by others behind false x false y = by_single w (v ∷ ws) ps behind (rw (x, y) at e)
 
--- the tests behind the walk pass
+-- the tests after the walk pass
 abbrev ends_well : Walk → Bool → Bool
 ends_well w passes = entered_passes (built app) w.stopped && (passes
     && (settle_passes rules false w.held && (list_all default_passes rules
@@ -536,7 +536,7 @@ at_end rows (of_file v) = only_flags (use_of (of_file v) rows)
 at_end rows (of_width v) = only_flags (use_of (of_width v) rows)
 at_end rows (of_with v) = only_flags (use_of (of_with v) rows)
 
--- behind the default of a flag
+-- after the default of a flag
 vals_default : (f : Flag) (id : Text) (rows : List Row) → bytes_eq (flag_id f) id ≡ false → vals id (with_default rows (flag_built f)) ≡ vals id rows
 vals_default f id rows e = by (has_row (flag_id f) rows) refl
   where

@@ -102,7 +102,7 @@ first_same n [] e = refl
 first_same zero (x ∷ xs) e = cc
 first_same (suc n) (x ∷ xs) e = (named (x ∷ take n xs) e).1
 
--- the name, `=`, and what is behind
+-- the name, `=`, and what is after
 all_low : (w : List ℕ) → name_len w < length w → list_all is_name (take (name_len w) w) ≡ true → are_low (drop (name_len w + 1) w) ≡ true → are_low w ≡ true
 all_low [] h names rest = refl
 all_low (x ∷ xs) h names rest = by (all_low xs) (not (x == 61)) refl h names rest

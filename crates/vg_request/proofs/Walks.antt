@@ -40,7 +40,7 @@ use_of (of_file v) rows = used (files_built) (v ∷ []) rows
 use_of (of_width v) rows = used (width_built) (v ∷ []) rows
 use_of (of_with v) rows = used (with_built) (v ∷ []) rows
 
--- behind the word of an option, before its value
+-- after the word of an option, before its value
 abbrev pub after_option : Text → List Row → Walk
 after_option id rows = record {
   held = record { rows = rows; pending = Some (id, []); skip = 0 };

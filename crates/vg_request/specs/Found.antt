@@ -1,4 +1,4 @@
--- What `clap` finds in the words behind a command, and what is asked for by it.
+-- What `clap` finds in the words after a command, and what is asked for by it.
 use Rattle.std.specs.Prelude.{◌≡◌, ℕ, Bool, List, [], ◌∷◌, Option, Some, None, codes, unwrap_or, if◌then◌else◌}
 use Rattle.std.specs.List.{list_all}
 use Rattle.std.specs.Option.{option_and_then, option_map}
@@ -40,7 +40,7 @@ abbrev pub kernel_found : Bool → Bool → ArgMatches → Option KernelAsked
 kernel_found guard more m = kernel_by guard more (values_of (codes "width") m)
     (values_of (codes "with") m) (values_of (codes "files") m)
 
--- what the values ask for behind each other command, and the words behind its files
+-- what the values ask for after each other command, and the words after its files
 abbrev pub run_found : List (List ℕ) → List (List ℕ) → Option Asked
 run_found (a ∷ b ∷ c ∷ values) words =
     if list_all is_binding words then Some (run a b c (bindings_in words)) else None

@@ -1,4 +1,4 @@
--- The words behind a command taken apart: options with their values, and the words that are left.
+-- The words after a command taken apart: options with their values, and the words that are left.
 use Rattle.std.specs.Prelude.{◌≡◌, ℕ, List, [], ◌∷◌, take, drop, length, Option, Some, None, Bool, true, false, codes, if◌then◌else◌}
 use Rattle.std.specs.List.{filter_map}
 use Rattle.std.specs.Str.{bytes_eq}
@@ -39,7 +39,7 @@ part_of w =
 abbrev pub before : Option Part → Option (List Part) → Option (List Part)
 before part parts = option_and_then (λ p. option_map (λ ps. p ∷ ps) parts) part
 
--- the parts of words in order: behind the words `--width` and `--with` stands their value
+-- the parts of words in order: after the words `--width` and `--with` stands their value
 unfoldable pub parts_of : List (List ℕ) → Option (List Part)
 parts_of [] = Some []
 parts_of (w ∷ []) = before (part_of w) (Some [])
@@ -94,7 +94,7 @@ part_seen (seen.Extension name) = extension name.now
 part_seen (seen.Flag f) = flag f
 part_seen (seen.Word w) = word w.now
 
--- the words have this part in front of those of what is behind it, or they have no parts
+-- the words have this part in front of those of what is after it, or they have no parts
 abbrev pub IsFirst : List (List ℕ) → Option Cut → Type 0
 IsFirst ws (Some cut) = parts_of ws ≡ before (Some (part_seen cut.part)) (parts_of cut.behind.now)
 IsFirst ws None = parts_of ws ≡ None

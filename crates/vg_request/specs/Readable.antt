@@ -34,7 +34,7 @@ is_one_more free (flag Guard) = not free.guard
 is_one_more free (flag More) = not free.more
 is_one_more free _ = false
 
--- what is free to stand behind a part
+-- what is free to stand after a part
 abbrev pub free_behind : Free → Part → Free
 free_behind free (width v) = record free { width = false }
 free_behind free (flag Guard) = record free { guard = false }
@@ -54,7 +54,7 @@ are_options guard_free words = may_follow (free_first guard_free) (parts_of word
 abbrev pub are_plain : List (List ℕ) → Bool
 are_plain words = list_all is_plain words
 
--- behind `compile` and `explain` options may stand, and `--guard` behind `compile` alone
+-- after `compile` and `explain` options may stand, and `--guard` after `compile` alone
 abbrev pub are_read : List (List ℕ) → Bool
 are_read [] = false
 are_read (command ∷ words) =

@@ -58,27 +58,27 @@ eval_of a b words =
     (plain_word b)) (plain_word a)
     else None
 
--- the words behind `compile INSTRUCTIONS KERNEL`, with options anywhere among them, also `--guard`
+-- the words after `compile INSTRUCTIONS KERNEL`, with options anywhere among them, also `--guard`
 abbrev pub compile_words : List (List ℕ) → Option Asked
 compile_words words =
     option_map (λ k. compile k.instructions k.kernel k.choices k.guard) (kernel_asked true words)
 
--- the words behind `run INSTRUCTIONS PROGRAM MEMORY name=number ..`
+-- the words after `run INSTRUCTIONS PROGRAM MEMORY name=number ..`
 abbrev pub run_words : List (List ℕ) → Option Asked
 run_words (a ∷ b ∷ c ∷ words) = run_of a b c words
 run_words _ = None
 
--- the words behind `eval KERNEL MEMORY name=number ..`
+-- the words after `eval KERNEL MEMORY name=number ..`
 abbrev pub eval_words : List (List ℕ) → Option Asked
 eval_words (a ∷ b ∷ words) = eval_of a b words
 eval_words _ = None
 
--- the words behind `lift INSTRUCTIONS`
+-- the words after `lift INSTRUCTIONS`
 abbrev pub lift_words : List (List ℕ) → Option Asked
 lift_words (a ∷ []) = option_map (λ instructions. lift instructions) (plain_word a)
 lift_words _ = None
 
--- the words behind `explain INSTRUCTIONS KERNEL`, with options anywhere among them
+-- the words after `explain INSTRUCTIONS KERNEL`, with options anywhere among them
 abbrev pub explain_words : List (List ℕ) → Option Asked
 explain_words words =
     option_map (λ k. explain k.instructions k.kernel k.choices) (kernel_asked false words)
@@ -88,14 +88,14 @@ abbrev pub trial_number : List ℕ → Option ℕ
 trial_number digits =
     option_and_then (λ n. if nat_lt n (2 ^ 32) then Some n else None) (decimal_value digits)
 
--- the words behind `trial INSTRUCTIONS N`
+-- the words after `trial INSTRUCTIONS N`
 abbrev pub trial_words : List (List ℕ) → Option Asked
 trial_words (a ∷ digits ∷ []) =
     option_and_then (λ instructions.
     option_map (λ number. trial instructions number) (trial_number digits)) (plain_word a)
 trial_words _ = None
 
--- the words behind `check INSTRUCTIONS KERNEL PROGRAM`
+-- the words after `check INSTRUCTIONS KERNEL PROGRAM`
 abbrev pub check_words : List (List ℕ) → Option Asked
 check_words (a ∷ b ∷ c ∷ []) =
     option_and_then (λ instructions.
@@ -104,7 +104,7 @@ check_words (a ∷ b ∷ c ∷ []) =
     (plain_word c)) (plain_word b)) (plain_word a)
 check_words _ = None
 
--- the command, and what stands behind it; all other words are no request
+-- the command, and what stands after it; all other words are no request
 abbrev pub request_of : List (List ℕ) → Option Asked
 request_of [] = None
 request_of (command ∷ words) =

@@ -1,4 +1,4 @@
--- Words behind a command.
+-- Words after a command.
 use Rattle.std.specs.Prelude.{ℕ, Bool, List, Option, Some, None, ◌==◌, is_some, slice_index, if◌then◌else◌}
 use Rattle.std.specs.Str.{is_utf8}
 

@@ -63,8 +63,8 @@ fn name_len(word: &[u8]) -> usize
     word.iter().take_while(|byte| **byte != b'=').count()
 }
 
-/// The binding that a word is: a name, `=`, and one to twenty digits, which may have a `-` before them.
-/// None for any other word. Takes no memory.
+/// The binding that a word is: a name as kernels have them, `=`, and one to twenty digits, which
+/// may have a `-` before them. None for any other word. Takes no memory.
 #[tactic(auto, unfolding(crate::specs::Binding::binding_of))]
 pub fn binding_of(word: &[u8]) -> Option<Bound<'_>>
     ensures { option_map binding_seen result ≡ binding_of word.now }

@@ -17,7 +17,7 @@ pub struct Options {
     pub width: u32,
     /// The extensions whose entries may be called. All where the words name none.
     pub allowed: Extensions,
-    /// Whether more plans are asked for.
+    /// Whether `--more` stands there: wide plans are searched too.
     pub more: bool,
 }
 

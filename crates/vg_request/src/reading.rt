@@ -119,7 +119,7 @@ fn read<'a>(alloc: Global, words: &'a [Bytes]) -> Result<ArgMatches<'a>, Error>
     command.try_get_matches_from(words)
 }
 
-/// The same, where want of memory is the one fault.
+/// What `clap` reads of words that are options and files. Fails for want of memory alone.
 fn matched<'a>(alloc: Global, words: &'a [Bytes]) -> Result<ArgMatches<'a>, AllocError>
     requires { are_options true words.now ≡ true }
     ensures { IfOk result (HasParts (parts_of words.now)) }

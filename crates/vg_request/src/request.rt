@@ -16,21 +16,21 @@ use vg_text::decimal;
 /// A request, with the names of its files in the order in which they are read.
 #[derive(Clone, Copy)]
 pub enum Request<'a> {
-    /// The program text of a kernel, or with `guard` its guarded text.
+    /// The program text of a kernel, with `guard` its guarded text, of a loop its looped text.
     Compile {
         instructions: &'a str,
         kernel: &'a str,
         options: Options,
         guard: bool,
     },
-    /// The memory that a program leaves, its parameters bound by words.
+    /// The memory that a program, a guarded or a looped text leaves, its parameters bound by words.
     Run {
         instructions: &'a str,
         program: &'a str,
         memory: &'a str,
         bindings: &'a [Bytes],
     },
-    /// The memory that a kernel leaves, its parameters bound by words.
+    /// The memory that a kernel or a loop leaves, its parameters bound by words.
     Eval {
         kernel: &'a str,
         memory: &'a str,
@@ -40,7 +40,7 @@ pub enum Request<'a> {
     Lift {
         instructions: &'a str,
     },
-    /// The lines on the chosen plan of a kernel.
+    /// The lines on the plan that is chosen of a kernel, or of the block of a loop.
     Explain {
         instructions: &'a str,
         kernel: &'a str,
@@ -51,7 +51,7 @@ pub enum Request<'a> {
         instructions: &'a str,
         number: u32,
     },
-    /// Whether a program means a kernel.
+    /// That a program has no difference to a kernel, or the first difference.
     Check {
         instructions: &'a str,
         kernel: &'a str,
@@ -86,9 +86,10 @@ impl<'a> Request<'a> {
 
 /// What the words ask for. None where they are no request.
 ///
-/// The words after the command are read with `clap`. Those that are refused before, since they are
-/// not text or begin with `-` where no option stands, give None and take no memory. Fails for want
-/// of memory alone.
+/// The words after the command are read with `clap`. These give None before that, and take no
+/// memory: no words, or a first word that is no command; words after it that are not text, or begin
+/// with `-` and are no option of the command; an option without its value; a second `--width`,
+/// `--guard` or `--more`. Fails for want of memory alone.
 pub fn request_of(alloc: Global, words: &Words) -> Result<Option<Request<'_>>, AllocError>
     ensures asked { IfOk result (λ r. option_map asked_of r ≡ request_of words.now) }
     ensures refused { are_read words.now ≡ false → result ≡ Ok None }

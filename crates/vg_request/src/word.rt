@@ -22,7 +22,7 @@ pub(crate) fn plain_word(word: &[u8]) -> Option<&str>
     }
 }
 
-/// Whether it is one.
+/// Whether a word is text that does not begin with `-`.
 pub(crate) fn is_plain(word: &[u8]) -> bool
     ensures { result ≡ is_plain word.now }
 {

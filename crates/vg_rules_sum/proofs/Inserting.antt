@@ -27,7 +27,7 @@ leads-on : (op : TwoOp) (w : ℕ) (x q r : Tree) → leads_to op x q ≡ true �
 leads-on op w x q r h g n =
     leads-opened op op w x q r (same_op-itself op) ∙ and_from _ _ n (and_from _ _ (not_from_false (opens op q) g) h)
 
--- the part that is put in: behind the last, before it, or beside another term
+-- the part that is put in: after the last, before it, or beside another term
 joined-last : (op o : TwoOp) (w v : ℕ) (a b y : Tree) → same_op op o ≡ true → not_after b y ≡ true → joined op w (two o v a b) y ≡ two op w (two o v a b) y
 joined-last op o w v a b y s h = cond-true _ _ _ s ∙ cond-true _ _ _ h
 
@@ -149,7 +149,7 @@ total-joined f op w (two o v a b) y =
       | inr e ↦ ap (λ r. total_by f (parts op r)) (joined-apart op o w v a b y e) ∙ total-turn f op w (two o v a b) y
     ]
 
--- a term that neither a chain in order nor the part behind it is after
+-- a term that neither a chain in order nor the part after it is after
 record IsBound (op : TwoOp) (x y : Tree) : Type 0 where
   bound : Tree
   chain_leads : leads_to op x bound ≡ true

@@ -1,4 +1,4 @@
--- One part more behind a chain that is in order.
+-- One part more after a chain that is in order.
 use Rattle.std.specs.Prelude.{ℕ, Bool, false, not, ◌&&◌, if◌then◌else◌}
 use Rattle.vg_terms.specs.declared.term.TwoOp.{TwoOp}
 use Rattle.vg_terms.specs.Chain.{makes_chains, same_op, opens, not_after, is_disordered}
@@ -8,7 +8,7 @@ use Rattle.vg_terms.specs.Term.{Tree, leaf, constant, one, two, sel}
 abbrev pub in_turn : TwoOp → ℕ → Tree → Tree → Tree
 in_turn op w x y = if not_after x y then two op w x y else two op w y x
 
--- the operation over a chain and a part, which goes before each part that it is not behind
+-- the operation over a chain and a part, which goes before each part that it is not after
 abbrev pub joined : TwoOp → ℕ → Tree → Tree → Tree
 joined op w (two o v a b) y =
     if same_op op o then

@@ -57,7 +57,7 @@ abbrev mutual
   low_value c (at n) = n
   low_value c (held x) = word_value c x
 
-  -- the cells of a call behind its statements
+  -- the cells of a call after its statements
   pub behind : Cells → Frame → Cells
   behind c (frame ws n g s) =
       after s (record { registers = entered ws (numbers_given c g); variables = replicate n 0 })

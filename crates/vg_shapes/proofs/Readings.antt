@@ -21,7 +21,7 @@ key-other-bit p low high h = let b : nat_eq low high ≡ false = ne_eqb low high
 key-other-parameter : (p q low high : ℕ) → p ≢ q → same_key (bits_key p low) (bits_key q high) ≡ false
 key-other-parameter p q low high h = let b : nat_eq p q ≡ false = ne_eqb p q h in grind (arith, b)
 
--- ---- within a register, and behind its end
+-- ---- within a register, and after its end
 
 reading-at : (p first low : ℕ) (l : List ℕ) (rest : List (LeafKey × ℕ)) → low < length l → number_at (reading_from p first l ++ rest) (bits_key p (first + low)) ≡ num (drop low l)
 reading-at p first low [] rest h = absurd (omega arith)

@@ -20,7 +20,7 @@ occurrences (sel w c x y) = occurrences c ++ (occurrences x ++ occurrences y)
 abbrev pub is_that_leaf : ℕ × LeafKey → ℕ × LeafKey → Bool
 is_that_leaf a b = nat_eq a.0 b.0 && same_key a.1 b.1
 
--- a leaf behind those that have occurred, where it is none of them
+-- a leaf after those that have occurred, where it is none of them
 abbrev pub noted : List (ℕ × LeafKey) → ℕ × LeafKey → List (ℕ × LeafKey)
 noted seen l = if list_any (is_that_leaf l) seen then seen else seen ++ l ∷ []
 

@@ -79,7 +79,7 @@ IsCycle ssa matches packs [] = ⊥
 IsCycle ssa matches packs (n ∷ ns) =
     AllByRecursion (Contains (nodes ssa packs)) (n ∷ ns) × LeadsTo ssa matches packs n n ns
 
--- a legal order: each node once, behind all units on which it depends
+-- a legal order: each node once, after all units on which it depends
 pub record IsOrder (ssa : Ssa) (matches : List Match) (packs : List Packed) (order : List Node) : Type 0 where
   pub once : IsPermutation (nodes ssa packs) order
   pub follows : Follows (node_depends ssa matches packs) (units_at packs) [] order

@@ -23,7 +23,7 @@ pub record IsSlot (ssa : Ssa) (register : ℕ) (s : Slot) : Type 0 where
   pub inside : s.low + s.width ≤ register
   pub wanted : MayBeWanted ssa s.width s.wanted
 
--- slots from this bit on, each behind the one before
+-- slots from this bit on, each after the one before
 abbrev pub AreSlots : Ssa → ℕ → ℕ → List Slot → Type 0
 AreSlots ssa register low [] = Unit {0}
 AreSlots ssa register low (s ∷ ss) =

@@ -27,13 +27,13 @@ units_of (Call d lanes) = filter_map (λ v. v) lanes
 abbrev pub behind : Address → ℕ → Address
 behind a n = record { pointer = a.pointer; offset = a.offset +ℤ pos n }
 
--- loads of a width that stand beside each other in memory, the first at this address
+-- loads of a width that are consecutive in memory, the first at this address
 abbrev pub AreLoads : Ssa → Width → Address → List ℕ → Type 0
 AreLoads ssa w a [] = Unit {0}
 AreLoads ssa w a (u ∷ us) =
     (unit_at ssa u ≡ Some (Load a w)) × AreLoads ssa w (behind a (size_of w)) us
 
--- stores of a width that stand beside each other in memory, and what they store
+-- stores of a width that are consecutive in memory, and what they store
 abbrev pub AreStores : Ssa → Width → Address → List ℕ → List Wanted → Type 0
 AreStores ssa w a [] xs = xs ≡ []
 AreStores ssa w a (u ∷ us) [] = ⊥

@@ -26,7 +26,7 @@ integers ssa = integers_of ssa.params
 abbrev pub arguments : Ssa → ℕ
 arguments ssa = length (integers ssa)
 
--- the unit of a number; the units are numbered behind the integer parameters
+-- the unit of a number; the units are numbered after the integer parameters
 abbrev pub unit_at : Ssa → ℕ → Option Work
 unit_at ssa v = if nat_lt v (arguments ssa) then None else slice_get ssa.units (v - arguments ssa)
 

@@ -37,7 +37,7 @@ impl<T: Copy + Default> Lanes<T> {
         self.all.as_slice()
     }
 
-    /// The same list a second time. Fails for want of memory alone.
+    /// A copy of the list. Fails for want of memory alone.
     pub fn copy(&self, alloc: Global) -> Result<Lanes<T>, AllocError>
         ensures { IfOk result (λ lanes. lanes ≡ self.now) }
     {

@@ -4,7 +4,7 @@ ghost use Rattle.std.specs.Prelude.{◌≡◌};
 
 use std::marker::Model;
 
-/// What is done in one go.
+/// A node of an order: the units of a pack, which are done together, or one unit.
 #[derive(Clone, Copy, PartialEq, Eq)]
 pub enum Node {
     /// The units of a pack, by its index in the plan.

@@ -5,9 +5,9 @@ use crate::lanes::Lanes;
 /// Units that one vector line does together, named by their numbers, lane 0 first.
 #[derive(Drop)]
 pub enum Pack {
-    /// Stores that stand beside each other in memory.
+    /// Stores of one width that are consecutive in memory, lane 0 at the lowest address.
     Stores(Lanes<u32>),
-    /// Loads that stand beside each other in memory.
+    /// Loads of one width that are consecutive in memory, lane 0 at the lowest address.
     Loads(Lanes<u32>),
     /// A call of an instruction, by the number of its description, and for each lane the operation
     /// that it computes, if any.

@@ -8,7 +8,7 @@ use crate::unit::Unit;
 use vg_base::{Items, Name, Width};
 use vg_terms::Term;
 
-/// What a parameter is.
+/// What a parameter is: a pointer or an integer.
 #[derive(Clone, Copy)]
 pub enum SsaParamKind {
     /// A place in memory. What is written through a pointer that is `noalias` is reached through no

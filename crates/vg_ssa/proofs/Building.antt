@@ -16,7 +16,7 @@ use Rattle.vg_ssa.specs.Numbering.{found, Numbered, numbered, units_from}
 use Rattle.vg_ssa.specs.ValueTerm.{terms_behind}
 use Rattle.vg_ssa.proofs.Terms.{fit-behind, fit-front, terms-both, terms-long}
 
--- ---- units, and more behind them
+-- ---- units, and more after them
 
 pub with-both : (b : Built) (us vs : List Work) → with_units (with_units b us) vs ≡ with_units b (us ++ vs)
 with-both b us vs =
@@ -41,7 +41,7 @@ take-behind b us vs h = record {
 
 -- ---- one expression after another
 
--- an expression behind these units
+-- an expression after these units
 abbrev pub behind_units : Built → List Work → Expression → Numbered
 behind_units b us e = numbered (length b.terms + length us) b.names e
 
@@ -61,7 +61,7 @@ further b c new us e x same h =
     let f : Numbers (with_units b us) (behind_units b us e) new x = subst (λ p. Numbers (with_units b us) p new x) (numbered-behind b us e) g in
     (f.built ∙ with-both b us (behind_units b us e).units, f.value)
 
--- a unit behind these, whichever equal one the code has
+-- a unit after these, whichever equal one the code has
 pub can-push : (b c : Built) (us : List Work) (u v : Work) → c ≡ with_units b us → v ≡ u → CanTake b (us ++ u ∷ []) → CanTake c (v ∷ [])
 can-push b c us u v same e h = subst (λ d. CanTake d (v ∷ [])) (sym same) (subst (λ w. CanTake (with_units b us) (w ∷ [])) (sym e) (take-behind b us (u ∷ []) h))
 
@@ -88,7 +88,7 @@ pub ok-both : {A E : Type 0} (r : Result A E) (P Q R : A → Type 0) → ((x : A
 ok-both (Ok x) P Q R f p q = f x p q
 ok-both (Err e) P Q R f p q = tt
 
--- one statement, and those that are left behind it
+-- one statement, and those that are left after it
 statement-split : (b : Built) (s : Statement) (ss : List Statement) → left_units b (s ∷ ss) ≡ statement_units b s ++ left_units (after_statement b s) ss
 statement-split b (assign e) ss =
     let p = numbered_in b e in

@@ -25,7 +25,7 @@ record Takes (n : ℕ) (p : Numbered) : Type 0 where
   units : TakeEarlier n p.units
   value : IsEarlier (n + length p.units) p.value
 
--- one unit behind others
+-- one unit after others
 takes-one : (n : ℕ) (us : List Work) (u : Work) → TakeEarlier n us → TakesEarlier (n + length us) u → Takes n (record { units = us ++ u ∷ []; value = Value (n + length us) })
 takes-one n us u h g = record {
   units = take-append n us (u ∷ []) h (g, tt);

@@ -49,7 +49,7 @@ kernel-few k good =
 abbrev pub begun : List KParam → Built
 begun ps = record { first = length (integer_widths ps); units = []; terms = argument_terms 0 (integer_widths ps); names = [] }
 
--- all units of a well-formed kernel can be numbered behind its parameters
+-- all units of a well-formed kernel can be numbered after its parameters
 pub kernel-room : (k : Kernel) (b : Built) → IsWellFormed k → b ≡ begun k.params → CanTake b (units_from (length b.terms) b.names k.statements)
 kernel-room k b good e =
     let front = arguments-long 0 (integer_widths k.params) in

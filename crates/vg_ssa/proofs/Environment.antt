@@ -122,7 +122,7 @@ pub past-arguments : (rest : List (LeafKey × ℕ)) (v : ℕ) (ns : List ℕ) (k
 past-arguments rest v [] key l = refl
 past-arguments rest v (n ∷ ns) key l = past-argument n v (argument_pairs (v + 1) ns ++ rest) key (omega arith) ∙ past-arguments rest (v + 1) ns key (omega arith)
 
--- ---- the environment of arguments and of the units behind them
+-- ---- the environment of arguments and of the units after them
 
 pub of-arguments : (v : ℕ) (ns ms : List ℕ) (us : List Work) → ReadArguments (argument_pairs 0 ns ++ unit_pairs v us ms) 0 ns
 of-arguments v ns ms us = read-arguments (argument_pairs 0 ns ++ unit_pairs v us ms) (unit_pairs v us ms) 0 ns (λ key l. refl)

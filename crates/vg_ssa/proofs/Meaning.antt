@@ -120,7 +120,7 @@ unit-step places (Operation op w k xs) r t h e =
     let same : reached r.memory r.numbers n ≡ t = cc in
     subst (Step r (Operation op w k xs)) same (record { given = n; numbers = refl; gives = refl; memory = h })
 
--- the numbers of more units stand behind those so far
+-- the numbers of more units stand after those so far
 pub record More (r : Reached) (us : List Work) (t : Reached) : Type 0 where
   pub more : List ℕ
   pub numbers : t.numbers ≡ r.numbers ++ more

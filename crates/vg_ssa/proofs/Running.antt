@@ -91,7 +91,7 @@ grown-twice r us t vs q g h = record {
   long = length-append g.more h.more ∙ (λ i. g.long i + h.long i) ∙ sym (length-append us vs);
 }
 
--- what is found behind other units
+-- what is found after other units
 finds-behind : (places : List ℕ) (r : Reached) (us : List Work) (t : Reached) (vs : List Work) (y : Wanted) (o : Option ℕ) → run_units places us r ≡ Some t → Grown r us t → Finds places t vs y o → Finds places r (us ++ vs) y o
 finds-behind places r us t vs y None e g f = run-append places us vs r ∙ ap (λ o. o >>= run_units places vs) e ∙ f
 finds-behind places r us t vs y (Some v) e g f =

@@ -22,7 +22,7 @@ use Rattle.vg_ssa.specs.Numbering.{first_unit, kind_of, numbered, param_of, unit
 abbrev made : List Work → List Access
 made us = filter_map unit_access us
 
--- units that make these accesses, and an operation behind them
+-- units that make these accesses, and an operation after them
 with-operation : (us : List Work) (u : Work) (xs : List Access) → unit_access u ≡ None → made us ≡ xs → made (us ++ u ∷ []) ≡ xs
 with-operation us u xs none e = filter_map-append unit_access us (u ∷ []) ∙ (λ i. e i ++ cons_option (none i) []) ∙ append-nil xs
 

@@ -162,7 +162,7 @@ bit-sound ssa bits (Value v) same h = same v ∙ h
 bit-sound ssa bits (Constant m k) same h = h
 bit-sound ssa bits Nothing same h = h
 
--- in a list of widths with more behind
+-- in a list of widths with more after
 operation-sound : (ssa : Ssa) (bits more : List (Option ℕ)) (op : Operator) (w : Width) (k : ℕ) (xs : Operands) → ((v : ℕ) → value_bits ssa v ≡ slice_index_or (bits ++ more) v None) → OperationIn bits op w k xs → IsOperation ssa op w k xs
 operation-sound ssa bits more op w k xs same = by op
   where
@@ -314,7 +314,7 @@ width-of-front bits us vs v l =
     let long = behind-long bits us in
     sym (ap (λ b. slice_index_or b v None) (behind-both bits us vs) ∙ get_or_append_left (behind bits us) (map unit_bits vs) None v (omega arith))
 
--- units that take what they may behind the terms of the parameters
+-- units that take what they may after the terms of the parameters
 pub record Typed (ssa : Ssa) (terms : List Tree) : Type 0 where
   pub units : UnitsIn (length (pointers ssa)) (widths (integers ssa)) ssa.units
   pub stand : Stand (widths (integers ssa)) terms
@@ -376,7 +376,7 @@ terms-mean d ssa terms made h same places memory args k r bytes fit run v t l e 
 
 -- ---- all of it
 
--- the widths of the parameters, and the units behind them
+-- the widths of the parameters, and the units after them
 pub numbered-typed : (k : Kernel) (ssa : Ssa) → IsWellFormed k → IsNumbering k ssa → Typed ssa (argument_terms 0 (integer_widths k.params))
 numbered-typed k ssa good is =
     let first = first_unit k in
@@ -394,7 +394,7 @@ numbered-typed k ssa good is =
       leaves = subst (λ l. AreArgumentTerms 0 (integers_of l) (argument_terms 0 ws)) (sym is.params) (argument-terms k.params 0);
     }
 
--- the terms of a kernel are those of its units behind those of its parameters
+-- the terms of a kernel are those of its units after those of its parameters
 pub made-terms : (d : Depth) (k : Kernel) (ssa : Ssa) (made : List Tree) → IsNumbering k ssa → made ≡ terms_behind d (first_unit k) (argument_terms 0 (integer_widths k.params)) (units_of k)
     → made ≡ all_terms d ssa (argument_terms 0 (integer_widths k.params))
 made-terms d k ssa made is e = e ∙ (λ i. terms_behind d (sym (arguments_first k ssa is) i) (argument_terms 0 (integer_widths k.params)) (sym is.units i))
@@ -414,7 +414,7 @@ unit-terms-behind d ssa terms made h e is =
     let fit = units-fit d (length (pointers ssa)) (arguments ssa) (widths (integers ssa)) terms ssa.units h.stand h.units in
     subst (AreUnitTerms (arguments ssa) ssa.units) (sym same) (subst (λ n. AreUnitTerms n ssa.units after) e (unit-terms d (arguments ssa) terms ssa.units fit))
 
--- the units of a well-formed kernel fit behind the terms of its parameters
+-- the units of a well-formed kernel fit after the terms of its parameters
 pub kernel-fits : (d : Depth) (k : Kernel) → IsWellFormed k → UnitsFit d (first_unit k) (argument_terms 0 (integer_widths k.params)) (units_of k)
 kernel-fits d k good =
     let ws = integer_widths k.params in

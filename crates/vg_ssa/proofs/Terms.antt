@@ -23,7 +23,7 @@ use Rattle.vg_terms.specs.Term.{Tree, constant, IsWidth, leaf, node_count, width
 
 -- ---- lists of terms
 
--- the terms of units behind those so far
+-- the terms of units after those so far
 abbrev pub terms_after : Depth → ℕ → List Tree → List Work → List Tree
 terms_after d first terms [] = []
 terms_after d first terms (u ∷ us) = unit_term d first terms u ∷ terms_after d first (terms ++ unit_term d first terms u ∷ []) us
@@ -179,7 +179,7 @@ unit-terms d first terms (u ∷ us) h =
     let t = unit_term d first terms u in
     (is-unit-term d first terms u h.0, subst (λ n. AreUnitTerms n us (terms_after d first (terms ++ t ∷ []) us)) (length_push terms t) (unit-terms d first (terms ++ t ∷ []) us h.1))
 
--- units that fit behind each other
+-- units that fit after each other
 pub fit-front : (d : Depth) (first : ℕ) (terms : List Tree) (us vs : List Work) → UnitsFit d first terms (us ++ vs) → UnitsFit d first terms us
 fit-front d first terms [] vs h = tt
 fit-front d first terms (u ∷ us) vs h = (h.0, fit-front d first (terms ++ unit_term d first terms u ∷ []) us vs h.1)

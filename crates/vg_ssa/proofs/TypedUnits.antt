@@ -32,7 +32,7 @@ typed-stays : (bits more : List (Option ℕ)) (t : ValueType) (x : Wanted) → T
 typed-stays bits more Bit x h = bit-stays bits more x h
 typed-stays bits more (Integer w) x h = number-stays bits more w x h
 
--- what an expression of this type is numbered as, behind values of these widths
+-- what an expression of this type is numbered as, after values of these widths
 record TypedAs (count : ℕ) (bits : List (Option ℕ)) (p : Numbered) (t : ValueType) : Type 0 where
   units : UnitsIn count bits p.units
   value : TypedIn (behind bits p.units) t p.value
@@ -45,7 +45,7 @@ value-typed : (bits : List (Option ℕ)) (t : ValueType) (v : ℕ) → slice_ind
 value-typed bits Bit v e = e
 value-typed bits (Integer w) v e = e
 
--- one unit behind others
+-- one unit after others
 typed-one : (count n : ℕ) (bits : List (Option ℕ)) (us : List Work) (u : Work) (t : ValueType) → n ≡ length bits → UnitsIn count bits us → UnitIn count (behind bits us) u → unit_bits u ≡ Some (type_bits t)
     → TypedAs count bits (record { units = us ++ u ∷ []; value = Value (n + length us) }) t
 typed-one count n bits us u t long h g e = record {

@@ -59,7 +59,7 @@ bit-stays bits more (Value v) h = stays bits more v 1 h
 bit-stays bits more (Constant m k) h = h
 bit-stays bits more Nothing h = h
 
--- the widths behind units
+-- the widths after units
 abbrev pub behind : List (Option ℕ) → List Work → List (Option ℕ)
 behind bits us = bits ++ map unit_bits us
 

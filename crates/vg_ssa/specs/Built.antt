@@ -57,7 +57,7 @@ pub record CanTake (b : Built) (us : List Work) : Type 0 where
   pub few : length b.terms + length us < 2 ^ 32
   pub fit : UnitsFit Whole b.first b.terms us
 
--- what was numbered is behind the rest, and this stands for its value
+-- what was numbered is after the rest, and this stands for its value
 pub record Numbers (b : Built) (p : Numbered) (new : Built) (x : Wanted) : Type 0 where
   pub built : new ≡ with_units b p.units
   pub value : x ≡ p.value

@@ -39,7 +39,7 @@ UnitFits d first terms (Store a w x) = Unit {0}
 UnitFits d first terms (Operation op w k xs) =
     Fit (operand_term terms) op w k xs × Fit (cut_term (writes_bits d) first terms) op w k xs
 
--- units, each behind the terms so far
+-- units, each after the terms so far
 abbrev pub UnitsFit : Depth → ℕ → List Tree → List Work → Type 0
 UnitsFit d first terms [] = Unit {0}
 UnitsFit d first terms (u ∷ us) =

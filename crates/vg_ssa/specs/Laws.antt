@@ -42,7 +42,7 @@ SameLayouts =
 abbrev pub UnitsAreTheCost : Type 0
 UnitsAreTheCost = (k : Tree) → length (units_of k) ≡ scalar_cost k
 
--- the units are numbered behind the integer parameters
+-- the units are numbered after the integer parameters
 abbrev pub ArgumentsFirst : Type 0
 ArgumentsFirst = (k : Tree) (ssa : Ssa) → IsNumbering k ssa → arguments ssa ≡ first_unit k
 

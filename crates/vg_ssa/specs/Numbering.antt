@@ -29,7 +29,7 @@ pub record Numbered : Type 0 where
 abbrev pub operands : Wanted → Wanted → Wanted → Operands
 operands x y z = record { first = x; second = y; third = z }
 
--- one unit behind others, which finds a value; the first of them has this number
+-- one unit after others, which finds a value; the first of them has this number
 abbrev pub found : ℕ → List Work → Work → Numbered
 found n us u = record { units = us ++ u ∷ []; value = Value (n + length us) }
 

@@ -111,7 +111,7 @@ abbrev pub argument_terms : ℕ → List Width → List Tree
 argument_terms v [] = []
 argument_terms v (w ∷ ws) = leaf (bits_of w) (argument_key v) ∷ argument_terms (v + 1) ws
 
--- the terms so far, and those of the units behind them
+-- the terms so far, and those of the units after them
 abbrev pub terms_behind : Depth → ℕ → List Tree → List Work → List Tree
 terms_behind d first terms [] = terms
 terms_behind d first terms (u ∷ us) =

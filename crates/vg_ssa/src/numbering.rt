@@ -16,8 +16,8 @@ use vg_kernel::{KParam, KParamKind, Kernel};
 use vg_shapes::{Ssa, SsaParam, SsaParamKind};
 
 /// A kernel as numbered values: its loads, operations and stores in the order in which they run,
-/// and for each value its canonical term, in which operands are cut past 128 nodes. No value has a
-/// cut term.
+/// and for each value its canonical term; where that would have more than 128 nodes, the operands
+/// that are units stand in it as leaves. No value has a cut term.
 ///
 /// The units leave the memory that the kernel leaves and trap where it traps, the accesses are the
 /// same, and the layouts that respect noalias are the same. Fails for want of memory alone.
@@ -48,8 +48,8 @@ pub fn number_values(alloc: Global, kernel: &Kernel) -> Result<Ssa, AllocError>
 }
 
 /// The same numbered values, and for each its cut term: that of an operation is its canonical form
-/// over the names of its operands. A value of more than one bit is named by a leaf of its own, a
-/// bit by its cut term.
+/// over the names of its operands. An argument is named by its leaf, a value of more than one bit
+/// by a leaf of its own, a bit by its cut term.
 ///
 /// Name, parameters, units and terms are those that `number_values` gives, and what that promises
 /// holds here too. Fails for want of memory alone.

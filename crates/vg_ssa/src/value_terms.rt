@@ -186,7 +186,7 @@ fn term_at(alloc: Global, terms: &[Term], value: u32) -> Result<Term, AllocError
     }
 }
 
-// Its width in bits.
+// The width of a value in bits.
 fn width_at(terms: &[Term], value: u32) -> u32
     ensures { result ≡ width_of (slice_index_or (map tree terms.now) value no_term) }
 {

@@ -21,7 +21,7 @@ disorder-below (one op w k x) = omega (arith, disorder-below x)
 disorder-below (two op w x y) = omega (arith, own_most (two op w x y), disorder-below x, disorder-below y)
 disorder-below (sel w c x y) = omega (arith, disorder-below c, disorder-below x, disorder-below y)
 
--- a square with less than its root behind it
+-- a square with less than its root after it
 squares : (v w d e : ℕ) → v < w → d < v → v * v + d < w * w + e
 squares v w d e h l =
     let k = w - suc v in

@@ -106,7 +106,7 @@ apart t u a b h =
     let front = node_cmp (node_of t) (node_of u) in
     rw (shape-front t, shape-front u) (then-apart front _ _ (λ e. h (same_kind t u e)) ∙ sym (then_assoc front Equal (slice_cmp node_cmp a b)))
 
--- two lists decide by an answer, and by what stands behind them where it is Equal
+-- two lists decide by an answer, and by what stands after them where it is Equal
 abbrev Decide : {X : Type 0} → (X → X → Ordering) → List X → List X → Ordering → Type 0
 Decide {X} cmp xs ys o = (a b : List X) → slice_cmp cmp (xs ++ a) (ys ++ b) ≡ ordering_then o (slice_cmp cmp a b)
 
@@ -114,7 +114,7 @@ parts : {X : Type 0} (cmp : X → X → Ordering) (x x' y y' : List X) (o o' : O
 parts cmp x x' y y' o o' h h' a b =
     rw (append_assoc x x' a, append_assoc y y' b) (h (x' ++ a) (y' ++ b) ∙ ap (ordering_then o) (h' a b) ∙ sym (then_assoc o o' (slice_cmp cmp a b)))
 
--- no shape is a proper prefix of another: what stands behind two shapes counts only where they are equal
+-- no shape is a proper prefix of another: what stands after two shapes counts only where they are equal
 pub shapes-cmp : (t u : Tree) → Decide node_cmp (shape t) (shape u) (shapes_cmp t u)
 shapes-cmp (leaf w k) (leaf v l) a b = sym (then_assoc (node_cmp (node_of (leaf w k)) (node_of (leaf v l))) Equal _)
 shapes-cmp (constant w k) (constant v l) a b = sym (then_assoc (node_cmp (node_of (constant w k)) (node_of (constant v l))) Equal _)
@@ -141,7 +141,7 @@ equal_below t u e =
 equal_nodes : (t u : Tree) → shapes_cmp t u ≡ Equal → (tag_of t ≡ tag_of u) × (width_of t ≡ width_of u) × (extra_of t ≡ extra_of u)
 equal_nodes t u e = node_cmp-equal (node_of t) (node_of u) (then-equal (node_cmp (node_of t) (node_of u)) (below_cmp t u) e).0
 
--- of terms of one shape, what stands behind two lists of keys counts only where they are equal
+-- of terms of one shape, what stands after two lists of keys counts only where they are equal
 pub leaves-cmp : (t u : Tree) → shapes_cmp t u ≡ Equal → Decide leaf_cmp (keys t) (keys u) (leaves_cmp t u)
 leaves-cmp (leaf w k) (leaf v l) e a b = refl
 leaves-cmp (constant w k) (constant v l) e a b = refl

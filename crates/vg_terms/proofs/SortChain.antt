@@ -160,7 +160,7 @@ pub sorted-in_order : (op : TwoOp) (w : ℕ) (x y : Tree) → makes_chains op �
 sorted-in_order op w x y c =
     in_order-chain op w (sorted (parts op (two op w x y))) c (rising-sorted (parts op (two op w x y))) (all-sorted (λ p. opens op p ≡ false) (parts op (two op w x y)) (parts_closed-all op (two op w x y))) (two_parts_least op w x y)
 
--- one more part behind a chain, and behind a rising list
+-- one more part after a chain, and after a rising list
 chain-snoc : (op : TwoOp) (w : ℕ) (first : Tree) (ps : List Tree) (y : Tree) → chain op w first (ps ++ y ∷ []) ≡ two op w (chain op w first ps) y
 chain-snoc op w first [] y = refl
 chain-snoc op w first (p ∷ ps) y = chain-snoc op w (two op w first p) ps y
@@ -179,7 +179,7 @@ rising-snoc : (ps : List Tree) (b y : Tree) → rising (ps ++ b ∷ []) ≡ true
 rising-snoc [] b y h g = and_from _ _ g refl
 rising-snoc (p ∷ ps) b y h g = rising_from-snoc p ps b y h g
 
--- x leads to y: with y behind them its parts rise, and their chain is the operation over x and y
+-- x leads to y: with y after them its parts rise, and their chain is the operation over x and y
 record Leads (op : TwoOp) (w : ℕ) (x y : Tree) : Type 0 where
   is_chain : chain_of op w (parts op x ++ y ∷ []) ≡ two op w x y
   rises : rising (parts op x ++ y ∷ []) ≡ true

@@ -38,7 +38,7 @@ shown_width Slt w m = m
 shown_width Ult w m = m
 shown_width _ w m = w
 
--- a shift shows its amount behind its child
+-- a shift shows its amount after its child
 abbrev pub amount_text : OneOp → ℕ → List ℕ
 amount_text Lshr k = codes " " ++ decimal k
 amount_text Ashr k = codes " " ++ decimal k

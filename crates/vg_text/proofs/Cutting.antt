@@ -16,7 +16,7 @@ use Rattle.vg_text.specs.Place.{place_behind, place_after}
 use Rattle.vg_text.specs.Token.{Lexemes, token, finish, fault, from_front, front_of, lex, opens_comment, opens_hexadecimal, comment_front, name_front, number_front, hexadecimal_front, decimal_front, sign_front}
 use Rattle.vg_text.specs.Cut.{Stops, IsGap, nothing, white, comment, Spells, tens, sixteens, IsLexeme, IsFault, stray, long_name, large_number, Cuts, IsTokenOf}
 
--- the bytes of one kind at the front of a text, all that there are, and what stands behind them
+-- the bytes of one kind at the front of a text, all that there are, and what stands after them
 record IsRun (is : ℕ → Bool) (text run behind : List ℕ) : Type 0 where
   whole : text ≡ run ++ behind
   size : length run ≡ prefix_len is text
@@ -40,7 +40,7 @@ run_of : (is : ℕ → Bool) (text : List ℕ) → (run behind : List ℕ) × Is
 run_of is [] = ([], [], record { whole = refl; size = refl; all = refl; stops = tt })
 run_of is (b ∷ bs) = let (run, behind, r) = run_of is bs in run_from is b bs run behind (is b) refl r
 
--- one gap behind another
+-- one gap after another
 join : (g behind more rest : List ℕ) → behind ≡ more ++ rest → IsGap g behind → IsGap more rest → IsGap (g ++ more) rest
 join g behind more rest e h k = elim h as (λ g behind h. behind ≡ more ++ rest → IsGap (g ++ more) rest) [
   | nothing behind ↦ λ e. k
@@ -86,7 +86,7 @@ fits_name b bs h =
 is_some_length : (n : ℕ) → not (suc n == 0) ≡ true
 is_some_length n = not_from_false _ (ne_eqb (suc n) 0 (λ e. omega arith))
 
--- a byte and a run behind it are what is taken of a text
+-- a byte and a run after it are what is taken of a text
 taken_run : (is : ℕ → Bool) (d : ℕ) (ds run behind : List ℕ) → IsRun is ds run behind → take (1 + prefix_len is ds) (d ∷ ds) ≡ d ∷ run
 taken_run is d ds run behind r =
     let n = 1 + prefix_len is ds in
@@ -159,7 +159,7 @@ fits_front b bs =
     (Gap 1) (comment_front text) (name_front text) (hexadecimal_front text) (decimal_front text) (sign_front text)
     (fits_white b bs) (fits_comment b bs) (fits_name b bs) (fits_hexadecimal text) (fits_decimal b bs) (fits_sign b bs)
 
--- a place behind two pieces
+-- a place after two pieces
 pub place_after-append : (p : Place) (xs ys : List ℕ) → place_after p (xs ++ ys) ≡ place_after (place_after p xs) ys
 unfolding place_after
 place_after-append p [] ys = refl
@@ -209,7 +209,7 @@ one_more z b bs at p below (x ∷ xs) behind e some =
     let further : at + suc (length xs) ≡ (at + 1) + length xs = omega arith in
     rw (one, further, first) (below xs behind rest)
 
--- behind the bytes that are taken, the text is cut into what is found there
+-- after the bytes that are taken, the text is cut into what is found there
 cuts_behind : (z : Place) (text taken behind : List ℕ) (at : ℕ) (p : Place) → text ≡ taken ++ behind → Cuts z (at + length taken) (place_after p taken) behind (lex z (length taken) at p text)
 unfolding lex Cuts place_after
 cuts_behind z [] [] [] at p e = (nothing [], record { kind = refl; start = omega arith; end = omega arith; place = refl })
@@ -228,7 +228,7 @@ pub cuts : (z : Place) (at : ℕ) (p : Place) (text : List ℕ) → Cuts z at p 
 unfolding place_after
 cuts z at p text = let none : at + 0 ≡ at = omega arith in rw none at (cuts_behind z text [] text at p refl)
 
--- the bytes of a text behind a place in it are those of the token that is found there, and what stands behind it
+-- the bytes of a text after a place in it are those of the token that is found there, and what stands after it
 pub token_of : (s rest : List ℕ) (kind : TokenKind) (t : Token) (at n : ℕ) (p : Place) → at < length s → rest ≡ drop at s → Lexeme kind n ≡ front_of rest
     → t ≡ record { kind = kind; start = at; end = at + n; place = p } → IsTokenOf s t
 token_of s rest kind t at n p inside e front same =

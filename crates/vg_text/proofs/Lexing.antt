@@ -1,4 +1,4 @@
--- The tokens that are left behind white space, a comment or a token.
+-- The tokens that are left after white space, a comment or a token.
 use Rattle.std.proofs.Common.{◌≡◌, ℕ, zero, suc, ◌+◌, ◌-◌, ◌<◌, ◌≤◌, List, [], ◌∷◌, length, take, drop, arith, refl, sym, ◌∙◌, ap, Ok, Err, length-drop}
 use Rattle.std.proofs.lemmas.List.{drop-drop}
 use Rattle.vg_text.specs.declared.place.Place.{Place}
@@ -10,7 +10,7 @@ use Rattle.vg_text.specs.declared.front.Front.TheVariants.{Gap, Lexeme, Bad}
 use Rattle.vg_text.specs.Place.{place_behind, place_after, end_place}
 use Rattle.vg_text.specs.Token.{from_front, front_of, lex, Takes}
 
--- taking bytes is beginning behind them
+-- taking bytes is beginning after them
 pub lex-skip : (z : Place) (k at : ℕ) (p : Place) (text : List ℕ) → k ≤ length text → lex z k at p text ≡ lex z 0 (at + k) (place_after p (take k text)) (drop k text)
 unfolding lex place_after
 lex-skip z zero at p text h = let e : at + 0 ≡ at = omega arith in rw e refl
@@ -19,7 +19,7 @@ lex-skip z (suc k) at p (b ∷ bs) h =
     let e : at + suc k ≡ (at + 1) + k = omega arith in
     rw e (lex-skip z k (at + 1) (place_behind p b) bs (omega arith))
 
--- what is left behind the first n bytes
+-- what is left after the first n bytes
 pub behind_front : (z : Place) (n at : ℕ) (p : Place) (b : ℕ) (bs : List ℕ) → 0 < n → n ≤ length (b ∷ bs) → lex z (n - 1) (at + 1) (place_behind p b) bs ≡ lex z 0 (at + n) (place_after p (take n (b ∷ bs))) (drop n (b ∷ bs))
 unfolding place_after
 behind_front z zero at p b bs h l = absurd (omega arith)
@@ -28,7 +28,7 @@ behind_front z (suc n) at p b bs h l =
     let e : at + suc n ≡ (at + 1) + n = omega arith in
     rw (less, e) (lex-skip z n (at + 1) (place_behind p b) bs (omega arith))
 
--- the front of a text, and what stands behind it
+-- the front of a text, and what stands after it
 pub lex-cons : (z : Place) (at : ℕ) (p : Place) (b : ℕ) (bs : List ℕ) → lex z 0 at p (b ∷ bs) ≡ from_front (front_of (b ∷ bs)) at p (λ n. lex z (n - 1) (at + 1) (place_behind p b) bs)
 unfolding lex
 lex-cons z at p b bs = refl
@@ -63,7 +63,7 @@ after_gap s s' rest at n at' p p' inside e front h ea es ep =
     let some : 0 < length (drop at s) = omega (arith, length-drop at s) in
     rw (ea, es, ep, ← drop-drop n at s) (sym (lex-gap (end_place s) n at p (drop at s) some (rw e at (sym front)) (h.0, omega (arith, h.1, ap length e))))
 
--- a lexer that takes a token has those behind it left
+-- a lexer that takes a token has those after it left
 pub after_lexeme : (s s' rest : List ℕ) (kind : TokenKind) (t : Token) (at n at' : ℕ) (p p' : Place) → at < length s → rest ≡ drop at s → Lexeme kind n ≡ front_of rest → (0 < n) × (n ≤ length rest)
     → t ≡ record { kind = kind; start = at; end = at + n; place = p } → at' ≡ at + n → s' ≡ s → p' ≡ place_after p (take n (drop at s)) → Takes (lex (end_place s) 0 at p (drop at s)) (Ok t) (lex (end_place s') 0 at' p' (drop at' s'))
 after_lexeme s s' rest kind t at n at' p p' inside e front h et ea es ep =

@@ -9,7 +9,7 @@ pub value_from-step : (base n : ℕ) (ds : List ℕ) (i : ℕ) → i < length ds
 unfolding value_from
 value_from-step base n ds i h = rw (add-one, drop-cons ds i 0) refl
 
--- digits behind a number do not lower it
+-- digits after a number do not lower it
 pub value_from-grows : (base n : ℕ) (ds : List ℕ) → 1 ≤ base → n ≤ value_from base n ds
 unfolding value_from
 value_from-grows base n [] h = omega arith

@@ -1,4 +1,4 @@
--- Places behind bytes.
+-- Places after bytes.
 use Rattle.std.proofs.Common.{◌≡◌, ℕ, ◌+◌, ◌<◌, ◌≤◌, List, length, get_or, drop, refl, drop-cons, add-one}
 use Rattle.std.proofs.Math.ListN.{drop_of_length-le}
 use Rattle.vg_text.specs.declared.place.Place.{Place}

@@ -14,7 +14,7 @@ digit n h = (
   cond-false _ _ _ (lt-leb 97 (48 + n) (omega arith)) ∙ cond-false _ _ _ (lt-leb 65 (48 + n) (omega arith)) ∙ omega arith,
 )
 
--- one digit more behind others
+-- one digit more after others
 value_from-append : (n : ℕ) (ds : List ℕ) (d : ℕ) → value_from 10 n (ds ++ d ∷ []) ≡ value_from 10 n ds * 10 + digit_value d
 unfolding value_from
 value_from-append n [] d = refl

@@ -17,7 +17,7 @@ abbrev pub Stops : (ℕ → Bool) → List ℕ → Type 0
 Stops is [] = Unit {0}
 Stops is (b ∷ bs) = IsFalse (is b)
 
--- White space and comments, with what stands behind them. A comment goes on to the end of its line:
+-- White space and comments, with what stands after them. A comment goes on to the end of its line:
 -- to LF, to the end of the text, or to a byte that may stand nowhere.
 pub data IsGap : List ℕ → List ℕ → Type 0 where
   nothing : (behind : List ℕ) → IsGap [] behind
@@ -61,7 +61,7 @@ IsSign (b ∷ []) behind =
 IsSign (b ∷ c ∷ []) behind = IsTrue (is_pair b c)
 IsSign (b ∷ c ∷ d ∷ more) behind = ⊥
 
--- the bytes of a token of this kind, with what stands behind them
+-- the bytes of a token of this kind, with what stands after them
 abbrev pub IsLexeme : TokenKind → List ℕ → List ℕ → Type 0
 IsLexeme Name lexeme behind = IsTrue (is_name_text lexeme) × Stops is_name behind
 IsLexeme Number lexeme behind = (n : ℕ) × Spells lexeme behind n × (n < 2 ^ 127)
@@ -81,7 +81,7 @@ pub data IsFault : List ℕ → Type 0 where
       → 2 ^ 127 ≤ n
       → IsFault (digits ++ behind)
 
--- a token stands behind this gap and has these bytes, where the gap begins at this byte and place
+-- a token stands after this gap and has these bytes, where the gap begins at this byte and place
 pub record Stands (at : ℕ) (p : Place) (gap lexeme : List ℕ) (t : Token) : Type 0 where
   pub start : t.start ≡ at + length gap
   pub end : t.end ≡ t.start + length lexeme
@@ -95,7 +95,7 @@ pub record IsEnd (at : ℕ) (last : Place) (t : Token) : Type 0 where
   pub place : t.place ≡ last
 
 -- A text that begins at this byte and place, and ends at the place before them, is cut into these
--- tokens: a gap, a token, and what stands behind it, cut again; or a gap alone, and the end; or a
+-- tokens: a gap, a token, and what stands after it, cut again; or a gap alone, and the end; or a
 -- gap and a fault, which stands at its place.
 unfoldable pub Cuts : Place → ℕ → Place → List ℕ → Lexemes → Type 0
 Cuts last at p text (token t rest) =

@@ -7,7 +7,7 @@ use Rattle.vg_text.specs.Byte.{is_digit}
 abbrev pub digit_value : ℕ → ℕ
 digit_value b = if nat_le 97 b then b - 87 else if nat_le 65 b then b - 55 else b - 48
 
--- the number that these digits make behind those that made n
+-- the number that these digits make after those that made n
 unfoldable pub value_from : ℕ → ℕ → List ℕ → ℕ
 value_from base n [] = n
 value_from base n (d ∷ ds) = value_from base (n * base + digit_value d) ds

@@ -12,7 +12,7 @@ place_behind p b =
     if b == 10 then record { line = p.line + 1; column = 1 }
     else record { line = p.line; column = p.column + 1 }
 
--- behind these bytes
+-- after these bytes
 unfoldable pub place_after : Place → List ℕ → Place
 place_after p [] = p
 place_after p (b ∷ bs) = place_after (place_behind p b) bs

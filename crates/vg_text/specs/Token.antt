@@ -77,7 +77,7 @@ pub data Lexemes : Type 0 where
   finish : Token → Lexemes
   fault : Place → Lexemes
 
--- what a front makes of the text behind it, which goes on by `more`
+-- what a front makes of the text after it, which goes on by `more`
 abbrev pub from_front : Front → ℕ → Place → (ℕ → Lexemes) → Lexemes
 from_front (Gap n) at p more = more n
 from_front (Lexeme kind n) at p more =

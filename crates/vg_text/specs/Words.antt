@@ -26,7 +26,7 @@ reading_of text = record { text = text; left = lex (end_place text) 0 0 first_pl
 abbrev pub spelled : List ℕ → Token → Spelled
 spelled text t = record { bytes = slice_range text t.start t.end; place = t.place; is_end = false }
 
--- the next word and what is left behind it; the end, which stays; or the place of a fault
+-- the next word and what is left after it; the end, which stays; or the place of a fault
 abbrev pub word_from : List ℕ → Lexemes → Result (Spelled × Reading) Place
 word_from text (token t rest) = Ok (spelled text t, record { text = text; left = rest })
 word_from text (finish t) =

@@ -11,7 +11,7 @@ take-front zero a b = (0, refl)
 take-front (suc n) [] b = (0, refl)
 take-front (suc n) (x ∷ a) b = let r = take-front n a b in (suc r.0, ap (λ (t : List ℕ). x ∷ t) r.1)
 
--- a front of a piece is a front of it and what is behind
+-- a front of a piece is a front of it and what is after
 pub front_first : (before now : Option (List ℕ)) (a b : List ℕ) → AppendsFront before a now → AppendsFront before (a ++ b) now
 front_first before now a b (n, e) = let m = take-front n a b in (m.0, e ∙ ap (λ (t : List ℕ). option_map (λ old. old ++ t) before) (sym m.1))
 

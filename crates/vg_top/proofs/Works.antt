@@ -68,7 +68,7 @@ counts_file files number Trap low high is = absurd is
 counts_file files number WriteFault low high is = absurd is
 counts_file files number (Differs t) low high is = absurd is
 
--- the file behind those that were read is refused
+-- the file after those that were read is refused
 pub stops_at : {S : Type 0} (g : shelf.Ghosts S) (asked : Asked) (n : ℕ) (number : FileNumber) (before middle now : S) (e : Ending)
     → number.0 ≡ n + 1 → n ≤ 9 → number.0 ≤ length (files_of asked) → HasRead g n before middle → ReadsFile g number middle now (Some e) → Works g (Some asked) before now (Some e)
 stops_at g asked n number before middle now e is few inside h r = record {
@@ -121,7 +121,7 @@ quiet_fault before now (Some WriteFault) quiet same = same
 quiet_fault before now (Some Memory) quiet same = same
 quiet_fault before now (Some (Differs t)) quiet same = same
 
--- behind so many files the work ends with no further read
+-- after so many files the work ends with no further read
 ends : {S : Type 0} (g : shelf.Ghosts S) (asked : Asked) (n : ℕ) (before now : S) (e : Option Ending)
     → HasRead g n before now → IsQuiet e → MayStop (Some asked) e → IsReadCount (length (files_of asked)) n e → Works g (Some asked) before now e
 ends g asked n before now e h quiet may count = record {
@@ -182,7 +182,7 @@ stops_program g asked number before now Trap low high reads h is = absurd is
 stops_program g asked number before now WriteFault low high reads h is = absurd is
 stops_program g asked number before now (Differs t) low high reads h is = absurd is
 
--- behind all files the bindings or the run end the work
+-- after all files the bindings or the run end the work
 stops_run : {S : Type 0} (g : shelf.Ghosts S) (asked : Asked) (before now : S) (e : Ending)
     → runs asked ≡ true → HasRead g (length (files_of asked)) before now → IsOfRun e → Works g (Some asked) before now (Some e)
 stops_run g asked before now Bindings may h is = ends g asked (length (files_of asked)) before now (Some Bindings) h tt may refl
@@ -198,7 +198,7 @@ stops_run g asked before now (TooLarge n) may h is = absurd is
 stops_run g asked before now WriteFault may h is = absurd is
 stops_run g asked before now (Differs t) may h is = absurd is
 
--- behind all files the comparison ends the work
+-- after all files the comparison ends the work
 stops_comparison : {S : Type 0} (g : shelf.Ghosts S) (asked : Asked) (before now : S) (e : Ending)
     → compares asked ≡ true → HasRead g (length (files_of asked)) before now → IsOfComparison e → Works g (Some asked) before now (Some e)
 stops_comparison g asked before now (Differs t) may h is = ends g asked (length (files_of asked)) before now (Some (Differs t)) h tt may refl

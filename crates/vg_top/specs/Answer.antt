@@ -71,8 +71,8 @@ pub record LoopedAnswer (s : LoopSource) (bytes : List ℕ) : Type 0 where
   pub text : bytes ≡ looped_text looped
   pub compiled : IsCompiledLoop s.entries s.choices.allowed s.loop s.choices.width s.choices.more looped
 
--- the lines on the chosen plan of the kernel, which the code emits for it: `Answer` tells that a
--- program costs what this plan does, not that it has these packs
+-- the lines on the plan that is chosen of the kernel. `Answer` speaks of a chosen plan too, and of
+-- those there is one: `OneChosenPlan` of vg_compile.
 abbrev pub Explanation : Source → List ℕ → Type 0
 Explanation s bytes =
     IsExplained s.entries s.choices.allowed s.kernel s.choices.width s.choices.more bytes

@@ -1,5 +1,5 @@
 -- What `check` answers, where it is known what the shelf holds: that the program means the kernel, the first
--- difference, or the first refusal. The files are judged one after the other, and the two are compared behind
+-- difference, or the first refusal. The files are judged one after the other, and the two are compared after
 -- them.
 use Rattle.std.specs.Prelude.{ℕ, List, Option, Some, None, Result, Ok, Err}
 use Rattle.vg_base.specs.Bind.{◌>>=◌}

@@ -57,7 +57,7 @@ instructions_refusal f = catalog.name_of_fault f ++ place_text (catalog.place_of
 abbrev pub kernel_refusal : KernelFault → List ℕ
 kernel_refusal f = kernel_names.name_of_fault f ++ place_text (kernel.place_of_fault f)
 
--- the refusal of a program: its name, behind 6 CostWrong both costs, and its place
+-- the refusal of a program: its name, after 6 CostWrong both costs, and its place
 abbrev pub program_refusal : ProgramFault → List ℕ
 program_refusal f = name_of_fault f ++ (costs_text f ++ place_text (place_of_fault f))
 
@@ -84,7 +84,7 @@ pub record Writes {W : Type 0} (g : sink.Ghosts W) (bytes : List ℕ) (before no
   pub fault : OnErr result (Rose (g.faults before) (g.faults now))
   pub faults_never_fall : g.faults before ≤ g.faults now
 
--- the line stands behind what was written; or a front of it does, and the count of faults rose
+-- the line stands after what was written; or a front of it does, and the count of faults rose
 abbrev pub Says : {W : Type 0} → sink.Ghosts W → List ℕ → W → W → Type 0
 Says g line before now =
     Appends (g.written before) line (g.written now)

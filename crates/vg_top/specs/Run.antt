@@ -1,5 +1,5 @@
 -- What `run` answers, where it is known what the shelf holds: the memory that the program leaves,
--- or the first refusal. The files are judged one after the other, and behind them the bindings.
+-- or the first refusal. The files are judged one after the other, and after them the bindings.
 use Rattle.std.specs.Prelude.{ℕ, List, Result}
 use Rattle.vg_base.specs.Bind.{◌>>=◌}
 use Rattle.vg_outside.specs.Shelf.{Held}

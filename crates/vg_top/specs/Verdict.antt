@@ -56,7 +56,7 @@ abbrev pub status_from : Option Ending → Status
 status_from None = status.Ok
 status_from (Some e) = status_of e
 
--- the line that tells of it, with the names of the files; none behind an answer
+-- the line that tells of it, with the names of the files; none after an answer
 abbrev pub line_from : List (List ℕ) → Option Ending → List ℕ
 line_from files None = []
 line_from files (Some e) = line_of files e

@@ -20,7 +20,7 @@ abbrev pub IsLastRead : ℕ → ℕ → FileNumber → Type 0
 IsLastRead files n number = (n ≡ number.0) × (1 ≤ n) × (n ≤ files)
 
 -- So many of the files were read where a run ends so: those up to and with the refused one, and all
--- where none was refused. Want of memory may come behind each of them.
+-- where none was refused. Want of memory may come after each of them.
 abbrev pub IsReadCount : ℕ → ℕ → Option Ending → Type 0
 IsReadCount files n None = n ≡ files
 IsReadCount files n (Some Usage) = n ≡ 0

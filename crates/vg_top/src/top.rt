@@ -97,13 +97,15 @@ fn answer<S: Shelf>(
 ///
 /// `compile INSTRUCTIONS KERNEL` reads the two files from `shelf` and writes the text of a program
 /// to `out`: a program that means the kernel and costs no more than it. With `--with EXTENSION`,
-/// once or more, it calls entries of those extensions alone; `--width N` is the width of the search;
-/// with `--guard` the program has two sides and checks that choose between them, so that pointers
-/// need not be declared noalias.
-/// The kernel may be a counted loop, whose text is that of a program for a block of turns and of one for
-/// the turns left over; guards are for kernels alone.
-/// `explain INSTRUCTIONS KERNEL`, with the same options, writes the lines on the packs of the chosen plan
-/// and on what it, the plain plan and the kernel cost.
+/// once or more, it calls entries of those extensions alone; `--width N` is the width of the
+/// search; with `--more` the program is that of the cheaper of two plans, the chosen plan and the
+/// chosen wide plan; with `--guard` the program has two sides and checks that choose between them,
+/// so that pointers need not be declared noalias.
+/// The kernel may be a counted loop, whose text is that of a program for a block of turns and of
+/// one for the turns left over; guards are for kernels alone.
+/// `explain INSTRUCTIONS KERNEL`, with the same options but `--guard`, writes the lines on the
+/// packs of the plan whose program `compile` writes, and on what it, the plain plan and the kernel
+/// cost; of a loop on the plan of its block.
 /// `run INSTRUCTIONS PROGRAM MEMORY name=number ..` writes the memory that the program leaves of the
 /// one in the file, with its parameters bound by the words, and `eval KERNEL MEMORY name=number ..`
 /// the memory that the kernel leaves; programs may be guarded or looped ones, kernels may be loops.
@@ -111,15 +113,18 @@ fn answer<S: Shelf>(
 /// each lane, and why packs cannot call it.
 /// `trial INSTRUCTIONS N` writes a line on the trial of N, a number below 2^32: how many statements
 /// its kernel has, what the kernel costs and what the program costs that is compiled for it with all
-/// entries in the file, and the sum of the bytes that both leave of its memory.
-/// `check INSTRUCTIONS KERNEL PROGRAM` writes `same` where the program, from anywhere, has no difference to the
-/// kernel: then it means the kernel. Else its status is `Differs`, and the line tells the first difference.
+/// entries in the file, the width 32 and without `--more`, and the sum of the bytes that both leave
+/// of its memory, modulo 2^32.
+/// `check INSTRUCTIONS KERNEL PROGRAM` writes `same` where the program, from anywhere, has no
+/// difference to the kernel: then it means the kernel. Else its status is `Differs`, and the line
+/// tells the first difference; the program may mean the kernel all the same.
 ///
 /// The words are read with `clap`, which takes memory; words that it is not given are refused
 /// without. All files are read before the one write. What goes wrong is told by the status and by one
-/// line on `err`; a fault of `err` changes no status. Where `shelf` tells what it holds, the status is a
-/// function of the words and the files, but for faults of the outside, which counts show, and want
-/// of memory, which is answered also at the bounds of the code (docs/limits.md).
+/// line on `err`. Where `shelf` tells what it holds, the status is a function of the words and the
+/// files, but for faults of reading and of writing to `out`, which counts show, and want of memory,
+/// which is answered also at the bounds of the code (docs/limits.md). A fault of `err` is none of
+/// these.
 pub fn vegen<S: Shelf, O: Sink, E: Sink>(
     alloc: Global,
     words: &Words,
@@ -131,7 +136,7 @@ pub fn vegen<S: Shelf, O: Sink, E: Sink>(
     ensures answered { result ≡ Status.Ok → (bytes : List ℕ)
         × Appends (O.written out.old) bytes (O.written out.new)
         × IfSome (S.holds shelf.old) (λ held. IsAnswered (verdict held words.now) bytes) }
-    // A write that fails leaves a front of the answer.
+    // A write that fails leaves a prefix of the answer.
     ensures cut_off { result ≡ Status.WriteFault → (bytes : List ℕ)
         × AppendsFront (O.written out.old) bytes (O.written out.new)
         × IfSome (S.holds shelf.old) (λ held. IsAnswered (verdict held words.now) bytes) }
@@ -161,7 +166,9 @@ pub fn vegen<S: Shelf, O: Sink, E: Sink>(
         → IfSome (S.holds shelf.old) (λ held. result ≡ status_told (verdict held words.now)) }
 
     // The line tells of the ending, which is the verdict's but for faults of the outside and want
-    // of memory. It names the file that was refused, and this was the last one that was read.
+    // of memory, or a prefix of the line stands there and the faults of `err` rose. Where the shelf
+    // tells how often it was read, below 2^63, the files up to and with the one that was refused
+    // were read, and all where none was; want of memory may come after each.
     ensures said { (ending : Option Ending) × (status_from ending ≡ result)
         × Says E.Sink (line_from (files_in (request_of words.now)) ending) err.old err.new
         × IfSome (S.holds shelf.old) (λ held. EndedBy ending (verdict held words.now))

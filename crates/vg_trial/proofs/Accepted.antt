@@ -39,7 +39,7 @@ AreStores : Words → List Statement → Type 0
 AreStores words [] = words ≡ []
 AreStores words (s ∷ ss) = (front rest : Words) × IsStatement names front s names × AreStores rest ss × (words ≡ front ++ rest)
 
--- statements behind statements
+-- statements after statements
 stores-append : (ws vs : Words) (ss rs : List Statement) → AreStores ws ss → AreStores vs rs → AreStores (ws ++ vs) (ss ++ rs)
 unfolding AreStores
 stores-append ws vs [] rs none more = rw none more
@@ -57,7 +57,7 @@ record AreLines (text : List ℕ) (ss : List Statement) : Type 0 where
   size : length text ≤ 240 * length ss
   spells : (p : Place) (rest : List ℕ) → (ws : Words) × (q : Place) × (words_in 0 p (text ++ rest) ≡ before ws (words_in 0 q rest)) × AreStores ws ss
 
--- no line, one line, and lines behind lines
+-- no line, one line, and lines after lines
 no_lines : AreLines [] []
 unfolding AreStores
 no_lines = record { size = omega arith; spells = λ p rest. ([], p, before-none (words_in 0 p rest), refl) }

@@ -27,7 +27,7 @@ parted : {X : Type 0} (P : X → Type 0) (xs ys : List X) → AllByRecursion P (
 parted P [] ys h = (tt, h)
 parted P (x ∷ xs) ys h = let rest = parted P xs ys h.1 in ((h.0, rest.0), rest.1)
 
--- ---- one step behind another
+-- ---- one step after another
 
 keeps_then : {A B : Type 0} (P : A → Type 0) (Q : B → Type 0) (o : Option A) (f : A → Option B) → IsSomeAnd o P → ((x : A) → P x → IsSomeAnd (f x) Q) → IsSomeAnd (o >>= f) Q
 keeps_then P Q None f h next = absurd h

@@ -71,7 +71,7 @@ store_items w to xs =
     plain [] (sized (codes "store") w) ∷ plain [] (codes "(")
     ∷ (address_items (codes "d") to ++ plain [] (codes ",") ∷ (xs ++ plain [] (codes ")") ∷ plain [] (codes ";") ∷ []))
 
--- the words of items and of those behind them
+-- the words of items and of those after them
 words_of-append : (p : Place) (xs ys : List Item) → words_of p (xs ++ ys) ≡ words_of p xs ++ words_of (past_all p xs) ys
 words_of-append p [] ys = refl
 words_of-append p (x ∷ xs) ys = ap (λ (ws : Words). word (bytes_of x) (place_after p (gap_of x)) ∷ ws) (words_of-append (past p x) xs ys)
@@ -150,7 +150,7 @@ spell_shift gap name amount op w d k xs x named value few width inside p =
     rw (words_of-append first xs (plain [] (codes ",") ∷ plain (codes " ") amount ∷ plain [] (codes ")") ∷ []))
     (moved op _ _ _ _ _ d k (words_of first xs) x w named refl (inside first) refl value few refl width)
 
--- the place behind digits is in their line
+-- the place after digits is in their line
 one_line : (p : Place) (ds : List ℕ) → list_all is_digit ds ≡ true → ((place_after p ds).line ≡ p.line) × ((place_after p ds).column ≡ p.column + length ds)
 unfolding place_after
 one_line p [] all = (refl, omega arith)
@@ -172,7 +172,7 @@ spell_literal : (gap bytes : List ℕ) (w : Width) (m n : ℕ) → list_all is_d
 spell_literal gap bytes w m n all value fits p =
     number _ _ w n (m, value, adjoined (place_after p gap) bytes (sized (codes "i") w) all, refl, fits)
 
--- a literal behind `-`
+-- a literal after `-`
 spell_negative : (gap bytes : List ℕ) (w : Width) (m n : ℕ) → list_all is_digit bytes ≡ true → decimal_value bytes ≡ Some m → literal_of true w m ≡ Some n
     → Spell (plain gap (codes "-") ∷ literal_items [] bytes (sized (codes "i") w)) 0 1 (literal w n)
 spell_negative gap bytes w m n all value fits p =

@@ -62,7 +62,7 @@ tokens-words text z zero at p (b ∷ bs) e =
 pub script_of-words : (text : List ℕ) → script_of text ≡ words_in 0 first_place text
 script_of-words text = tokens-words text (end_place text) 0 0 first_place text refl
 
--- An item of a text: white space, and behind it the bytes of a word, or a number in decimal digits.
+-- An item of a text: white space, and after it the bytes of a word, or a number in decimal digits.
 pub data Item : Type 0 where
   plain : List ℕ → List ℕ → Item
   number : List ℕ → ℕ → Item
@@ -80,11 +80,11 @@ abbrev pub written : List Item → List ℕ → List ℕ
 written [] text = text
 written (i ∷ is) text = gap_of i ++ (bytes_of i ++ written is text)
 
--- the place behind an item
+-- the place after an item
 abbrev pub past : Place → Item → Place
 past p i = place_after (place_after p (gap_of i)) (bytes_of i)
 
--- the place behind items
+-- the place after items
 abbrev pub past_all : Place → List Item → Place
 past_all p [] = p
 past_all p (i ∷ is) = past_all (past p i) is
@@ -251,7 +251,7 @@ pub before-append : (ws vs : Words) (more : Option Words) → before ws (before 
 before-append ws vs None = refl
 before-append ws vs (Some more) = ap Some (sym (append_assoc ws vs more))
 
--- the words of items, before those of the text behind them
+-- the words of items, before those of the text after them
 pub items-words : (p : Place) (is : List Item) (text : List ℕ) → end_all is text ≡ true → AreSmall is → words_in 0 p (written is text) ≡ before (words_of p is) (words_in 0 (past_all p is) text)
 unfolding end_all
 items-words p [] text h small = before-none (words_in 0 p text)

@@ -71,7 +71,7 @@ average_line to from =
     ∷ number from ∷ words (codes ")) + zext16(load8(q + ") ∷ number from
     ∷ words (codes ")) + 1i16, 1)));\n") ∷ []
 
--- the sum of two dwords that stand beside each other, at p or at q
+-- the sum of two consecutive dwords, at p or at q
 abbrev pub pair_line : ℕ → List ℕ → ℕ → List Piece
 pair_line to pointer from =
     words (codes "store32(d + ") ∷ number to ∷ words (codes ", load32(") ∷ words pointer

@@ -56,7 +56,7 @@ average_stored to from =
     (two Add W16 (resize Zext W16 W8 (load W8 (p_at from))) (resize Zext W16 W8 (load W8 (q_at from))))
     (literal W16 1))))
 
--- the sum of two dwords that stand beside each other
+-- the sum of two consecutive dwords
 abbrev pub pair_stored : ℕ → Address → Address → Statement
 pair_stored to low high = store W32 (d_at to) (two Add W32 (load W32 low) (load W32 high))
 

@@ -40,7 +40,7 @@ pairs_found (p ∷ ps) e = elim (cases_Bool (nat_eq e p.0)) [
 pub same_bits : (table : List (ℕ × List Run)) (pairs : List (ℕ × List Bit)) → HasFirst table pairs → (e : ℕ) → bits_at (pairs_in table) e ≡ bits_at pairs e
 same_bits table pairs h e = sym (bits_found table e) ∙ ap (λ o. unwrap_or o []) (h e) ∙ pairs_found pairs e
 
--- an event behind the others
+-- an event after the others
 found_last : {V : Type 0} (ps : List (ℕ × V)) (x : ℕ) (v : V) (e : ℕ) → found (ps ++ (x, v) ∷ []) e ≡ option_or (found ps e) (if nat_eq e x then Some v else None)
 found_last [] x v e = elim (cases_Bool (nat_eq e x)) [
   | inl t ↦ rw t refl

@@ -34,7 +34,7 @@ pub first_none : (o rest found : Option known.Difference) → None ≡ o → fou
 first_none (Some x) rest found e f = absurd (cc)
 first_none None rest found e f = f
 
--- behind calls all of which are told by lanes with terms, events and values make the first difference
+-- after calls all of which are told by lanes with terms, events and values make the first difference
 pub inner_events : (calls entries : List Entry) (ssa : Ssa) (p : Program) (line : Option ℕ) (found : Option known.Difference)
     → calls ≡ entries → option_map known.opaque line ≡ opaque_line calls p → line ≡ None → found ≡ event_difference calls ssa p
     → found ≡ inner_difference entries ssa p

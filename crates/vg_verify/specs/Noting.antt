@@ -28,6 +28,6 @@ pub record Pieced (bytes : List ℕ) (runs : List Run) (q : ℕ) : Type 0 where
 pub record Walked (g : Given) (lines : List Line) (events : List (List ℕ)) (place : ℕ) (k all : Known) : Type 0 where
   pub is : know_all g (drop place lines) (drop place events) k ≡ all
 
--- these are the reads of the units before a place, and the first event behind them has this number
+-- these are the reads of the units before a place, and the first event after them has this number
 pub record ReadSoFar (units : List Work) (terms : List Tree) (place first : ℕ) (reads : List (ℕ × List Run)) : Type 0 where
   pub is : pairs_in reads ++ reads_from first (drop place units) (drop place terms) ≡ reads_from 0 units terms

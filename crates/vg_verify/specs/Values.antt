@@ -48,7 +48,7 @@ values_from s v f (u ∷ us) = option_or (value_by s v f u) (values_from s (v + 
 abbrev pub first_value : Sides → Ssa → Option Difference
 first_value s ssa = first_of (map (value_at s ssa) (unit_numbers ssa))
 
--- The units before a place have no difference: what is found behind them is what is found of all. The
+-- The units before a place have no difference: what is found after them is what is found of all. The
 -- unit there has this number, its first event that one, and no more terms were met.
 pub record Compared (terms met : List Tree) (puts : List (ℕ × List Bit)) (units : List Work) (place v f : ℕ) (now : List Tree) (all : Option Difference) : Type 0 where
   pub kept : now ≡ met

@@ -50,7 +50,7 @@ abbrev pub with_lanes : Known → ℕ → List Tree → Known
 with_lanes k w terms =
     with_vector (with_met k (met_with_all k.met terms)) (bits_of_terms w terms)
 
--- what is known behind a call
+-- what is known after a call
 abbrev pub with_call : Given → Known → List ℕ → Option ℕ → List ℕ → Known
 with_call g k name imm vs =
     with_lanes k (lane_bits g.entries name)

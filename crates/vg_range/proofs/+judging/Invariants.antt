@@ -1,5 +1,5 @@
 -- What is looked at first is smaller than what it stands in, and so are the DEFINEs that a call may
--- reach; what is left in a loop, behind what is found, gives what all of it gives.
+-- reach; what is left in a loop, after what is found, gives what all of it gives.
 use Rattle.std.proofs.Common.{◌≡◌, map, ◌+◌, ◌*◌, ◌≤◌}
 use Rattle.std.specs.Option.{option_map}
 use Rattle.vg_interval.specs.Judge.{judge_all}

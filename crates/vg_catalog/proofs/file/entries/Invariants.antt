@@ -1,4 +1,4 @@
--- what is left, read behind the entries that are done, is what the whole was
+-- what is left, read after the entries that are done, is what the whole was
 use Rattle.std.proofs.Common.{◌≡◌, []}
 use Rattle.vg_text.specs.Words.{reading_of}
 use Rattle.vg_catalog.specs.Catalogs.{entries_in}

@@ -5,7 +5,7 @@ use Rattle.vg_guard.specs.declared.span.Span.{Span}
 use Rattle.vg_guard.specs.Guarded.{first_span, span_text}
 use Rattle.vg_guard.proofs.printing.put_check.Goals as goal
 
--- five pieces, one behind the other
+-- five pieces, one after the other
 appended : (old a b first one gap two end : List ℕ) → first ≡ old ++ codes "check disjoint " → one ≡ first ++ a → gap ≡ one ++ codes " " → two ≡ gap ++ b → end ≡ two ++ line_end
     → end ≡ old ++ (codes "check disjoint " ++ a ++ codes " " ++ b ++ line_end)
 appended old a b first one gap two end p q r s t =

@@ -1,4 +1,4 @@
--- what is reached with the statements that are left, behind what is reached so far, is what all reach
+-- what is reached with the statements that are left, after what is reached so far, is what all reach
 use Rattle.std.proofs.Common.{◌≡◌, length, map}
 use Rattle.vg_kernel.specs.Tree.{statement_of, tree_of}
 use Rattle.vg_guard.specs.Reaching.{reach_with_all, reach_of}

@@ -1,4 +1,4 @@
--- the checks so far, and what is read behind them, are what is read of the text
+-- the checks so far, and what is read after them, are what is read of the text
 use Rattle.std.proofs.Common.{◌≡◌, ◌≤◌, ◌-◌, [], vec_len}
 use Rattle.vg_guard.specs.Grammar.{checks_at}
 use Rattle.vg_guard.proofs.reading.checks_at.Given as goal

@@ -1,4 +1,4 @@
--- the parameters that are left, behind so many pointers and integers, stand for what all did
+-- the parameters that are left, after so many pointers and integers, stand for what all did
 use Rattle.std.proofs.Common.{◌≡◌, ◌+◌, length}
 use Rattle.vg_kernel.specs.Names.{parameter_named}
 use Rattle.vg_kernel.proofs.names.parameter_named.Given as goal

@@ -1,4 +1,4 @@
--- what is left, read behind those that are done, is what the whole was
+-- what is left, read after those that are done, is what the whole was
 use Rattle.std.proofs.Common.{◌≡◌, ◌≤◌, ◌-◌, vec_len}
 use Rattle.vg_text.specs.Lexing.{reading}
 use Rattle.vg_kernel.specs.Statements.{parameters_behind}

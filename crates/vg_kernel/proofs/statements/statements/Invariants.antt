@@ -1,4 +1,4 @@
--- what is left, read behind those that are done, is what the whole was
+-- what is left, read after those that are done, is what the whole was
 use Rattle.std.proofs.Common.{◌≡◌, ◌≤◌, ◌-◌, [], length, map, vec_len}
 use Rattle.vg_kernel.specs.Names.{names_of}
 use Rattle.vg_kernel.specs.Scanning.{scan_of}

@@ -1,4 +1,4 @@
--- the pairs so far, and what is read behind them, are what is read of the text
+-- the pairs so far, and what is read after them, are what is read of the text
 use Rattle.std.proofs.Common.{◌≡◌, ◌≤◌, ◌-◌, [], vec_len}
 use Rattle.vg_looped.specs.Grammar.{pairs_at}
 use Rattle.vg_looped.proofs.reading.pairs_at.Given as goal

@@ -1,4 +1,4 @@
--- the assignments of what is left, behind those that are found, are those of all
+-- the assignments of what is left, after those that are found, are those of all
 use Rattle.std.proofs.Common.{◌≡◌, ◌≤◌, ◌++◌, map, filter}
 use Rattle.vg_pseudo.specs.Names.{assignments}
 use Rattle.vg_pseudo.specs.Tree.{statements_of}

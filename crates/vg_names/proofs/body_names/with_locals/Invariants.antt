@@ -1,4 +1,4 @@
--- the locals that are left, behind those that are sorted, give what all do
+-- the locals that are left, after those that are sorted, give what all do
 use Rattle.std.proofs.Common.{◌≡◌, ◌++◌, [], drop}
 use Rattle.vg_names.specs.Bodies.{registers_from, variables_behind}
 use Rattle.vg_names.proofs.body_names.with_locals.Given as goal

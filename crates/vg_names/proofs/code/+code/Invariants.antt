@@ -1,4 +1,4 @@
--- what is resolved from here on, behind the statements that are done, is what all statements are
+-- what is resolved from here on, after the statements that are done, is what all statements are
 use Rattle.std.proofs.Common.{◌≡◌, ◌≤◌, map}
 use Rattle.vg_pseudo.specs.Resolve.{code_of}
 use Rattle.vg_pseudo.specs.Tree.{statements_of}

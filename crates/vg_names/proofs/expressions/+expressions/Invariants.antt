@@ -1,4 +1,4 @@
--- what is resolved from here on, behind the arguments that are done, is what all arguments are
+-- what is resolved from here on, after the arguments that are done, is what all arguments are
 use Rattle.std.proofs.Common.{◌≡◌, ◌≤◌, map}
 use Rattle.vg_pseudo.specs.Resolve.{all_resolved}
 use Rattle.vg_pseudo.specs.Tree.{arguments_of}

@@ -1,4 +1,4 @@
--- those that are done, and what those that are left give behind them, are what all give
+-- those that are done, and what those that are left give after them, are what all give
 use Rattle.std.proofs.Common.{◌≡◌, [], map, take, drop}
 use Rattle.vg_pseudo.specs.Tree.{define_of}
 use Rattle.vg_pseudo.specs.Resolve.{functions_of}

@@ -1,4 +1,4 @@
--- what is left behind what is there is what all lanes bind
+-- what is left after what is there is what all lanes bind
 use Rattle.std.proofs.Common.{◌≡◌, ◌++◌, drop}
 use Rattle.vg_shapes.specs.Pack.{bounds_from}
 use Rattle.vg_packing.proofs.taken.bounds_of.Given as goal

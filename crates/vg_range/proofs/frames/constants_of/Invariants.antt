@@ -1,4 +1,4 @@
--- what is found, and what is left behind it
+-- what is found, and what is left after it
 use Rattle.std.proofs.Common.{◌≡◌, ◌++◌, map, length}
 use Rattle.vg_interval.specs.Views.{passed_view}
 use Rattle.vg_range.specs.Walk.{constants_of}

@@ -1,4 +1,4 @@
--- what is found, and what is left behind it
+-- what is found, and what is left after it
 use Rattle.std.proofs.Common.{◌≡◌, ◌++◌, length}
 use Rattle.vg_range.specs.Walk.{imm_constant}
 use Rattle.vg_range.proofs.instance_walk.imm_constant.Given as goal

@@ -1,4 +1,4 @@
--- what is joined, and what is left to join behind it
+-- what is joined, and what is left to join after it
 use Rattle.std.proofs.Common.{◌≡◌, ◌++◌, map, length}
 use Rattle.vg_interval.specs.Views.{kept_view}
 use Rattle.vg_range.specs.Walk.{join}

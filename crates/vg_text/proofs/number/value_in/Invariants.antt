@@ -1,4 +1,4 @@
--- the digits that are left make the whole number behind those before
+-- the digits that are left make the whole number after those before
 use Rattle.std.proofs.Common.{◌≡◌, ◌<◌, ◌^◌, drop}
 use Rattle.vg_text.specs.Number.{value_from}
 use Rattle.vg_text.proofs.number.value_in.Given as goal

@@ -1,4 +1,4 @@
--- the bytes that are left lead from here to the place behind all of them
+-- the bytes that are left lead from here to the place after all of them
 use Rattle.std.proofs.Common.{◌≡◌, ◌≤◌, ◌+◌, drop, max}
 use Rattle.vg_text.specs.Place.{place_after}
 use Rattle.vg_text.proofs.place.place_after.Given as goal
