@@ -3,3 +3,4 @@ pub mod Bits
 pub mod Gives
 pub mod LowBits
 pub mod Signed
+pub mod SameWidth

@@ -1,12 +1,10 @@
 -- A program with the head of a kernel has its name and its parameters.
 use Rattle.std.proofs.Common.{◌≡◌, true, List, [], ◌∷◌, map, refl, sym}
-use Rattle.std.specs.Prelude.{◌&&◌, nat_eq}
+use Rattle.std.specs.Prelude.{◌&&◌}
 use Rattle.std.specs.Str.{bytes_eq}
 use Rattle.std.proofs.lemmas.Bool.{and_parts}
 use Rattle.std.proofs.lemmas.Slice.Eq.{bytes_eq-Decides}
-use Rattle.vg_base.specs.declared.width.Width.{Width}
-use Rattle.vg_base.specs.declared.width.Width.TheVariants.{W8, W16, W32, W64}
-use Rattle.vg_base.specs.Width.{bits_of}
+use Rattle.vg_base.proofs.SameWidth.{width-tested}
 use Rattle.vg_program.specs.declared.param.Param.{Param}
 use Rattle.vg_program.specs.declared.param_kind.ParamKind.{ParamKind}
 use Rattle.vg_program.specs.declared.param_kind.ParamKind.TheVariants as kind
@@ -18,29 +16,11 @@ use Rattle.vg_shapes.specs.declared.ssa.SsaParamKind.TheVariants.{Pointer, Integ
 use Rattle.vg_emission.specs.Program.{kind_of, param_of}
 use Rattle.vg_known.specs.Params.{same_head, same_kind, same_params}
 
-width-is : (v w : Width) → nat_eq (bits_of v) (bits_of w) ≡ true → w ≡ v
-width-is W8 W8 e = refl
-width-is W8 W16 e = absurd (cc)
-width-is W8 W32 e = absurd (cc)
-width-is W8 W64 e = absurd (cc)
-width-is W16 W8 e = absurd (cc)
-width-is W16 W16 e = refl
-width-is W16 W32 e = absurd (cc)
-width-is W16 W64 e = absurd (cc)
-width-is W32 W8 e = absurd (cc)
-width-is W32 W16 e = absurd (cc)
-width-is W32 W32 e = refl
-width-is W32 W64 e = absurd (cc)
-width-is W64 W8 e = absurd (cc)
-width-is W64 W16 e = absurd (cc)
-width-is W64 W32 e = absurd (cc)
-width-is W64 W64 e = refl
-
 kind-is : (k : SsaParamKind) (l : ParamKind) → same_kind k l ≡ true → l ≡ kind_of k
 kind-is (Pointer noalias) kind.Pointer e = refl
 kind-is (Pointer noalias) (kind.Integer w) e = absurd (cc)
 kind-is (Integer v) kind.Pointer e = absurd (cc)
-kind-is (Integer v) (kind.Integer w) e = λ i. kind.Integer (width-is v w e i)
+kind-is (Integer v) (kind.Integer w) e = λ i. kind.Integer (sym (width-tested v w e) i)
 
 params-are : (ps : List SsaParam) (qs : List Param) → same_params ps qs ≡ true → qs ≡ map param_of ps
 params-are [] [] e = refl

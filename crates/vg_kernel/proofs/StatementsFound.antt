@@ -9,8 +9,8 @@ use Rattle.vg_base.specs.Bind.{◌>>=◌, or_fault}
 use Rattle.vg_base.proofs.Bind.{bind_ok, tested_ok, refused_ok, either_way}
 use Rattle.vg_base.specs.declared.address.Address.{Address}
 use Rattle.vg_base.specs.declared.width.Width.{Width}
-use Rattle.vg_base.specs.declared.width.Width.TheVariants.{W8, W16, W32, W64}
 use Rattle.vg_base.specs.Width.{bits_of}
+use Rattle.vg_base.proofs.SameWidth.{width-same}
 use Rattle.vg_text.specs.declared.place.Place.{Place}
 use Rattle.vg_text.specs.Words.{Reading, Spelled}
 use Rattle.vg_kernel.specs.declared.fault.KernelFault.{KernelFault}
@@ -31,25 +31,6 @@ use Rattle.vg_kernel.proofs.OperandsFound.{Found, at}
 use Rattle.vg_kernel.proofs.PlacesFound.{address-found}
 use Rattle.vg_kernel.proofs.Scripts.{Spells, Spells-append, same_text, ok_once, fault-some, next-found, tested-found, expect-found, true_fact}
 use Rattle.vg_kernel.proofs.Sizes.{width_behind-found}
-
--- widths of as many bits are the same
-pub width-same : (w v : Width) → bits_of w ≡ bits_of v → w ≡ v
-width-same W8 W8 e = refl
-width-same W8 W16 e = absurd (omega arith)
-width-same W8 W32 e = absurd (omega arith)
-width-same W8 W64 e = absurd (omega arith)
-width-same W16 W8 e = absurd (omega arith)
-width-same W16 W16 e = refl
-width-same W16 W32 e = absurd (omega arith)
-width-same W16 W64 e = absurd (omega arith)
-width-same W32 W8 e = absurd (omega arith)
-width-same W32 W16 e = absurd (omega arith)
-width-same W32 W32 e = refl
-width-same W32 W64 e = absurd (omega arith)
-width-same W64 W8 e = absurd (omega arith)
-width-same W64 W16 e = absurd (omega arith)
-width-same W64 W32 e = absurd (omega arith)
-width-same W64 W64 e = refl
 
 -- an expression with the width of the store
 has_width-found : (w : Width) (e : Expression) → has_width w e ≡ true → width_in e ≡ Some w

@@ -31,7 +31,7 @@ use Rattle.vg_kernel.specs.Script.{Words}
 use Rattle.vg_kernel.specs.Tree.{Expression, argument, assigned, two, resize, compare, select, Statement, assign, store, Tree, type_of, gives}
 use Rattle.vg_kernel.specs.WellFormed.{pointers, integer_widths, IsExpression, depth, IsStatement, AreStatements, IsWellFormed}
 use Rattle.vg_kernel.specs.Words.{is_free, first_of, offset_of, literal_of}
-use Rattle.vg_kernel.proofs.StatementsFound.{width-same}
+use Rattle.vg_base.proofs.SameWidth.{width-same}
 
 some_once : {A : Type 0} (x y : A) → Some x ≡ Some y → x ≡ y
 some_once x y e = cc

@@ -9,12 +9,12 @@ use Rattle.std.proofs.lemmas.Bool.Decides.{Decides-int_eq}
 use Rattle.std.proofs.lemmas.List.{get_or_append_left, get_or_push, length_push}
 use Rattle.vg_base.specs.declared.address.Address.{Address}
 use Rattle.vg_base.specs.declared.width.Width.{Width}
-use Rattle.vg_base.specs.declared.width.Width.TheVariants.{W8, W16, W32, W64}
 use Rattle.vg_base.specs.Address.{place_of}
 use Rattle.vg_base.specs.Bits.{bytes, number}
 use Rattle.vg_base.specs.Memory.{loaded, stored}
 use Rattle.vg_base.specs.Trap.{◌>>=◌}
 use Rattle.vg_base.specs.Width.{bits_of, size_of}
+use Rattle.vg_base.proofs.SameWidth.{width-tested}
 use Rattle.vg_bits.specs.Range.{replaced}
 use Rattle.vg_bits.proofs.ByteLists.{length-bytes}
 use Rattle.vg_bits.proofs.Ranges.{length-replaced, range-replaced_beside}
@@ -123,29 +123,11 @@ pub record IsBehind (flags : List Bool) (first m : ℕ) (done : List Work) (a : 
   pub at : m ≡ first + length before
   pub quiet : are_quiet flags (read_of a w) between ≡ true
 
-same-width : (w v : Width) → nat_eq (bits_of w) (bits_of v) ≡ true → w ≡ v
-same-width W8 W8 h = refl
-same-width W16 W16 h = refl
-same-width W32 W32 h = refl
-same-width W64 W64 h = refl
-same-width W8 W16 h = absurd (cc)
-same-width W8 W32 h = absurd (cc)
-same-width W8 W64 h = absurd (cc)
-same-width W16 W8 h = absurd (cc)
-same-width W16 W32 h = absurd (cc)
-same-width W16 W64 h = absurd (cc)
-same-width W32 W8 h = absurd (cc)
-same-width W32 W16 h = absurd (cc)
-same-width W32 W64 h = absurd (cc)
-same-width W64 W8 h = absurd (cc)
-same-width W64 W16 h = absurd (cc)
-same-width W64 W32 h = absurd (cc)
-
 that-load : (a : Address) (w : Width) (u : Work) → is_load a w u ≡ true → u ≡ Load a w
 that-load a w (Load b v) h =
     let one = and-parts (nat_eq (bits_of w) (bits_of v)) (nat_eq a.pointer b.pointer && int_eq a.offset b.offset) h in
     let two = and-parts (nat_eq a.pointer b.pointer) (int_eq a.offset b.offset) one.1 in
-    let width = same-width w v one.0 in
+    let width = width-tested w v one.0 in
     let pointer = eqb-true a.pointer b.pointer two.0 in
     let offset = (Decides-int_eq a.offset b.offset).0 two.1 in
     (λ i. Load (record { pointer = sym pointer i; offset = sym offset i }) (sym width i))

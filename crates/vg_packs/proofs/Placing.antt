@@ -9,8 +9,8 @@ use Rattle.std.proofs.lemmas.Grind.{flat_map-append}
 use Rattle.std.proofs.lemmas.Iterator.Adapters.{position_from-zero}
 use Rattle.vg_base.specs.declared.address.Address.{Address}
 use Rattle.vg_base.specs.declared.width.Width.{Width}
-use Rattle.vg_base.specs.declared.width.Width.TheVariants.{W8, W16, W32, W64}
 use Rattle.vg_base.specs.Width.{bits_of}
+use Rattle.vg_base.proofs.SameWidth.{width-tested}
 use Rattle.vg_shapes.specs.declared.ssa.Ssa.{Ssa}
 use Rattle.vg_shapes.specs.declared.unit.Unit.{Unit as Work}
 use Rattle.vg_shapes.specs.declared.unit.Unit.TheVariants.{Load, Store, Operation}
@@ -22,24 +22,6 @@ use Rattle.vg_packs.specs.declared.placed.Link.{Link}
 use Rattle.vg_packs.specs.declared.placed.PlacedStore.{PlacedStore}
 use Rattle.vg_packs.specs.Placed.{is_ranked, link_behind, placed_as, placed_from, placed_here, stands_at}
 use Rattle.vg_packs.proofs.Counts.{count-taken, numbers-more}
-
-width-same : (w v : Width) → bits_of w ≡ bits_of v → w ≡ v
-width-same W8 W8 e = refl
-width-same W8 W16 e = absurd (omega arith)
-width-same W8 W32 e = absurd (omega arith)
-width-same W8 W64 e = absurd (omega arith)
-width-same W16 W8 e = absurd (omega arith)
-width-same W16 W16 e = refl
-width-same W16 W32 e = absurd (omega arith)
-width-same W16 W64 e = absurd (omega arith)
-width-same W32 W8 e = absurd (omega arith)
-width-same W32 W16 e = absurd (omega arith)
-width-same W32 W32 e = refl
-width-same W32 W64 e = absurd (omega arith)
-width-same W64 W8 e = absurd (omega arith)
-width-same W64 W16 e = absurd (omega arith)
-width-same W64 W32 e = absurd (omega arith)
-width-same W64 W64 e = refl
 
 address-same : (a b : Address) → nat_eq a.pointer b.pointer ≡ true → int_eq a.offset b.offset ≡ true → a ≡ b
 address-same a b p o =
@@ -55,7 +37,7 @@ pub place-is : (a b : Address) (w x : Width)
 place-is a b w x t =
     let k = both-true (nat_eq b.pointer a.pointer) (int_eq b.offset a.offset && nat_eq (bits_of x) (bits_of w)) t in
     let m = both-true (int_eq b.offset a.offset) (nat_eq (bits_of x) (bits_of w)) k.1 in
-    (address-same b a k.0 m.0, width-same x w (grind (arith, nat_tests, m.1)))
+    (address-same b a k.0 m.0, width-tested x w m.1)
 
 pub ranked-is : (a : Address) (w : Width) (r : ℕ) (s : PlacedStore) → is_ranked a w r s ≡ true
     → (s.rank ≡ r) × (s.address ≡ a) × (s.width ≡ w)
