@@ -29,7 +29,8 @@ use Rattle.vg_kernel.specs.Names.{Names, given_as}
 use Rattle.vg_kernel.specs.Nodes.{width_in, pair_node, resize_node, select_node}
 use Rattle.vg_kernel.specs.Script.{Words, script_from, script_left}
 use Rattle.vg_kernel.specs.Tree.{Expression, argument, assigned, literal, load, shift}
-use Rattle.vg_kernel.specs.Words.{sized, level_of, operator_named, plain_named, function_named, is_reserved, is_free, width_behind}
+use Rattle.vg_text.specs.Sized.{width_behind}
+use Rattle.vg_kernel.specs.Words.{sized, level_of, operator_named, plain_named, function_named, is_reserved, is_free}
 use Rattle.vg_kernel.proofs.Joins.{joined-none, joined-step}
 use Rattle.vg_kernel.proofs.OperandsFound.{at, pair-cost, resize-cost, select-cost}
 use Rattle.vg_kernel.proofs.OperandsAgain.{Gets, counted-again, judged-again, closed-again, free-no_digit, decimal-digit, load-named, value-again, literal-again, pair-arguments, named-again, call-again}

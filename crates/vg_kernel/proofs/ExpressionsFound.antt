@@ -28,7 +28,8 @@ use Rattle.vg_kernel.specs.Names.{Names, given_as}
 use Rattle.vg_kernel.specs.Nodes.{width_in, pair_node, resize_node, select_node}
 use Rattle.vg_kernel.specs.Reader.{next_at, expect_at}
 use Rattle.vg_kernel.specs.Tree.{Expression, argument, assigned, literal, shift}
-use Rattle.vg_kernel.specs.Words.{sized, width_behind, level_of, operator_named, plain_named, function_named, is_free}
+use Rattle.vg_text.specs.Sized.{width_behind}
+use Rattle.vg_kernel.specs.Words.{sized, level_of, operator_named, plain_named, function_named, is_free}
 use Rattle.vg_kernel.proofs.Scripts.{Spells, Spells-append, same_text, ok_once, fault-some, next-found, tested-found, expect-found, true_fact}
 use Rattle.vg_kernel.proofs.Sizes.{width_behind-found}
 use Rattle.vg_kernel.proofs.PlacesFound.{decimal-some}

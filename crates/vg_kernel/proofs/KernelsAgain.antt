@@ -22,7 +22,8 @@ use Rattle.vg_kernel.specs.Reader.{next_at}
 use Rattle.vg_kernel.specs.Script.{Words, script_left}
 use Rattle.vg_kernel.specs.Statements.{assignment_at, has_width, store_end, store_at, statement_at, statements_at, kind_at, is_taken, parameter_at, comma_at, parameters_behind, parameters_at, head_at, block_at, body_at, kernel_at, kernel_of}
 use Rattle.vg_kernel.specs.Tree.{Expression, Statement, assign, store, Tree, type_of}
-use Rattle.vg_kernel.specs.Words.{sized, width_behind, is_free, is_reserved, plain_named}
+use Rattle.vg_text.specs.Sized.{width_behind}
+use Rattle.vg_kernel.specs.Words.{sized, is_free, is_reserved, plain_named}
 use Rattle.vg_kernel.proofs.ExpressionsAgain.{loose-close, loose-end, expression-again}
 use Rattle.vg_kernel.proofs.KernelsFound.{AreDistinct}
 use Rattle.vg_kernel.proofs.OperandsFound.{at}

@@ -24,7 +24,8 @@ use Rattle.vg_kernel.specs.Script.{Words, script_left}
 use Rattle.vg_kernel.specs.Statements.{kind_at, is_taken, parameter_at, parameter_too_many, comma_at, parameters_behind, parameters_at, statements_at, head_at, block_at, body_at, kernel_at, kernel_of}
 use Rattle.vg_kernel.specs.Cost.{uses_of}
 use Rattle.vg_kernel.specs.Tree.{Statement, Tree}
-use Rattle.vg_kernel.specs.Words.{sized, width_behind, is_free}
+use Rattle.vg_text.specs.Sized.{width_behind}
+use Rattle.vg_kernel.specs.Words.{sized, is_free}
 use Rattle.vg_kernel.proofs.OperandsFound.{at}
 use Rattle.vg_kernel.proofs.Scripts.{Spells, Spells-append, same_text, ok_once, fault-some, next-found, expect-found, name-found, end_at-found}
 use Rattle.vg_kernel.proofs.Sizes.{width_behind-found}

@@ -27,7 +27,8 @@ use Rattle.vg_kernel.specs.Nodes.{pair_node}
 use Rattle.vg_kernel.specs.Reader.{next_at}
 use Rattle.vg_kernel.specs.Script.{Words, script_left}
 use Rattle.vg_kernel.specs.Tree.{Expression, argument, assigned, literal}
-use Rattle.vg_kernel.specs.Words.{sized, width_behind, is_reserved, is_free, first_of, plain_named, sized_named, function_named}
+use Rattle.vg_text.specs.Sized.{width_behind}
+use Rattle.vg_kernel.specs.Words.{sized, is_reserved, is_free, first_of, plain_named, sized_named, function_named}
 use Rattle.vg_kernel.proofs.OperandsFound.{at}
 use Rattle.vg_kernel.proofs.Scripts.{same_text}
 use Rattle.vg_kernel.proofs.Sizes.{width_behind-again, width_behind-found}

@@ -22,7 +22,8 @@ use Rattle.vg_kernel.specs.Nodes.{width_in, common_width, pair_node, resize_node
 use Rattle.vg_kernel.specs.Reader.{next_at, expect_at, address_at}
 use Rattle.vg_kernel.specs.Script.{Words}
 use Rattle.vg_kernel.specs.Tree.{Expression, literal, load, two, resize, compare, select}
-use Rattle.vg_kernel.specs.Words.{sized, width_behind, adjoins, literal_of}
+use Rattle.vg_text.specs.Sized.{width_behind}
+use Rattle.vg_kernel.specs.Words.{sized, adjoins, literal_of}
 use Rattle.vg_kernel.proofs.Scripts.{Spells, Spells-append, ok_once, fault-some, next-found, expect-found}
 use Rattle.vg_kernel.proofs.Sizes.{width_behind-found}
 use Rattle.vg_kernel.proofs.PlacesFound.{address-found}

@@ -7,7 +7,8 @@ use Rattle.std.specs.Str.{bytes_eq}
 use Rattle.vg_base.specs.declared.width.Width.{Width}
 use Rattle.vg_base.specs.declared.width.Width.TheVariants.{W8, W16, W32, W64}
 use Rattle.vg_base.proofs.Bind.{either_way}
-use Rattle.vg_kernel.specs.Words.{width_text, width_of, width_behind, sized}
+use Rattle.vg_text.specs.Sized.{width_of, width_behind}
+use Rattle.vg_kernel.specs.Words.{width_text, sized}
 use Rattle.vg_kernel.proofs.Scripts.{same_text, text_is_itself}
 
 some_once : {A : Type 0} (x y : A) → Some x ≡ Some y → x ≡ y

@@ -25,7 +25,8 @@ use Rattle.vg_kernel.specs.Reader.{next_at, expect_at, address_at}
 use Rattle.vg_kernel.specs.Script.{Words}
 use Rattle.vg_kernel.specs.Statements.{Step, outer_at, assignment_at, has_width, store_end, store_at, statement_at, closing_at, statements_at}
 use Rattle.vg_kernel.specs.Tree.{Expression, Statement, assign, store, type_of}
-use Rattle.vg_kernel.specs.Words.{sized, width_behind, is_free}
+use Rattle.vg_text.specs.Sized.{width_behind}
+use Rattle.vg_kernel.specs.Words.{sized, is_free}
 use Rattle.vg_kernel.proofs.ExpressionsFound.{expression-found}
 use Rattle.vg_kernel.proofs.OperandsFound.{Found, at}
 use Rattle.vg_kernel.proofs.PlacesFound.{address-found}

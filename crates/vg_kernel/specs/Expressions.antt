@@ -21,7 +21,8 @@ use Rattle.vg_kernel.specs.declared.function.Function.TheVariants as functions
 use Rattle.vg_kernel.specs.declared.given.Given.{Given}
 use Rattle.vg_kernel.specs.declared.given.Given.TheVariants as given
 use Rattle.vg_kernel.specs.Tree.{Expression, argument, assigned, literal, load, shift}
-use Rattle.vg_kernel.specs.Words.{width_behind, level_of, operator_named, function_named, is_free, begins_operand, adjoins, literal_of}
+use Rattle.vg_text.specs.Sized.{width_behind}
+use Rattle.vg_kernel.specs.Words.{level_of, operator_named, function_named, is_free, begins_operand, adjoins, literal_of}
 use Rattle.vg_kernel.specs.Names.{Names, given_as}
 use Rattle.vg_kernel.specs.Nodes.{width_in, pair_node, resize_node, select_node}
 use Rattle.vg_kernel.specs.Reader.{next_at, expect_at, address_at}

@@ -13,7 +13,8 @@ use Rattle.vg_kernel.specs.declared.fault.KernelFault.{KernelFault}
 use Rattle.vg_kernel.specs.declared.fault.KernelFault.TheVariants.{Token, Shape, UnknownName, WidthMismatch, LiteralRange}
 use Rattle.vg_kernel.specs.declared.given.Given.{Given}
 use Rattle.vg_kernel.specs.declared.given.Given.TheVariants as given
-use Rattle.vg_kernel.specs.Words.{width_behind, is_free, offset_of}
+use Rattle.vg_text.specs.Sized.{width_behind}
+use Rattle.vg_kernel.specs.Words.{is_free, offset_of}
 use Rattle.vg_kernel.specs.Names.{Names, given_as}
 
 -- a word, or the fault of bytes that are none

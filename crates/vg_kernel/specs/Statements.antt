@@ -17,7 +17,8 @@ use Rattle.vg_kernel.specs.declared.parameter.KParam.{KParam}
 use Rattle.vg_kernel.specs.declared.parameter.KParamKind.{KParamKind}
 use Rattle.vg_kernel.specs.declared.parameter.KParamKind.TheVariants.{Pointer, Integer}
 use Rattle.vg_kernel.specs.Tree.{Expression, Statement, assign, store, Tree, type_of}
-use Rattle.vg_kernel.specs.Words.{width_behind, is_free, begins_statement}
+use Rattle.vg_text.specs.Sized.{width_behind}
+use Rattle.vg_kernel.specs.Words.{is_free, begins_statement}
 use Rattle.vg_kernel.specs.Names.{Names, given_as, names_of, with_name}
 use Rattle.vg_kernel.specs.Nodes.{width_in, one_width}
 use Rattle.vg_kernel.specs.Reader.{next_at, expect_at, end_at, name_at, address_at}

@@ -20,12 +20,13 @@ use crate::nodes::{pair_end, pair_node, resize_end, select_end, shift_end};
 use crate::operands::{leaf, literal, load, negative, too_deep, value_of};
 use crate::reading::{expect, next};
 use crate::scan::{Part, Scan};
-use crate::words::{function_named, is_free, level_of, operator_named, width_behind};
+use crate::words::{function_named, is_free, level_of, operator_named};
 use std::alloc::Global;
 use vg_base::Width;
 use vg_scalar::{Resize, Shift, TwoOp};
 use vg_text::byte::{begins_digit, is_text};
 use vg_text::lexer::Word;
+use vg_text::sized::width_behind;
 use vg_text::{Lexer, Place};
 
 /// The level of a whole expression.

@@ -7,7 +7,8 @@ ghost use Rattle.vg_kernel.specs.Gives.{Gives};
 ghost use Rattle.vg_kernel.specs.Names.{AreFew};
 ghost use Rattle.vg_kernel.specs.Scanning.{part_of};
 ghost use Rattle.vg_kernel.specs.Tree.{expression_of};
-ghost use Rattle.vg_kernel.specs.Words.{adjoins, width_behind};
+ghost use Rattle.vg_text.specs.Sized.{width_behind};
+ghost use Rattle.vg_kernel.specs.Words.{adjoins};
 
 use crate::expression::KExpr;
 use crate::fault::KernelFault;
@@ -16,10 +17,11 @@ use crate::names::Names;
 use crate::nodes::counted;
 use crate::reading::{address, expect, next};
 use crate::scan::{Part, Scan};
-use crate::words::{adjoins, begins_operand, literal_of, width_behind};
+use crate::words::{adjoins, begins_operand, literal_of};
 use vg_base::Width;
 use vg_text::lexer::Word;
 use vg_text::number::decimal;
+use vg_text::sized::width_behind;
 use vg_text::{Lexer, Place};
 
 /// An expression that counts for nothing.

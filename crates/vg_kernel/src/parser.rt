@@ -14,10 +14,11 @@ use crate::kernel::Kernel;
 use crate::parameter::{KParam, KParamKind};
 use crate::reading::{end, expect, name, next};
 use crate::statements::statements;
-use crate::words::{is_free, width_behind};
+use crate::words::is_free;
 use std::alloc::Global;
 use vg_base::{Items, Name};
 use vg_text::byte::is_text;
+use vg_text::sized::width_behind;
 use vg_text::{Lexer, Place};
 
 /// The kind of a parameter.

@@ -17,11 +17,12 @@ use crate::parameter::KParam;
 use crate::reading::{address, expect, next};
 use crate::scan::{Part, Scan};
 use crate::statement::KStmt;
-use crate::words::{begins_statement, is_free, width_behind};
+use crate::words::{begins_statement, is_free};
 use std::alloc::Global;
 use vg_base::{Address, Width};
 use vg_text::byte::is_text;
 use vg_text::lexer::Word;
+use vg_text::sized::width_behind;
 use vg_text::{Lexer, Place};
 
 /// An expression that no parenthesis encloses.

@@ -3,7 +3,8 @@
 ghost use Rattle.std.specs.Prelude.{◌≡◌, true, is_some};
 ghost use Rattle.vg_base.specs.Width.{bits_of};
 ghost use Rattle.vg_text.specs.Lexing.{spelled_of};
-ghost use Rattle.vg_kernel.specs.Words.{width_of, width_behind, level_of, operator_named, plain_named, sized_named, function_named, is_reserved, is_free, begins_operand, begins_statement, adjoins, offset_of, literal_of};
+ghost use Rattle.vg_text.specs.Sized.{width_behind};
+ghost use Rattle.vg_kernel.specs.Words.{level_of, operator_named, plain_named, sized_named, function_named, is_reserved, is_free, begins_operand, begins_statement, adjoins, offset_of, literal_of};
 
 use crate::function::Function;
 use vg_base::Width;
@@ -11,36 +12,7 @@ use vg_scalar::{Comparison, Resize, Shift, TwoOp};
 use vg_text::byte::{is_name_text, is_text};
 use vg_text::lexer::Word;
 use vg_text::number::is_decimal;
-
-/// The width that a word spells.
-fn width_of(bytes: &[u8]) -> Option<Width>
-    ensures { result ≡ width_of bytes.now }
-{
-    if is_text(bytes, b"8") {
-        Some(Width::W8)
-    } else if is_text(bytes, b"16") {
-        Some(Width::W16)
-    } else if is_text(bytes, b"32") {
-        Some(Width::W32)
-    } else if is_text(bytes, b"64") {
-        Some(Width::W64)
-    } else {
-        None
-    }
-}
-
-/// The width after a stem, as that of `load32` after `load`.
-pub(crate) fn width_behind(stem: &[u8], bytes: &[u8]) -> Option<Width>
-    ensures { result ≡ width_behind stem.now bytes.now }
-{
-    let cut = stem.len().min(bytes.len());
-    let (front, behind) = bytes.split_at(cut);
-    if is_text(front, stem) {
-        width_of(behind)
-    } else {
-        None
-    }
-}
+use vg_text::sized::width_behind;
 
 fn has_stem(stem: &[u8], bytes: &[u8]) -> bool
     ensures { result ≡ is_some (width_behind stem.now bytes.now) }

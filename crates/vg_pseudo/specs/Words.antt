@@ -1,11 +1,12 @@
 -- The words of operation texts.
-use Rattle.std.specs.Prelude.{ℕ, ◌^◌, Bool, not, ◌||◌, ◌&&◌, List, length, take, drop, Option, Some, None, is_some, nat_lt, codes, if◌then◌else◌}
+use Rattle.std.specs.Prelude.{ℕ, ◌^◌, Bool, not, ◌||◌, ◌&&◌, List, take, drop, Option, Some, None, is_some, nat_lt, codes, if◌then◌else◌}
 use Rattle.std.specs.Option.{option_map}
 use Rattle.std.specs.Str.{bytes_eq}
 use Rattle.vg_base.specs.declared.width.Width.{Width}
 use Rattle.vg_base.specs.declared.width.Width.TheVariants.{W8, W16, W32, W64}
 use Rattle.vg_text.specs.Byte.{is_name_text}
 use Rattle.vg_text.specs.Number.{value_in, decimal_value}
+use Rattle.vg_text.specs.Sized.{width_behind}
 use Rattle.vg_pseudo.specs.declared.operators.UnaryOp.{UnaryOp}
 use Rattle.vg_pseudo.specs.declared.operators.UnaryOp.TheVariants.{Not, Negate, Absolute, Signed, SignExtend, ZeroExtend, Saturate, SaturateUnsigned, Truncate}
 use Rattle.vg_pseudo.specs.declared.operators.BinaryOp.{BinaryOp}
@@ -17,17 +18,6 @@ use Rattle.vg_pseudo.specs.declared.words.Function.TheVariants as functions
 abbrev pub first_of : {A : Type 0} → Option A → Option A → Option A
 first_of (Some x) more = Some x
 first_of None more = more
-
--- the width that a word spells
-abbrev pub width_of : List ℕ → Option Width
-width_of bytes =
-    if bytes_eq bytes (codes "8") then Some W8 else if bytes_eq bytes (codes "16") then Some W16
-    else if bytes_eq bytes (codes "32") then Some W32 else if bytes_eq bytes (codes "64") then Some W64 else None
-
--- the width after this stem, where the word is the stem and a width
-abbrev pub width_behind : List ℕ → List ℕ → Option Width
-width_behind stem bytes =
-    if bytes_eq (take (length stem) bytes) stem then width_of (drop (length stem) bytes) else None
 
 -- the size of an element
 abbrev pub element_named : List ℕ → Option Width

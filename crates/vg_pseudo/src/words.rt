@@ -1,48 +1,20 @@
 //! The words of operation texts.
 
 ghost use Rattle.std.specs.Prelude.{◌≡◌, is_some};
-ghost use Rattle.vg_pseudo.specs.Words.{width_of, width_behind, element_named, level_of, logical_named, comparison_named, sum_named, operator_named, prefix_named, plain_named, sized_named, function_named, is_statement_word, is_header_word, is_operator_word, is_reserved, is_free, number_in, number_of, begins_operand, begins_statement};
+ghost use Rattle.vg_text.specs.Sized.{width_behind};
+ghost use Rattle.vg_pseudo.specs.Words.{element_named, level_of, logical_named, comparison_named, sum_named, operator_named, prefix_named, plain_named, sized_named, function_named, is_statement_word, is_header_word, is_operator_word, is_reserved, is_free, number_in, number_of, begins_operand, begins_statement};
 
 use crate::operators::{BinaryOp, UnaryOp};
 use vg_base::Width;
 use vg_text::byte::{is_name_text, is_text};
 use vg_text::number::{decimal, value_in};
+use vg_text::sized::width_behind;
 
 /// A function that every operation may call, by the operator that it is.
 #[derive(Clone, Copy)]
 pub(crate) enum Function {
     One(UnaryOp),
     Two(BinaryOp),
-}
-
-/// The width that a word spells.
-fn width_of(bytes: &[u8]) -> Option<Width>
-    ensures { result ≡ width_of bytes.now }
-{
-    if is_text(bytes, b"8") {
-        Some(Width::W8)
-    } else if is_text(bytes, b"16") {
-        Some(Width::W16)
-    } else if is_text(bytes, b"32") {
-        Some(Width::W32)
-    } else if is_text(bytes, b"64") {
-        Some(Width::W64)
-    } else {
-        None
-    }
-}
-
-/// The width after a stem, as that of `Truncate32` after `Truncate`.
-fn width_behind(stem: &[u8], bytes: &[u8]) -> Option<Width>
-    ensures { result ≡ width_behind stem.now bytes.now }
-{
-    let cut = stem.len().min(bytes.len());
-    let (front, behind) = bytes.split_at(cut);
-    if is_text(front, stem) {
-        width_of(behind)
-    } else {
-        None
-    }
 }
 
 /// The size of an element.

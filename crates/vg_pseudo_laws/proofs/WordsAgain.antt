@@ -11,7 +11,8 @@ use Rattle.vg_text.specs.Words.{Reading, Spelled}
 use Rattle.vg_pseudo.specs.declared.operators.BinaryOp.{BinaryOp}
 use Rattle.vg_pseudo.specs.Grammar.{Words, Is, IsName, Stand}
 use Rattle.vg_pseudo.specs.Reader.{or_token, next_at, expect_at, accept_at, name_at}
-use Rattle.vg_pseudo.specs.Words.{level_of, operator_named, prefix_named, function_named, width_behind, number_of, is_free, is_reserved, is_statement_word, is_header_word, is_operator_word}
+use Rattle.vg_text.specs.Sized.{width_behind}
+use Rattle.vg_pseudo.specs.Words.{level_of, operator_named, prefix_named, function_named, number_of, is_free, is_reserved, is_statement_word, is_header_word, is_operator_word}
 use Rattle.vg_pseudo.proofs.Taking.{same_text}
 use Rattle.vg_pseudo_laws.proofs.Standing.{Reads, no-words}
 

@@ -5,3 +5,4 @@ pub mod Number
 pub mod Place
 pub mod Token
 pub mod Words
+pub mod Sized

@@ -9,6 +9,7 @@ mod front;
 pub mod lexer;
 pub mod number;
 pub mod place;
+pub mod sized;
 pub mod token;
 
 pub use lexer::Lexer;
