@@ -8,6 +8,7 @@ use Rattle.std.proofs.Math.Seq.{get_or-append_seam}
 use Rattle.vg_packing.proofs.SameTests.{pack-is, pack-itself}
 use Rattle.vg_packing.specs.SameAs.{same_pack}
 use Rattle.vg_plans.proofs.Lists.{take-whole}
+use Rattle.vg_packing.specs.declared.choice.Choice.{Choice}
 use Rattle.vg_shapes.specs.declared.match_table.Match.{Match}
 use Rattle.vg_shapes.specs.declared.pack.Pack.{Pack as Packed}
 use Rattle.vg_shapes.specs.declared.ssa.Ssa.{Ssa}
@@ -34,33 +35,33 @@ at-along packs longer n g l = ap (λ q. pack_at q n) g.1 ∙ at-left no_pack pac
 pub inside-along : (packs longer : List Packed) (n : ℕ) → Grows packs longer → n < length packs → n < length longer
 inside-along packs longer n g l = let e = ap length g.1 in omega (arith, l, e, length-append packs g.0)
 
-module _ (ds : List Description) (matches : List Match) (ssa : Ssa) where
+module _ (ch : Choice) (ds : List Description) (matches : List Match) (ssa : Ssa) where
   produced-along : (packs longer : List Packed) (p : Packed) (o : Option (List ℕ)) → Grows packs longer
-      → AreProduced ds matches ssa packs p o → AreProduced ds matches ssa longer p o
+      → AreProduced ch ds matches ssa packs p o → AreProduced ch ds matches ssa longer p o
   produced-along packs longer p None g a = tt
-  produced-along packs longer p (Some numbers) g a = names-along packs longer numbers (produced_by ds matches ssa p) g a
+  produced-along packs longer p (Some numbers) g a = names-along packs longer numbers (produced_by ch ds matches ssa p) g a
 
   produced-push : (packs : List Packed) (produced : List (Option (List ℕ))) (p : Packed) → length produced ≡ length packs
-      → ((n : ℕ) → n < length packs → AreProduced ds matches ssa packs (pack_at packs n) (get_or produced n None))
+      → ((n : ℕ) → n < length packs → AreProduced ch ds matches ssa packs (pack_at packs n) (get_or produced n None))
       → (n : ℕ) → n < length (packs ++ p ∷ [])
-      → AreProduced ds matches ssa (packs ++ p ∷ []) (pack_at (packs ++ p ∷ []) n) (get_or (produced ++ None ∷ []) n None)
+      → AreProduced ch ds matches ssa (packs ++ p ∷ []) (pack_at (packs ++ p ∷ []) n) (get_or (produced ++ None ∷ []) n None)
   produced-push packs produced p long a n l = elim (cases_Bool (nat_lt n (length packs))) [
     | inl t ↦
         let i : n < length packs = grind (arith, nat_tests, t) in
         let j : n < length produced = omega (arith, i, long) in
         let g : Grows packs (packs ++ p ∷ []) = (p ∷ [], refl) in
-        subst (λ q. AreProduced ds matches ssa (packs ++ p ∷ []) q (get_or (produced ++ None ∷ []) n None)) (sym (at-along packs (packs ++ p ∷ []) n g i))
-        (subst (AreProduced ds matches ssa (packs ++ p ∷ []) (pack_at packs n)) (sym (get_or_append_left produced (None ∷ []) None n j))
+        subst (λ q. AreProduced ch ds matches ssa (packs ++ p ∷ []) q (get_or (produced ++ None ∷ []) n None)) (sym (at-along packs (packs ++ p ∷ []) n g i))
+        (subst (AreProduced ch ds matches ssa (packs ++ p ∷ []) (pack_at packs n)) (sym (get_or_append_left produced (None ∷ []) None n j))
         (produced-along packs (packs ++ p ∷ []) (pack_at packs n) (get_or produced n None) g (a n i)))
     | inr f ↦
         let k : length packs ≤ n = grind (arith, nat_tests, f) in
         let e : n ≡ length produced = omega (arith, l, k, long, length-append packs (p ∷ [])) in
         let none : get_or (produced ++ None ∷ []) n None ≡ None = ap (λ m. get_or (produced ++ None ∷ []) m None) e ∙ get_or-append_seam produced None [] None in
-        subst (AreProduced ds matches ssa (packs ++ p ∷ []) (pack_at (packs ++ p ∷ []) n)) (sym none) tt
+        subst (AreProduced ch ds matches ssa (packs ++ p ∷ []) (pack_at (packs ++ p ∷ []) n)) (sym none) tt
   ]
 
   pub number-there : (b : Board) (p : Packed) (place : ℕ) → place ≡ first_place (same_pack p) b.packs.items → place < length b.packs.items
-      → IsBoard ds matches ssa b → IsNumbered ds matches ssa b b p place
+      → IsBoard ch ds matches ssa b → IsNumbered ch ds matches ssa b b p place
   number-there b p place e l is = record {
     board = is;
     grows = grows-same b.packs.items;
@@ -72,8 +73,8 @@ module _ (ds : List Description) (matches : List Match) (ssa : Ssa) where
   }
 
   pub number-new : (old new : Board) (p : Packed) (place : ℕ) → place ≡ first_place (same_pack p) old.packs.items → length old.packs.items ≤ place
-      → IsBoard ds matches ssa old → new.packs.items ≡ old.packs.items ++ p ∷ [] → new.produced.items ≡ old.produced.items ++ None ∷ []
-      → IsNumbered ds matches ssa old new p place
+      → IsBoard ch ds matches ssa old → new.packs.items ≡ old.packs.items ++ p ∷ [] → new.produced.items ≡ old.produced.items ++ None ∷ []
+      → IsNumbered ch ds matches ssa old new p place
   number-new old new p place e l is packs produced =
       let k : length old.packs.items ≤ first_place (same_pack p) old.packs.items = subst (λ n. length old.packs.items ≤ n) e l in
       let at_end : place ≡ length old.packs.items = e ∙ place-end (same_pack p) old.packs.items k in
@@ -85,8 +86,8 @@ module _ (ds : List Description) (matches : List Match) (ssa : Ssa) where
               ap length produced ∙ length-append old.produced.items (None ∷ []) ∙ ap (λ n. n + 1) is.long
               ∙ sym (length-append old.packs.items (p ∷ [])) ∙ ap length (sym packs);
           produced = λ n i.
-              subst (λ q. AreProduced ds matches ssa q (pack_at q n) (get_or new.produced.items n None)) (sym packs)
-              (subst (λ o. AreProduced ds matches ssa (old.packs.items ++ p ∷ []) (pack_at (old.packs.items ++ p ∷ []) n) (get_or o n None)) (sym produced)
+              subst (λ q. AreProduced ch ds matches ssa q (pack_at q n) (get_or new.produced.items n None)) (sym packs)
+              (subst (λ o. AreProduced ch ds matches ssa (old.packs.items ++ p ∷ []) (pack_at (old.packs.items ++ p ∷ []) n) (get_or o n None)) (sym produced)
               (produced-push old.packs.items old.produced.items p is.long is.produced n (subst (λ q. n < length q) packs i)));
         };
         grows = (p ∷ [], packs);
@@ -96,8 +97,8 @@ module _ (ds : List Description) (matches : List Match) (ssa : Ssa) where
 
   -- one pack more of many
   pub all-step : (first mid new : Board) (ns : List ℕ) (done : List Packed) (p : Packed) (n : ℕ) → Grows first.packs.items mid.packs.items
-      → Names no_pack mid.packs.items ns done → IsNumbered ds matches ssa mid new p n
-      → AreNumbered ds matches ssa first new (done ++ p ∷ []) (ns ++ n ∷ [])
+      → Names no_pack mid.packs.items ns done → IsNumbered ch ds matches ssa mid new p n
+      → AreNumbered ch ds matches ssa first new (done ++ p ∷ []) (ns ++ n ∷ [])
   all-step first mid new ns done p n g a is = record {
     board = is.board;
     grows = grows-join first.packs.items mid.packs.items new.packs.items g is.grows;
@@ -105,7 +106,7 @@ module _ (ds : List Description) (matches : List Match) (ssa : Ssa) where
   }
 
   -- many packs, one after the other
-  pub all-first : (b : Board) (ns : List ℕ) → ns ≡ [] → IsBoard ds matches ssa b → AreNumbered ds matches ssa b b [] ns
+  pub all-first : (b : Board) (ns : List ℕ) → ns ≡ [] → IsBoard ch ds matches ssa b → AreNumbered ch ds matches ssa b b [] ns
   all-first b ns e is = record {
     board = is;
     grows = grows-same b.packs.items;
@@ -113,24 +114,24 @@ module _ (ds : List Description) (matches : List Match) (ssa : Ssa) where
   }
 
   pub all-next : (first mid new : Board) (ns next : List ℕ) (ps : List Packed) (i : ℕ) (p : Packed) (n : ℕ) → i < length ps → p ≡ get_or ps i p
-      → AreNumbered ds matches ssa first mid (take i ps) ns → IsNumbered ds matches ssa mid new p n → next ≡ ns ++ n ∷ []
-      → AreNumbered ds matches ssa first new (take (i + 1) ps) next
+      → AreNumbered ch ds matches ssa first mid (take i ps) ns → IsNumbered ch ds matches ssa mid new p n → next ≡ ns ++ n ∷ []
+      → AreNumbered ch ds matches ssa first new (take (i + 1) ps) next
   all-next first mid new ns next ps i p n l e a is f =
       let more : take (i + 1) ps ≡ take i ps ++ p ∷ [] = take_more ps i p l ∙ ap (λ q. take i ps ++ q ∷ []) (sym e) in
-      subst (λ q. AreNumbered ds matches ssa first new q next) (sym more)
-      (subst (AreNumbered ds matches ssa first new (take i ps ++ p ∷ [])) (sym f) (all-step first mid new ns (take i ps) p n a.grows a.names is))
+      subst (λ q. AreNumbered ch ds matches ssa first new q next) (sym more)
+      (subst (AreNumbered ch ds matches ssa first new (take i ps ++ p ∷ [])) (sym f) (all-step first mid new ns (take i ps) p n a.grows a.names is))
 
   pub all-end : (first new : Board) (ns : List ℕ) (ps : List Packed) (i : ℕ) → length ps ≤ i
-      → AreNumbered ds matches ssa first new (take i ps) ns → AreNumbered ds matches ssa first new ps ns
-  all-end first new ns ps i l a = subst (λ q. AreNumbered ds matches ssa first new q ns) (take-whole i ps l) a
+      → AreNumbered ch ds matches ssa first new (take i ps) ns → AreNumbered ch ds matches ssa first new ps ns
+  all-end first new ns ps i l a = subst (λ q. AreNumbered ch ds matches ssa first new q ns) (take-whole i ps l) a
 
-  opened : (packs : List Packed) (p : Packed) (o : Option (List ℕ)) → is_some o ≡ true → AreProduced ds matches ssa packs p o
-      → Names no_pack packs (numbers_in o) (produced_by ds matches ssa p)
+  opened : (packs : List Packed) (p : Packed) (o : Option (List ℕ)) → is_some o ≡ true → AreProduced ch ds matches ssa packs p o
+      → Names no_pack packs (numbers_in o) (produced_by ch ds matches ssa p)
   opened packs p None t a = absurd (cc)
   opened packs p (Some numbers) t a = a
 
-  pub open-there : (b : Board) (n : ℕ) → IsBoard ds matches ssa b → n < length b.packs.items → is_some (get_or b.produced.items n None) ≡ true
-      → IsOpened ds matches ssa b b n
+  pub open-there : (b : Board) (n : ℕ) → IsBoard ch ds matches ssa b → n < length b.packs.items → is_some (get_or b.produced.items n None) ≡ true
+      → IsOpened ch ds matches ssa b b n
   open-there b n is l t = record {
     board = is;
     grows = grows-same b.packs.items;
@@ -138,13 +139,13 @@ module _ (ds : List Description) (matches : List Match) (ssa : Ssa) where
   }
 
   pub open-new : (old mid new : Board) (n : ℕ) (packs : List Packed) (numbers : List ℕ) → n < length old.packs.items
-      → AreNumbered ds matches ssa old mid packs numbers → packs ≡ produced_by ds matches ssa (pack_at old.packs.items n)
+      → AreNumbered ch ds matches ssa old mid packs numbers → packs ≡ produced_by ch ds matches ssa (pack_at old.packs.items n)
       → new.packs.items ≡ mid.packs.items → new.produced.items ≡ set mid.produced.items n (Some numbers)
-      → IsOpened ds matches ssa old new n
+      → IsOpened ch ds matches ssa old new n
   open-new old mid new n packs numbers l are e same produced =
       let inside = inside-along old.packs.items mid.packs.items n are.grows l in
       let there : n < length mid.produced.items = omega (arith, inside, are.board.long) in
-      let names : Names no_pack mid.packs.items numbers (produced_by ds matches ssa (pack_at old.packs.items n)) =
+      let names : Names no_pack mid.packs.items numbers (produced_by ch ds matches ssa (pack_at old.packs.items n)) =
       subst (Names no_pack mid.packs.items numbers) e are.names in
       let noted : get_or new.produced.items n None ≡ Some numbers =
       ap (λ o. get_or o n None) produced ∙ get_or-set_same mid.produced.items n (Some numbers) None there in
@@ -152,26 +153,26 @@ module _ (ds : List Description) (matches : List Match) (ssa : Ssa) where
         board = record {
           apart = subst (AreApart no_pack) (sym same) are.board.apart;
           long = ap length produced ∙ length-set mid.produced.items n (Some numbers) ∙ are.board.long ∙ ap length (sym same);
-          produced = λ m i. subst (λ q. AreProduced ds matches ssa q (pack_at q m) (get_or new.produced.items m None)) (sym same)
+          produced = λ m i. subst (λ q. AreProduced ch ds matches ssa q (pack_at q m) (get_or new.produced.items m None)) (sym same)
               (each m (subst (λ q. m < length q) same i) names noted);
         };
         grows = (are.grows.0, same ∙ are.grows.1);
-        produced = subst (λ q. Names no_pack q (produced_at new n) (produced_by ds matches ssa (pack_at old.packs.items n))) (sym same)
-            (subst (λ o. Names no_pack mid.packs.items (numbers_in o) (produced_by ds matches ssa (pack_at old.packs.items n))) (sym noted) names);
+        produced = subst (λ q. Names no_pack q (produced_at new n) (produced_by ch ds matches ssa (pack_at old.packs.items n))) (sym same)
+            (subst (λ o. Names no_pack mid.packs.items (numbers_in o) (produced_by ch ds matches ssa (pack_at old.packs.items n))) (sym noted) names);
       }
     where
-      each : (m : ℕ) → m < length mid.packs.items → Names no_pack mid.packs.items numbers (produced_by ds matches ssa (pack_at old.packs.items n))
+      each : (m : ℕ) → m < length mid.packs.items → Names no_pack mid.packs.items numbers (produced_by ch ds matches ssa (pack_at old.packs.items n))
           → get_or new.produced.items n None ≡ Some numbers
-          → AreProduced ds matches ssa mid.packs.items (pack_at mid.packs.items m) (get_or new.produced.items m None)
+          → AreProduced ch ds matches ssa mid.packs.items (pack_at mid.packs.items m) (get_or new.produced.items m None)
       each m i names noted = elim (cases_Bool (nat_eq m n)) [
         | inl t ↦
             let k : n ≡ m = grind (arith, nat_tests, t) in
-            subst (λ z. AreProduced ds matches ssa mid.packs.items (pack_at mid.packs.items z) (get_or new.produced.items z None)) k
-            (subst (AreProduced ds matches ssa mid.packs.items (pack_at mid.packs.items n)) (sym noted)
-            (subst (λ p. Names no_pack mid.packs.items numbers (produced_by ds matches ssa p)) (sym (at-along old.packs.items mid.packs.items n are.grows l)) names))
+            subst (λ z. AreProduced ch ds matches ssa mid.packs.items (pack_at mid.packs.items z) (get_or new.produced.items z None)) k
+            (subst (AreProduced ch ds matches ssa mid.packs.items (pack_at mid.packs.items n)) (sym noted)
+            (subst (λ p. Names no_pack mid.packs.items numbers (produced_by ch ds matches ssa p)) (sym (at-along old.packs.items mid.packs.items n are.grows l)) names))
         | inr f ↦
             let ne : m ≡ n → ⊥ = λ k. grind (arith, nat_tests, f, k) in
             let other : get_or new.produced.items m None ≡ get_or mid.produced.items m None =
             ap (λ o. get_or o m None) produced ∙ get_or-set_other mid.produced.items n m (Some numbers) None ne in
-            subst (AreProduced ds matches ssa mid.packs.items (pack_at mid.packs.items m)) (sym other) (are.board.produced m i)
+            subst (AreProduced ch ds matches ssa mid.packs.items (pack_at mid.packs.items m)) (sym other) (are.board.produced m i)
       ]

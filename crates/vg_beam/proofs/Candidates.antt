@@ -4,19 +4,21 @@ use Rattle.std.specs.Prelude.{◌||◌, bytes_eq, flat_map}
 use Rattle.std.specs.List.{AllByRecursion, list_any}
 use Rattle.std.proofs.lemmas.List.{map-append, take_more}
 use Rattle.vg_cost.specs.Running.{StandsFor}
-use Rattle.vg_packing.proofs.Tried.{is-packing}
-use Rattle.vg_packing.specs.Groups.{store_groups}
-use Rattle.vg_packing.specs.Laws.{IsPlanFor, cost_of}
+use Rattle.vg_packing.proofs.Tried.{is-packing_by}
+use Rattle.vg_packing.specs.Fed.{IsPlanBy, groups_by, packing_by}
+use Rattle.vg_packing.specs.Laws.{cost_of}
 use Rattle.vg_packing.specs.Packing.{packing}
 use Rattle.vg_packing.specs.Taken.{IsShort}
 use Rattle.vg_packs.proofs.Free.{free-first}
-use Rattle.vg_packs.proofs.Turns.{stays-any, stays-free}
+use Rattle.vg_packs.proofs.Completion.{stays-by}
+use Rattle.vg_packs.proofs.Turns.{stays-free}
 use Rattle.vg_packs.specs.Walk.{IsFree, NameEarlierUnits, is_in_plan}
 use Rattle.vg_plans.proofs.Lists.{every-append, has-map, take-whole}
 use Rattle.vg_plans.proofs.Members.{from-filter, has-filter}
 use Rattle.vg_plans.specs.Crowded.{empty, more}
 use Rattle.vg_plans.specs.Members.{Every, Has}
 use Rattle.vg_plans.specs.World.{World, same_packs, stays_plan, tried}
+use Rattle.vg_packing.specs.declared.choice.Choice.{Choice}
 use Rattle.vg_shapes.specs.declared.match_table.Match.{Match}
 use Rattle.vg_shapes.specs.declared.operand.Operand.{Operand}
 use Rattle.vg_shapes.specs.declared.pack.Pack.{Pack as Packed}
@@ -30,7 +32,7 @@ use Rattle.vg_beam.specs.declared.met.Met.{Met}
 use Rattle.vg_beam.specs.declared.priced_plan.PricedPlan.{PricedPlan}
 use Rattle.vg_beam.specs.Board.{Grows, IsBoard, IsOpened, no_pack, pack_at, produced_at, produced_by}
 use Rattle.vg_beam.specs.Candidate.{AreGrown, CanGrow, IsCandidate, IsGrown, IsPlaced, grown_plan, grown_plans}
-use Rattle.vg_beam.specs.Chosen.{HaveShortPacks}
+use Rattle.vg_beam.specs.Chosen.{HaveShortPacksBy}
 use Rattle.vg_beam.specs.Kept.{IsKept, plan_at, plan_of, plans_of}
 use Rattle.vg_beam.specs.Key.{AreApart, IsKey, Names, has_key, with_number}
 use Rattle.vg_beam.specs.Met.{IsMet, Meets, is_known}
@@ -53,93 +55,93 @@ any-snoc test (y ∷ xs) x = ap (λ b. test y || b) (any-snoc test xs x) ∙ tur
     turn true false c = refl
     turn false b c = refl
 
-module _ (ds : List Description) (matches : List Match) (ssa : Ssa) (deps : List (ℕ × ℕ)) where
+module _ (ch : Choice) (ds : List Description) (matches : List Match) (ssa : Ssa) (deps : List (ℕ × ℕ)) where
   abbrev world : World Packed Operand Operand
-  world = packing ds matches ssa deps
+  world = packing_by ch ds matches ssa deps
 
-  pub plan-free : NameEarlierUnits ssa deps → (plan : List Packed) → IsPlanFor ds matches ssa deps plan → IsFree matches ssa deps plan
+  pub plan-free : NameEarlierUnits ssa deps → (plan : List Packed) → IsPlanBy ch ds matches ssa deps plan → IsFree matches ssa deps plan
   plan-free earlier _ empty = free-first matches ssa deps earlier.earlier
   plan-free earlier _ (more plan p is h) =
       let t = (from-filter (stays_plan world plan) p (tried world plan) h).1 in
-      stays-free ds matches ssa deps plan p (sym (sym t ∙ stays-any ds matches ssa deps plan p))
+      stays-free ds matches ssa deps plan p (sym (sym t ∙ stays-by ch ds matches ssa deps plan p))
 
-  pub longer-plan : (plan : List Packed) (p : Packed) → IsPlanFor ds matches ssa deps plan → Has p (tried world plan)
-      → stays_plan (packing [] matches ssa deps) plan p ≡ true → IsPlanFor ds matches ssa deps (plan ++ p ∷ [])
+  pub longer-plan : (plan : List Packed) (p : Packed) → IsPlanBy ch ds matches ssa deps plan → Has p (tried world plan)
+      → stays_plan (packing [] matches ssa deps) plan p ≡ true → IsPlanBy ch ds matches ssa deps (plan ++ p ∷ [])
   longer-plan plan p is h t =
-      more plan p is (has-filter (stays_plan world plan) p (tried world plan) h (stays-any ds matches ssa deps plan p ∙ t))
+      more plan p is (has-filter (stays_plan world plan) p (tried world plan) h (stays-by ch ds matches ssa deps plan p ∙ t))
 
   pub overlap-stays : (plan : List Packed) (p : Packed) → list_any (is_in_plan plan) (units_of p) ≡ true
       → stays_plan (packing [] matches ssa deps) plan p ≡ false
   overlap-stays plan p t = rw t refl
 
-  pub last-short : HaveShortPacks ds matches ssa deps → (plan : List Packed) (p : Packed) → IsPlanFor ds matches ssa deps (plan ++ p ∷ []) → IsShort p
+  pub last-short : HaveShortPacksBy ch ds matches ssa deps → (plan : List Packed) (p : Packed) → IsPlanBy ch ds matches ssa deps (plan ++ p ∷ []) → IsShort p
   last-short short plan p is = all-last plan p (short (plan ++ p ∷ []) is)
 
   -- ---- meeting
 
   module _ (packs : List Packed) (level : List Kept) where
-    pub meets-none : (plan : List Packed) (m : Met) → IsMet ds matches ssa deps packs level m
-        → Meets ds matches ssa deps packs level plan [] m m
+    pub meets-none : (plan : List Packed) (m : Met) → IsMet ch ds matches ssa deps packs level m
+        → Meets ch ds matches ssa deps packs level plan [] m m
     meets-none plan m is = record { met = is; plans = refl }
 
-    pub meets-known : (plan : List Packed) (p : Packed) (m : Met) (key : List ℕ) → IsMet ds matches ssa deps packs level m
+    pub meets-known : (plan : List Packed) (p : Packed) (m : Met) (key : List ℕ) → IsMet ch ds matches ssa deps packs level m
         → IsKey no_pack packs key (plan ++ p ∷ []) → is_known m key ≡ true
-        → Meets ds matches ssa deps packs level plan (p ∷ []) m m
+        → Meets ch ds matches ssa deps packs level plan (p ∷ []) m m
     meets-known plan p m key is k t = record {
       met = is;
       plans = grown-known (stays_plan world plan) (same_packs world) plan (grown_plans packs level m.candidates.items) p
           (sym (is.known key (plan ++ p ∷ []) k) ∙ t);
     }
 
-    pub meets-refused : (plan : List Packed) (p : Packed) (m : Met) → IsMet ds matches ssa deps packs level m
+    pub meets-refused : (plan : List Packed) (p : Packed) (m : Met) → IsMet ch ds matches ssa deps packs level m
         → stays_plan (packing [] matches ssa deps) plan p ≡ false
-        → Meets ds matches ssa deps packs level plan (p ∷ []) m m
+        → Meets ch ds matches ssa deps packs level plan (p ∷ []) m m
     meets-refused plan p m is f = record {
       met = is;
       plans = grown-refused (stays_plan world plan) (same_packs world) plan (grown_plans packs level m.candidates.items) p
-          (stays-any ds matches ssa deps plan p ∙ f);
+          (stays-by ch ds matches ssa deps plan p ∙ f);
     }
 
     pub meets-new : (plan : List Packed) (p : Packed) (old new : Met) (key : List ℕ) (c : Candidate) → AreApart no_pack packs
-        → IsMet ds matches ssa deps packs level old
+        → IsMet ch ds matches ssa deps packs level old
         → IsKey no_pack packs key (plan ++ p ∷ []) → is_known old key ≡ false
         → stays_plan (packing [] matches ssa deps) plan p ≡ true
         → new.candidates.items ≡ old.candidates.items ++ c ∷ []
         → ((q : List ℕ) → is_known new q ≡ (bytes_eq q key || is_known old q))
         → grown_plan packs level c ≡ plan ++ p ∷ []
-        → IsCandidate ds matches ssa deps packs level c
-        → Meets ds matches ssa deps packs level plan (p ∷ []) old new
+        → IsCandidate ch ds matches ssa deps packs level c
+        → Meets ch ds matches ssa deps packs level plan (p ∷ []) old new
     meets-new plan p old new key c apart is k f t items known e candidate =
         let whole : grown_plans packs level new.candidates.items ≡ grown_plans packs level old.candidates.items ++ (plan ++ p ∷ []) ∷ [] =
         ap (grown_plans packs level) items ∙ map-append (grown_plan packs level) old.candidates.items (c ∷ [])
         ∙ ap (λ q. grown_plans packs level old.candidates.items ++ q ∷ []) e in
         record {
           met = record {
-            candidates = subst (Every (IsCandidate ds matches ssa deps packs level)) (sym items)
-                (every-append (IsCandidate ds matches ssa deps packs level) old.candidates.items (c ∷ []) is.candidates (candidate, tt));
+            candidates = subst (Every (IsCandidate ch ds matches ssa deps packs level)) (sym items)
+                (every-append (IsCandidate ch ds matches ssa deps packs level) old.candidates.items (c ∷ []) is.candidates (candidate, tt));
             known = λ q other j.
                 known q
-                ∙ ap (λ b. b || is_known old q) (same-key world (is-packing ds matches ssa deps) no_pack packs apart q key other (plan ++ p ∷ []) j k)
+                ∙ ap (λ b. b || is_known old q) (same-key world (is-packing_by ch ds matches ssa deps) no_pack packs apart q key other (plan ++ p ∷ []) j k)
                 ∙ ap (λ b. same_packs world other (plan ++ p ∷ []) || b) (is.known q other j)
                 ∙ sym (any-snoc (same_packs world other) (grown_plans packs level old.candidates.items) (plan ++ p ∷ []))
                 ∙ ap (list_any (same_packs world other)) (sym whole);
           };
           plans = whole ∙ grown-new (stays_plan world plan) (same_packs world) plan (grown_plans packs level old.candidates.items) p
-              (stays-any ds matches ssa deps plan p ∙ t) (sym (is.known key (plan ++ p ∷ []) k) ∙ f);
+              (stays-by ch ds matches ssa deps plan p ∙ t) (sym (is.known key (plan ++ p ∷ []) k) ∙ f);
         }
 
-    pub met-first : (m : Met) → m.candidates.items ≡ [] → m.keys.keys ≡ [] → IsMet ds matches ssa deps packs level m
+    pub met-first : (m : Met) → m.candidates.items ≡ [] → m.keys.keys ≡ [] → IsMet ch ds matches ssa deps packs level m
     met-first m none keys = record {
-      candidates = subst (Every (IsCandidate ds matches ssa deps packs level)) (sym none) tt;
+      candidates = subst (Every (IsCandidate ch ds matches ssa deps packs level)) (sym none) tt;
       known = λ q other j.
           ap (λ ks. has_key (λ k. k.items) ks q) keys
           ∙ sym (ap (λ cs. list_any (same_packs world other) (grown_plans packs level cs)) none);
     }
 
     pub meets-step : (plan : List Packed) (numbers : List ℕ) (i n : ℕ) (old mid new : Met) → i < length numbers → n ≡ get_or numbers i n
-        → Meets ds matches ssa deps packs level plan (map (pack_at packs) (take i numbers)) old mid
-        → Meets ds matches ssa deps packs level plan (pack_at packs n ∷ []) mid new
-        → Meets ds matches ssa deps packs level plan (map (pack_at packs) (take (i + 1) numbers)) old new
+        → Meets ch ds matches ssa deps packs level plan (map (pack_at packs) (take i numbers)) old mid
+        → Meets ch ds matches ssa deps packs level plan (pack_at packs n ∷ []) mid new
+        → Meets ch ds matches ssa deps packs level plan (map (pack_at packs) (take (i + 1) numbers)) old new
     meets-step plan numbers i n old mid new l is a b = record {
       met = b.met;
       plans = grown-step (stays_plan world plan) (same_packs world) plan (pack_at packs) numbers i n
@@ -149,10 +151,10 @@ module _ (ds : List Description) (matches : List Match) (ssa : Ssa) (deps : List
 
     pub meets-end : (plan : List Packed) (numbers : List ℕ) (i : ℕ) (old new : Met) → length numbers ≤ i
         → Names no_pack packs numbers (tried world plan)
-        → Meets ds matches ssa deps packs level plan (map (pack_at packs) (take i numbers)) old new
-        → Meets ds matches ssa deps packs level plan (tried world plan) old new
+        → Meets ch ds matches ssa deps packs level plan (map (pack_at packs) (take i numbers)) old new
+        → Meets ch ds matches ssa deps packs level plan (tried world plan) old new
     meets-end plan numbers i old new l names a =
-        subst (λ ps. Meets ds matches ssa deps packs level plan ps old new) (ap (map (pack_at packs)) (take-whole i numbers l) ∙ names.names) a
+        subst (λ ps. Meets ch ds matches ssa deps packs level plan ps old new) (ap (map (pack_at packs)) (take-whole i numbers l) ∙ names.names) a
 
     -- a number that is tried
     pub number-tried : (plan : List Packed) (numbers : List ℕ) (i : ℕ) → i < length numbers → Names no_pack packs numbers (tried world plan)
@@ -165,9 +167,9 @@ module _ (ds : List Description) (matches : List Match) (ssa : Ssa) (deps : List
 
     -- a candidate that is met
     pub is-candidate : (parent pack cost : ℕ) → parent < length level → pack < length packs
-        → IsPlanFor ds matches ssa deps (plan_at level parent ++ pack_at packs pack ∷ [])
+        → IsPlanBy ch ds matches ssa deps (plan_at level parent ++ pack_at packs pack ∷ [])
         → cost ≡ cost_of ds matches ssa deps (plan_at level parent ++ pack_at packs pack ∷ [])
-        → IsCandidate ds matches ssa deps packs level (record { parent = parent; pack = pack; cost = cost })
+        → IsCandidate ch ds matches ssa deps packs level (record { parent = parent; pack = pack; cost = cost })
     is-candidate parent pack cost l m is price = record {
       placed = record { parent = l; pack = m };
       plan = is;
@@ -175,17 +177,17 @@ module _ (ds : List Description) (matches : List Match) (ssa : Ssa) (deps : List
     }
 
     -- what holds of all candidates
-    pub all-placed : (cs : List Candidate) → Every (IsCandidate ds matches ssa deps packs level) cs → Every (IsPlaced packs level) cs
+    pub all-placed : (cs : List Candidate) → Every (IsCandidate ch ds matches ssa deps packs level) cs → Every (IsPlaced packs level) cs
     all-placed [] a = tt
     all-placed (c ∷ cs) a = (a.0.placed, all-placed cs a.1)
 
-    pub all-plans : (cs : List Candidate) → Every (IsCandidate ds matches ssa deps packs level) cs
-        → Every (IsPlanFor ds matches ssa deps) (grown_plans packs level cs)
+    pub all-plans : (cs : List Candidate) → Every (IsCandidate ch ds matches ssa deps packs level) cs
+        → Every (IsPlanBy ch ds matches ssa deps) (grown_plans packs level cs)
     all-plans [] a = tt
     all-plans (c ∷ cs) a = (a.0.plan, all-plans cs a.1)
 
-    pub all-growing : HaveShortPacks ds matches ssa deps → (cs : List Candidate) → Every (IsCandidate ds matches ssa deps packs level) cs
-        → Every (CanGrow ds matches ssa packs level) cs
+    pub all-growing : HaveShortPacksBy ch ds matches ssa deps → (cs : List Candidate) → Every (IsCandidate ch ds matches ssa deps packs level) cs
+        → Every (CanGrow ch ds matches ssa packs level) cs
     all-growing short [] a = tt
     all-growing short (c ∷ cs) a = (
       record {
@@ -196,12 +198,12 @@ module _ (ds : List Description) (matches : List Match) (ssa : Ssa) (deps : List
       all-growing short cs a.1,
     )
 
-    pub all-priced : (cs : List Candidate) → Every (IsCandidate ds matches ssa deps packs level) cs
+    pub all-priced : (cs : List Candidate) → Every (IsCandidate ch ds matches ssa deps packs level) cs
         → Every (HasPrice (λ (p : PricedPlan). p.plan) (λ (p : PricedPlan). p.cost) (cost_of ds matches ssa deps)) (priced_plans packs level cs)
     all-priced [] a = tt
     all-priced (c ∷ cs) a = (a.0.cost, all-priced cs a.1)
 
-    pub each-priced : (cs : List Candidate) → Every (IsCandidate ds matches ssa deps packs level) cs
+    pub each-priced : (cs : List Candidate) → Every (IsCandidate ch ds matches ssa deps packs level) cs
         → Every (HasPrice (grown_plan packs level) (λ (c : Candidate). c.cost) (cost_of ds matches ssa deps)) cs
     each-priced [] a = tt
     each-priced (c ∷ cs) a = (a.0.cost, each-priced cs a.1)
@@ -220,19 +222,19 @@ plans-priced packs level (c ∷ cs) = ap (λ l. grown_plan packs level c ∷ l) 
 
 -- ---- growing
 
-module _ (ds : List Description) (matches : List Match) (ssa : Ssa) where
+module _ (ch : Choice) (ds : List Description) (matches : List Match) (ssa : Ssa) where
   abbrev independent : World Packed Operand Operand
-  independent = packing ds matches ssa []
+  independent = packing_by ch ds matches ssa []
 
-  pub kept-along : (packs longer : List Packed) (k : Kept) → Grows packs longer → IsKept ds matches ssa packs k → IsKept ds matches ssa longer k
+  pub kept-along : (packs longer : List Packed) (k : Kept) → Grows packs longer → IsKept ch ds matches ssa packs k → IsKept ch ds matches ssa longer k
   kept-along packs longer k g is = record {
     stands = is.stands;
     key = subst (λ l. IsKey no_pack l k.key (plan_of k)) (sym g.1) (key-grow no_pack packs g.0 k.key (plan_of k) is.key);
     tried = names-along packs longer k.tried (tried independent (plan_of k)) g is.tried;
   }
 
-  pub all-along : (packs longer : List Packed) (ks : List Kept) → Grows packs longer → Every (IsKept ds matches ssa packs) ks
-      → Every (IsKept ds matches ssa longer) ks
+  pub all-along : (packs longer : List Packed) (ks : List Kept) → Grows packs longer → Every (IsKept ch ds matches ssa packs) ks
+      → Every (IsKept ch ds matches ssa longer) ks
   all-along packs longer [] g a = tt
   all-along packs longer (k ∷ ks) g a = (kept-along packs longer k g a.0, all-along packs longer ks g a.1)
 
@@ -241,25 +243,25 @@ module _ (ds : List Description) (matches : List Match) (ssa : Ssa) where
   grown-along packs longer level c g l = ap (λ p. plan_at level c.parent ++ p ∷ []) (at-along packs longer c.pack g l)
 
   pub candidate-along : (packs longer : List Packed) (level : List Kept) (c : Candidate) → Grows packs longer
-      → CanGrow ds matches ssa packs level c → CanGrow ds matches ssa longer level c
+      → CanGrow ch ds matches ssa packs level c → CanGrow ch ds matches ssa longer level c
   candidate-along packs longer level c g is = record {
     placed = record { parent = is.placed.parent; pack = inside-along packs longer c.pack g is.placed.pack };
     short = subst IsShort (sym (at-along packs longer c.pack g is.placed.pack)) is.short;
-    plan = (is.plan.0, subst (IsPlanFor ds matches ssa is.plan.0) (sym (grown-along packs longer level c g is.placed.pack)) is.plan.1);
+    plan = (is.plan.0, subst (IsPlanBy ch ds matches ssa is.plan.0) (sym (grown-along packs longer level c g is.placed.pack)) is.plan.1);
   }
 
-  pub kept-grown : (old new : Board) (k next : Kept) (n : ℕ) → n < length old.packs.items → IsKept ds matches ssa old.packs.items k
-      → IsOpened ds matches ssa old new n
+  pub kept-grown : (old new : Board) (k next : Kept) (n : ℕ) → n < length old.packs.items → IsKept ch ds matches ssa old.packs.items k
+      → IsOpened ch ds matches ssa old new n
       → plan_of next ≡ plan_of k ++ pack_at old.packs.items n ∷ [] → StandsFor ds matches ssa next.running
       → next.key ≡ with_number n k.key → next.tried ≡ k.tried ++ produced_at new n
-      → IsKept ds matches ssa new.packs.items next
+      → IsKept ch ds matches ssa new.packs.items next
   kept-grown old new k next n l is o e stands key numbers =
       let there = kept-along old.packs.items new.packs.items k o.grows is in
       let p = pack_at old.packs.items n in
       let same : pack_at new.packs.items n ≡ p = at-along old.packs.items new.packs.items n o.grows l in
-      let behind : tried independent (plan_of k ++ p ∷ []) ≡ tried independent (plan_of k) ++ produced_by ds matches ssa p =
-      ap (λ q. store_groups ssa ++ q) (flat-snoc (produced_by ds matches ssa) (plan_of k) p)
-      ∙ sym (append_assoc (store_groups ssa) (flat_map (produced_by ds matches ssa) (plan_of k)) (produced_by ds matches ssa p)) in
+      let behind : tried independent (plan_of k ++ p ∷ []) ≡ tried independent (plan_of k) ++ produced_by ch ds matches ssa p =
+      ap (λ q. groups_by ch ssa ++ q) (flat-snoc (produced_by ch ds matches ssa) (plan_of k) p)
+      ∙ sym (append_assoc (groups_by ch ssa) (flat_map (produced_by ch ds matches ssa) (plan_of k)) (produced_by ch ds matches ssa p)) in
       record {
         stands = stands;
         key = subst (λ q. IsKey no_pack new.packs.items next.key q) (sym e)
@@ -269,42 +271,42 @@ module _ (ds : List Description) (matches : List Match) (ssa : Ssa) where
         tried = subst (λ q. Names no_pack new.packs.items next.tried (tried independent q)) (sym e)
             (subst (λ q. Names no_pack new.packs.items q (tried independent (plan_of k ++ p ∷ []))) (sym numbers)
             (subst (Names no_pack new.packs.items (k.tried ++ produced_at new n)) (sym behind)
-            (names-join no_pack new.packs.items k.tried (produced_at new n) (tried independent (plan_of k)) (produced_by ds matches ssa p) there.tried o.produced)));
+            (names-join no_pack new.packs.items k.tried (produced_at new n) (tried independent (plan_of k)) (produced_by ch ds matches ssa p) there.tried o.produced)));
       }
 
   pub kept-first : (packs : List Packed) (k : Kept) (groups : List Packed) → plan_of k ≡ [] → StandsFor ds matches ssa k.running
-      → k.key ≡ [] → Names no_pack packs k.tried groups → groups ≡ store_groups ssa → IsKept ds matches ssa packs k
+      → k.key ≡ [] → Names no_pack packs k.tried groups → groups ≡ groups_by ch ssa → IsKept ch ds matches ssa packs k
   kept-first packs k groups e stands key names g = record {
     stands = stands;
     key = subst (λ q. IsKey no_pack packs k.key q) (sym e) (subst (λ q. IsKey no_pack packs q []) (sym key) (key-none no_pack packs));
     tried = subst (λ q. Names no_pack packs k.tried (tried independent q)) (sym e)
-        (subst (Names no_pack packs k.tried) (g ∙ sym (append-nil (store_groups ssa))) names);
+        (subst (Names no_pack packs k.tried) (g ∙ sym (append-nil (groups_by ch ssa))) names);
   }
 
-  pub grown-first : (b : Board) (level : List Kept) (ks : List Kept) → ks ≡ [] → IsBoard ds matches ssa b
-      → AreGrown ds matches ssa b b level [] ks
+  pub grown-first : (b : Board) (level : List Kept) (ks : List Kept) → ks ≡ [] → IsBoard ch ds matches ssa b
+      → AreGrown ch ds matches ssa b b level [] ks
   grown-first b level ks e is = record {
     board = is;
     grows = grows-same b.packs.items;
-    kept = subst (Every (IsKept ds matches ssa b.packs.items)) (sym e) tt;
+    kept = subst (Every (IsKept ch ds matches ssa b.packs.items)) (sym e) tt;
     plans = ap plans_of e;
   }
 
   pub grown-more : (first mid new : Board) (level : List Kept) (cs : List Candidate) (i : ℕ) (d : Candidate) (ks next : List Kept) (k : Kept)
-      → i < length cs → AreGrown ds matches ssa first mid level (take i cs) ks
-      → IsGrown ds matches ssa mid new level (get_or cs i d) k → Every (CanGrow ds matches ssa first.packs.items level) cs → next ≡ ks ++ k ∷ []
-      → AreGrown ds matches ssa first new level (take (i + 1) cs) next
+      → i < length cs → AreGrown ch ds matches ssa first mid level (take i cs) ks
+      → IsGrown ch ds matches ssa mid new level (get_or cs i d) k → Every (CanGrow ch ds matches ssa first.packs.items level) cs → next ≡ ks ++ k ∷ []
+      → AreGrown ch ds matches ssa first new level (take (i + 1) cs) next
   grown-more first mid new level cs i d ks next k l a b all e =
       let c = get_or cs i d in
-      let candidate = every-any (CanGrow ds matches ssa first.packs.items level) cs i d all l in
+      let candidate = every-any (CanGrow ch ds matches ssa first.packs.items level) cs i d all l in
       let more : take (i + 1) cs ≡ take i cs ++ c ∷ [] = take_more cs i d l in
       let plan : plan_of k ≡ grown_plan first.packs.items level c =
       b.plan ∙ grown-along first.packs.items mid.packs.items level c a.grows candidate.placed.pack in
       record {
         board = b.board;
         grows = grows-join first.packs.items mid.packs.items new.packs.items a.grows b.grows;
-        kept = subst (Every (IsKept ds matches ssa new.packs.items)) (sym e)
-            (every-append (IsKept ds matches ssa new.packs.items) ks (k ∷ [])
+        kept = subst (Every (IsKept ch ds matches ssa new.packs.items)) (sym e)
+            (every-append (IsKept ch ds matches ssa new.packs.items) ks (k ∷ [])
             (all-along mid.packs.items new.packs.items ks b.grows a.kept) (b.kept, tt));
         plans =
             ap plans_of e ∙ map-append plan_of ks (k ∷ []) ∙ ap (λ q. q ++ plan_of k ∷ []) a.plans
@@ -313,5 +315,5 @@ module _ (ds : List Description) (matches : List Match) (ssa : Ssa) where
       }
 
   pub grown-all : (old new : Board) (level : List Kept) (cs : List Candidate) (i : ℕ) (ks : List Kept) → length cs ≤ i
-      → AreGrown ds matches ssa old new level (take i cs) ks → AreGrown ds matches ssa old new level cs ks
-  grown-all old new level cs i ks l a = subst (λ q. AreGrown ds matches ssa old new level q ks) (take-whole i cs l) a
+      → AreGrown ch ds matches ssa old new level (take i cs) ks → AreGrown ch ds matches ssa old new level cs ks
+  grown-all old new level cs i ks l a = subst (λ q. AreGrown ch ds matches ssa old new level q ks) (take-whole i cs l) a

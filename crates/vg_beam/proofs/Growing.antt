@@ -6,8 +6,9 @@ use Rattle.std.proofs.lemmas.Bool.{cases_Bool}
 use Rattle.std.proofs.lemmas.Bool.Decides.{nat_tests}
 use Rattle.std.proofs.lemmas.List.{drop_more, take_more, map-append}
 use Rattle.vg_plans.specs.Members.{Every}
-use Rattle.vg_plans.specs.Levels.{distinct_onto, grown, candidates, chosen, first_least, insert_by, kept_of, level_of, met_after, met_within, sort_by}
+use Rattle.vg_plans.specs.Levels.{distinct_onto, grown, candidates, first_least, insert_by, kept_of, kept_within, level_of, met_after, met_within, sort_by}
 use Rattle.vg_plans.proofs.Lists.{every-sort, take-whole}
+use Rattle.vg_plans.proofs.Prices.{least-append}
 use Rattle.vg_beam.specs.Grown.{grown_by, least_from}
 use Rattle.vg_plans.proofs.Onto.{onto-append, onto-distinct}
 
@@ -204,10 +205,6 @@ kept-cut key width xs lt = let f : nat_le (length xs) width ≡ false = grind (a
 
 -- ---- one size after the other
 
-least-append : {X : Type 0} (key : X → ℕ) (best : X) (xs ys : List X) → first_least key best (xs ++ ys) ≡ first_least key (first_least key best xs) ys
-least-append key best [] ys = refl
-least-append key best (x ∷ xs) ys = least-append key (if nat_lt (key x) (key best) then x else best) xs ys
-
 module _ {P : Type 0} (follows : List P → List P) (same : List P → List P → Bool) (cost : List P → ℕ) (width : ℕ) where
   pub first-level : (level : List (List P)) → level ≡ [] ∷ [] → level ≡ level_of follows same cost width 0
   unfolding level_of
@@ -218,15 +215,40 @@ module _ {P : Type 0} (follows : List P → List P) (same : List P → List P �
   unfolding level_of
   next-level d level next e n = rw add-one (n ∙ ap (λ l. kept_of cost width (candidates follows same l)) e)
 
-  pub first-best : (plain best : List P) → best ≡ first_least cost [] (plain ∷ []) → best ≡ chosen follows same cost width 0 plain
+  -- no plan is met yet
+  pub first-met : (first : List P) → first ≡ first_least cost first (met_within follows same cost width 0)
   unfolding met_within
-  first-best plain best e = e
+  first-met first = refl
 
-  pub next-best : (d : ℕ) (level : List (List P)) (plain best better : List P) → level ≡ level_of follows same cost width d
-      → best ≡ chosen follows same cost width d plain → better ≡ first_least cost best (candidates follows same level)
-      → better ≡ chosen follows same cost width (d + 1) plain
+  pub next-met : (d : ℕ) (level : List (List P)) (first best better : List P) → level ≡ level_of follows same cost width d
+      → best ≡ first_least cost first (met_within follows same cost width d) → better ≡ first_least cost best (candidates follows same level)
+      → better ≡ first_least cost first (met_within follows same cost width (d + 1))
   unfolding met_within
-  next-best d level plain best better e b n =
+  next-met d level first best better e b n =
       rw add-one (n ∙ ap (λ l. first_least cost l (candidates follows same level)) b
-      ∙ ap (λ l. first_least cost (chosen follows same cost width d plain) (candidates follows same l)) e
-      ∙ sym (least-append cost [] (plain ∷ met_within follows same cost width d) (met_after follows same cost width d)))
+      ∙ ap (λ l. first_least cost (first_least cost first (met_within follows same cost width d)) (candidates follows same l)) e
+      ∙ sym (least-append cost first (met_within follows same cost width d) (met_after follows same cost width d)))
+
+  -- no plan is kept yet, whose completed plan counts
+  pub first-kept : (whole : List P → List P) (start : List P)
+      → start ≡ first_least cost start (map whole (kept_within follows same cost width 0))
+  unfolding kept_within
+  first-kept whole start = refl
+
+  pub next-kept : (whole : List P → List P) (d : ℕ) (level : List (List P)) (start best better : List P)
+      → level ≡ level_of follows same cost width (d + 1)
+      → best ≡ first_least cost start (map whole (kept_within follows same cost width d))
+      → better ≡ first_least cost best (map whole level)
+      → better ≡ first_least cost start (map whole (kept_within follows same cost width (d + 1)))
+  unfolding kept_within
+  next-kept whole d level start best better e b n =
+      rw add-one (n ∙ ap (λ l. first_least cost l (map whole level)) b
+      ∙ ap (λ l. first_least cost (first_least cost start (map whole (kept_within follows same cost width d))) (map whole l)) (e ∙ ap (level_of follows same cost width) (add-one d))
+      ∙ sym (least-append cost start (map whole (kept_within follows same cost width d)) (map whole (level_of follows same cost width (suc d))))
+      ∙ ap (first_least cost start) (sym (map-append whole (kept_within follows same cost width d) (level_of follows same cost width (suc d)))))
+
+  -- nothing is met or kept yet
+  pub none-found : (whole : List P → List P) (first : List P)
+      → first ≡ first_least cost first (met_within follows same cost width 0 ++ map whole (kept_within follows same cost width 0))
+  unfolding met_within kept_within
+  none-found whole first = refl

@@ -1,9 +1,11 @@
 -- The board on which packs have numbers.
 use Rattle.std.specs.Prelude.{◌≡◌, ◌<◌, ◌++◌, ℕ, List, [], length, get_or, Option, Some, None}
 use Rattle.std.specs.List.{flat_map}
-use Rattle.vg_packing.specs.Producers.{producers}
+use Rattle.vg_packing.specs.Fed.{packing_by}
 use Rattle.vg_packing.specs.Taken.{operands_of}
+use Rattle.vg_packing.specs.declared.choice.Choice.{Choice}
 use Rattle.vg_shapes.specs.declared.match_table.Match.{Match}
+use Rattle.vg_plans.specs.World.{tried_for}
 use Rattle.vg_shapes.specs.declared.pack.Pack.{Pack as Packed}
 use Rattle.vg_shapes.specs.declared.pack.Pack.TheVariants.{Stores}
 use Rattle.vg_shapes.specs.declared.ssa.Ssa.{Ssa}
@@ -18,22 +20,24 @@ no_pack = Stores []
 abbrev pub pack_at : List Packed → ℕ → Packed
 pack_at packs n = get_or packs n no_pack
 
--- the packs that produce what a pack takes
-abbrev pub produced_by : List Description → List Match → Ssa → Packed → List Packed
-produced_by ds matches ssa p = flat_map (producers ds matches ssa) (operands_of ds matches ssa p)
+-- the packs that are tried for what a pack takes
+abbrev pub produced_by : Choice → List Description → List Match → Ssa → Packed → List Packed
+produced_by ch ds matches ssa p =
+    flat_map (tried_for (packing_by ch ds matches ssa [])) (operands_of ds matches ssa p)
 
--- the numbers of the packs that produce what a pack takes, if they were looked for
-abbrev pub AreProduced : List Description → List Match → Ssa → List Packed → Packed → Option (List ℕ) → Type 0
-AreProduced ds matches ssa packs p None = Unit {0}
-AreProduced ds matches ssa packs p (Some numbers) = Names no_pack packs numbers (produced_by ds matches ssa p)
+-- the numbers of the packs that are tried for what a pack takes, if they were looked for
+abbrev pub AreProduced :
+    Choice → List Description → List Match → Ssa → List Packed → Packed → Option (List ℕ) → Type 0
+AreProduced ch ds matches ssa packs p None = Unit {0}
+AreProduced ch ds matches ssa packs p (Some numbers) = Names no_pack packs numbers (produced_by ch ds matches ssa p)
 
--- each pack stands once, and what it takes is produced by what is noted
-pub record IsBoard (ds : List Description) (matches : List Match) (ssa : Ssa) (b : Board) : Type 0 where
+-- each pack stands once, and for what it takes is tried what is noted
+pub record IsBoard (ch : Choice) (ds : List Description) (matches : List Match) (ssa : Ssa) (b : Board) : Type 0 where
   pub apart : AreApart no_pack b.packs.items
   pub long : length b.produced.items ≡ length b.packs.items
   pub produced :
       (n : ℕ) → n < length b.packs.items
-      → AreProduced ds matches ssa b.packs.items (pack_at b.packs.items n) (get_or b.produced.items n None)
+      → AreProduced ch ds matches ssa b.packs.items (pack_at b.packs.items n) (get_or b.produced.items n None)
 
 -- packs keep their numbers
 abbrev pub Grows : List Packed → List Packed → Type 0
@@ -48,20 +52,31 @@ abbrev pub produced_at : Board → ℕ → List ℕ
 produced_at b n = numbers_in (get_or b.produced.items n None)
 
 -- a pack has a number on a board that grew
-pub record IsNumbered (ds : List Description) (matches : List Match) (ssa : Ssa) (old new : Board) (p : Packed) (n : ℕ) : Type 0 where
-  pub board : IsBoard ds matches ssa new
+pub record IsNumbered
+    (ch : Choice) (ds : List Description) (matches : List Match) (ssa : Ssa)
+    (old new : Board) (p : Packed) (n : ℕ)
+    : Type 0 where
+  pub board : IsBoard ch ds matches ssa new
   pub grows : Grows old.packs.items new.packs.items
   pub inside : n < length new.packs.items
   pub pack : pack_at new.packs.items n ≡ p
 
 -- packs have numbers on a board that grew
-pub record AreNumbered (ds : List Description) (matches : List Match) (ssa : Ssa) (old new : Board) (ps : List Packed) (numbers : List ℕ) : Type 0 where
-  pub board : IsBoard ds matches ssa new
+pub record AreNumbered
+    (ch : Choice) (ds : List Description) (matches : List Match) (ssa : Ssa)
+    (old new : Board) (ps : List Packed) (numbers : List ℕ)
+    : Type 0 where
+  pub board : IsBoard ch ds matches ssa new
   pub grows : Grows old.packs.items new.packs.items
   pub names : Names no_pack new.packs.items numbers ps
 
--- what a pack takes is produced by what is noted, on a board that grew
-pub record IsOpened (ds : List Description) (matches : List Match) (ssa : Ssa) (old new : Board) (n : ℕ) : Type 0 where
-  pub board : IsBoard ds matches ssa new
+-- for what a pack takes is tried what is noted, on a board that grew
+pub record IsOpened
+    (ch : Choice) (ds : List Description) (matches : List Match) (ssa : Ssa)
+    (old new : Board) (n : ℕ)
+    : Type 0 where
+  pub board : IsBoard ch ds matches ssa new
   pub grows : Grows old.packs.items new.packs.items
-  pub produced : Names no_pack new.packs.items (produced_at new n) (produced_by ds matches ssa (pack_at old.packs.items n))
+  pub produced :
+      Names no_pack new.packs.items (produced_at new n)
+      (produced_by ch ds matches ssa (pack_at old.packs.items n))

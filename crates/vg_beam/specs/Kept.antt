@@ -1,8 +1,9 @@
 -- Plans that are kept.
 use Rattle.std.specs.Prelude.{ℕ, List, [], get_or, map}
 use Rattle.vg_cost.specs.Running.{StandsFor}
-use Rattle.vg_packing.specs.Packing.{packing}
+use Rattle.vg_packing.specs.Fed.{packing_by}
 use Rattle.vg_plans.specs.World.{tried}
+use Rattle.vg_packing.specs.declared.choice.Choice.{Choice}
 use Rattle.vg_shapes.specs.declared.match_table.Match.{Match}
 use Rattle.vg_shapes.specs.declared.pack.Pack.{Pack as Packed}
 use Rattle.vg_shapes.specs.declared.ssa.Ssa.{Ssa}
@@ -24,8 +25,8 @@ plan_at level place = get_or (plans_of level) place []
 -- a plan's cost, its key, and the numbers of the packs that are tried after it: they are told by the
 -- packs alone, whatever depends on what
 pub record IsKept
-    (ds : List Description) (matches : List Match) (ssa : Ssa) (packs : List Packed) (k : Kept)
+    (ch : Choice) (ds : List Description) (matches : List Match) (ssa : Ssa) (packs : List Packed) (k : Kept)
     : Type 0 where
   pub stands : StandsFor ds matches ssa k.running
   pub key : IsKey no_pack packs k.key (plan_of k)
-  pub tried : Names no_pack packs k.tried (tried (packing ds matches ssa []) (plan_of k))
+  pub tried : Names no_pack packs k.tried (tried (packing_by ch ds matches ssa []) (plan_of k))

@@ -7,3 +7,4 @@ pub mod Key
 pub mod Met
 pub mod Priced
 pub mod SearchSpace
+pub mod Turn

@@ -1,10 +1,11 @@
 -- The plans of a level that were met.
 use Rattle.std.specs.Prelude.{◌≡◌, ℕ, Bool, List}
 use Rattle.std.specs.List.{list_any}
-use Rattle.vg_packing.specs.Packing.{packing}
+use Rattle.vg_packing.specs.Fed.{packing_by}
 use Rattle.vg_plans.specs.Levels.{distinct_onto}
 use Rattle.vg_plans.specs.Members.{Every}
 use Rattle.vg_plans.specs.World.{same_packs, stays_plan}
+use Rattle.vg_packing.specs.declared.choice.Choice.{Choice}
 use Rattle.vg_shapes.specs.declared.match_table.Match.{Match}
 use Rattle.vg_shapes.specs.declared.pack.Pack.{Pack as Packed}
 use Rattle.vg_shapes.specs.declared.ssa.Ssa.{Ssa}
@@ -22,22 +23,22 @@ is_known m key = has_key (λ k. k.items) m.keys.keys key
 
 -- the candidates, and the keys of their plans
 pub record IsMet
-    (ds : List Description) (matches : List Match) (ssa : Ssa) (deps : List (ℕ × ℕ))
+    (ch : Choice) (ds : List Description) (matches : List Match) (ssa : Ssa) (deps : List (ℕ × ℕ))
     (packs : List Packed) (level : List Kept) (m : Met)
     : Type 0 where
-  pub candidates : Every (IsCandidate ds matches ssa deps packs level) m.candidates.items
+  pub candidates : Every (IsCandidate ch ds matches ssa deps packs level) m.candidates.items
   pub known :
       (key : List ℕ) (plan : List Packed) → IsKey no_pack packs key plan
       → is_known m key
-      ≡ list_any (same_packs (packing ds matches ssa deps) plan) (grown_plans packs level m.candidates.items)
+      ≡ list_any (same_packs (packing_by ch ds matches ssa deps) plan) (grown_plans packs level m.candidates.items)
 
 -- a plan is met with each of these packs after it with which it stays a plan
 pub record Meets
-    (ds : List Description) (matches : List Match) (ssa : Ssa) (deps : List (ℕ × ℕ))
+    (ch : Choice) (ds : List Description) (matches : List Match) (ssa : Ssa) (deps : List (ℕ × ℕ))
     (packs : List Packed) (level : List Kept) (plan tried : List Packed) (old new : Met)
     : Type 0 where
-  pub met : IsMet ds matches ssa deps packs level new
+  pub met : IsMet ch ds matches ssa deps packs level new
   pub plans :
       grown_plans packs level new.candidates.items
-      ≡ distinct_onto (same_packs (packing ds matches ssa deps)) (grown_plans packs level old.candidates.items)
-      (grown_by (stays_plan (packing ds matches ssa deps) plan) plan tried)
+      ≡ distinct_onto (same_packs (packing_by ch ds matches ssa deps)) (grown_plans packs level old.candidates.items)
+      (grown_by (stays_plan (packing_by ch ds matches ssa deps) plan) plan tried)

@@ -13,21 +13,21 @@ ghost use Rattle.vg_beam.specs.Board.{
   produced_at,
 };
 ghost use Rattle.vg_beam.specs.Key.{first_place};
-ghost use Rattle.vg_beam.specs.SearchSpace.{described};
+ghost use Rattle.vg_beam.specs.SearchSpace.{HasGroups, choice_of, described};
 
 use crate::search_space::SearchSpace;
 use std::alloc::{AllocError, Global};
 use vg_base::Items;
 use vg_packing::copies::copy_pack;
 use vg_packing::same::is_same_pack;
-use vg_packs::produced;
+use vg_packs::tried_by;
 use vg_shapes::Pack;
 
 /// The greatest number of packs.
 const MOST: usize = 1 << 24;
 
-/// Packs, no two the same, each named by its number, and for each the numbers of those that produce
-/// what it takes, once they were looked for.
+/// Packs, no two the same, each named by its number, and for each the numbers of those that are tried
+/// for what it takes, once they were looked for.
 #[derive(Drop)]
 pub(crate) struct Board {
     packs: Vec<Pack>,
@@ -71,10 +71,10 @@ impl Board {
     /// The number of a pack, which is put on the board if it is not there. Where there are some 2^24
     /// packs there is no memory.
     fn number(&mut self, alloc: Global, pack: &Pack, space: &SearchSpace) -> Result<u32, AllocError>
-        requires board { IsBoard (described space.now) space.now.table.now space.now.ssa.now
-            self.old }
-        ensures { IfOk result (IsNumbered (described space.now) space.now.table.now
-            space.now.ssa.now self.old self.new pack.now) }
+        requires board { IsBoard (choice_of space.now) (described space.now) space.now.table.now
+            space.now.ssa.now self.old }
+        ensures { IfOk result (IsNumbered (choice_of space.now) (described space.now)
+            space.now.table.now space.now.ssa.now self.old self.new pack.now) }
     {
         let place = place_of(self.packs.as_slice(), pack);
         if place >= MOST {
@@ -96,9 +96,9 @@ impl Board {
         packs: &[Pack],
         space: &SearchSpace,
     ) -> Result<Vec<u32>, AllocError>
-        requires board { IsBoard (described space.now) space.now.table.now space.now.ssa.now
-            self.old }
-        ensures { IfOk result (λ numbers. AreNumbered (described space.now)
+        requires board { IsBoard (choice_of space.now) (described space.now) space.now.table.now
+            space.now.ssa.now self.old }
+        ensures { IfOk result (λ numbers. AreNumbered (choice_of space.now) (described space.now)
             space.now.table.now space.now.ssa.now self.old self.new packs.now numbers.items) }
     {
         let mut numbers = Vec::new(alloc);
@@ -116,7 +116,7 @@ impl Board {
         self.produced[number as usize].is_some()
     }
 
-    /// Looks for the packs that produce what a pack takes, if they were not looked for.
+    /// Looks for the packs that are tried for what a pack takes, if they were not looked for.
     pub(crate) fn open(
         &mut self,
         alloc: Global,
@@ -124,20 +124,22 @@ impl Board {
         space: &SearchSpace,
     ) -> Result<(), AllocError>
         requires near { MatchesNear space.now.table.now }
+        requires groups { HasGroups space.now }
         requires number { number < length self.old.packs.items }
-        requires board { IsBoard (described space.now) space.now.table.now space.now.ssa.now
-            self.old }
-        ensures { OnOk result (IsOpened (described space.now) space.now.table.now space.now.ssa.now
-            self.old self.new number) }
+        requires board { IsBoard (choice_of space.now) (described space.now) space.now.table.now
+            space.now.ssa.now self.old }
+        ensures { OnOk result (IsOpened (choice_of space.now) (described space.now)
+            space.now.table.now space.now.ssa.now self.old self.new number) }
     {
         if self.is_open(number) {
             return Ok(());
         }
-        let packs = produced(
+        let packs = tried_by(
             alloc,
             space.descriptions,
             space.table,
             space.ssa,
+            space.groups,
             self.pack(number),
         )?;
         let numbers = self.number_all(alloc, packs.as_slice(), space)?;
@@ -145,7 +147,7 @@ impl Board {
         Ok(())
     }
 
-    /// The numbers of the packs that produce what a pack takes, if they were looked for.
+    /// The numbers of the packs that are tried for what a pack takes, if they were looked for.
     pub(crate) fn produced(&self, number: u32) -> &[u32]
         requires { number < length self.now.produced.items }
         ensures { result.now ≡ produced_at self.now number }

@@ -1,24 +1,24 @@
 //! The chosen plan.
 
-ghost use Rattle.std.specs.Prelude.{◌≡◌, ◌∷◌, [], IfOk, map};
-ghost use Rattle.vg_packing.specs.Laws.{cost_of};
-ghost use Rattle.vg_packing.specs.Packing.{chosen_of, plain_of, sizes_of};
+ghost use Rattle.std.specs.Prelude.{◌≡◌, IfOk, map};
+ghost use Rattle.vg_packing.specs.Packing.{chosen_of, sizes_of};
 ghost use Rattle.vg_packing.specs.Taken.{MatchesNear};
 ghost use Rattle.vg_packs.specs.Walk.{NameEarlierUnits};
-ghost use Rattle.vg_plans.specs.Levels.{chosen, first_least};
-ghost use Rattle.vg_plans.specs.World.{follows, plan_cost, same_packs};
+ghost use Rattle.vg_plans.specs.Levels.{first_least, met_within};
+ghost use Rattle.vg_plans.specs.World.{follows, same_packs};
 ghost use Rattle.vg_shapes.specs.Description.{description_of};
-ghost use Rattle.vg_beam.specs.Chosen.{HaveShortPacks, IsChosen};
-ghost use Rattle.vg_beam.specs.SearchSpace.{described, world_of};
+ghost use Rattle.vg_beam.specs.Chosen.{HaveShortPacks, HaveShortPacksBy, IsChosen};
+ghost use Rattle.vg_beam.specs.SearchSpace.{HasGroups, choice_of, cost_in, described, world_of};
 
 use crate::board::Board;
-use crate::candidate::keep;
-use crate::kept::{empty_plan, grow_all};
-use crate::priced_plan::{PricedPlan, first_plan, lesser};
-use crate::search::candidates;
+use crate::kept::empty_plan;
+use crate::priced_plan::{PricedPlan, first_plan};
 use crate::search_space::SearchSpace;
+use crate::turn::turn;
 use std::alloc::{AllocError, Global};
-use vg_packing::{chosen_plans_are_optimal, chosen_plans_fit, kernel_plans_are_short};
+use vg_packing::{
+    Choice, LoadGroups, chosen_plans_are_optimal, chosen_plans_fit, kernel_plans_are_short,
+};
 use vg_shapes::{DepList, Description, MatchTable, Plan, Ssa};
 
 /// The greatest number of units of a kernel whose plans are searched.
@@ -35,16 +35,13 @@ fn search(
 ) -> Result<Plan, AllocError>
     requires near { MatchesNear space.now.table.now }
     requires earlier { NameEarlierUnits space.now.ssa.now space.now.deps.now }
-    requires short { HaveShortPacks (described space.now) space.now.table.now space.now.ssa.now
-        space.now.deps.now }
-    requires plan { first.plan ≡ first_least (cost_of (described space.now) space.now.table.now
-        space.now.ssa.now space.now.deps.now) [] (plain_of (described space.now) space.now.table.now
-        space.now.ssa.now space.now.deps.now ∷ []) }
-    requires cost { first.cost ≡ cost_of (described space.now) space.now.table.now space.now.ssa.now
-        space.now.deps.now first.plan }
-    ensures { IfOk result (λ plan. plan ≡ chosen (follows (world_of space.now)) (same_packs
-        (world_of space.now)) (plan_cost (world_of space.now)) width sizes (plain_of (described
-        space.now) space.now.table.now space.now.ssa.now space.now.deps.now)) }
+    requires groups { HasGroups space.now }
+    requires short { HaveShortPacksBy (choice_of space.now) (described space.now)
+        space.now.table.now space.now.ssa.now space.now.deps.now }
+    requires cost { first.cost ≡ cost_in space.now first.plan }
+    ensures { IfOk result (λ plan. plan ≡ first_least (cost_in space.now) first.plan (met_within
+        (follows (world_of space.now)) (same_packs (world_of space.now)) (cost_in space.now) width
+        sizes)) }
 {
     let none = sizes == 0;
     if none {
@@ -56,19 +53,15 @@ fn search(
     level.push(empty)?;
     let mut best = first;
     'sizes: for _size in 0..sizes {
-        let plans = level.as_slice();
-        let met = candidates(alloc, &board, plans, space)?;
-        let better = lesser(alloc, best, &board, plans, met.as_slice())?;
-        best = better;
-        let kept = keep(met, width)?;
-        let next = grow_all(alloc, &mut board, plans, kept.as_slice(), space)?;
-        level = next;
+        let turned = turn(alloc, &mut board, level.as_slice(), best, space, width)?;
+        level = turned.next;
+        best = turned.better;
     }
     Ok(best.plan)
 }
 
 /// The greatest number of packs of plans that are searched: none in a kernel of more than 256 units.
-fn sizes_of(ssa: &Ssa) -> usize
+pub(crate) fn sizes_of(ssa: &Ssa) -> usize
     ensures { result ≡ sizes_of ssa.now }
 {
     let units = ssa.units.as_slice().len();
@@ -99,11 +92,17 @@ pub fn choose(
     chosen_plans_fit();
     chosen_plans_are_optimal();
     kernel_plans_are_short();
+    let choice = Choice {
+        fed: false,
+        aligned: false,
+    };
+    let groups = LoadGroups::new(alloc, choice, ssa)?;
     let space = SearchSpace {
         descriptions,
         table,
         ssa,
         deps,
+        groups: &groups,
     };
     let first = first_plan(alloc, &space)?;
     let sizes = sizes_of(ssa);

@@ -6,7 +6,7 @@ ghost use Rattle.vg_plans.specs.Members.{Every, Has};
 ghost use Rattle.vg_beam.specs.Board.{IsBoard};
 ghost use Rattle.vg_beam.specs.Candidate.{AreGrown, CanGrow, IsGrown};
 ghost use Rattle.vg_beam.specs.Kept.{IsKept, plan_at, plan_of};
-ghost use Rattle.vg_beam.specs.SearchSpace.{described};
+ghost use Rattle.vg_beam.specs.SearchSpace.{HasGroups, choice_of, described};
 
 use crate::board::Board;
 use crate::candidate::Candidate;
@@ -15,7 +15,7 @@ use crate::search_space::SearchSpace;
 use std::alloc::{AllocError, Global};
 use vg_base::Items;
 use vg_cost::Running;
-use vg_packs::store_groups;
+use vg_packs::groups_by;
 
 /// A plan that may grow: the plan with its cost, the numbers of its packs, rising, and the numbers of
 /// the packs that are tried after it.
@@ -42,15 +42,17 @@ pub(crate) fn empty_plan(
     space: &SearchSpace,
 ) -> Result<Kept, AllocError>
     requires near { MatchesNear space.now.table.now }
-    requires board { IsBoard (described space.now) space.now.table.now space.now.ssa.now board.old }
-    ensures board { OnOk result (IsBoard (described space.now) space.now.table.now space.now.ssa.now
-        board.new) }
-    ensures kept { IfOk result (IsKept (described space.now) space.now.table.now space.now.ssa.now
-        board.new.packs.items) }
+    requires groups { HasGroups space.now }
+    requires board { IsBoard (choice_of space.now) (described space.now) space.now.table.now
+        space.now.ssa.now board.old }
+    ensures board { OnOk result (IsBoard (choice_of space.now) (described space.now)
+        space.now.table.now space.now.ssa.now board.new) }
+    ensures kept { IfOk result (IsKept (choice_of space.now) (described space.now)
+        space.now.table.now space.now.ssa.now board.new.packs.items) }
     ensures plan { IfOk result (λ kept. plan_of kept ≡ []) }
 {
     let running = Running::new(alloc, space.descriptions, space.table, space.ssa)?;
-    let groups = store_groups(alloc, space.ssa)?;
+    let groups = groups_by(alloc, space.groups.choice, space.ssa)?;
     let tried = board.number_all(alloc, groups.as_slice(), space)?;
     Ok(Kept {
         running,
@@ -77,13 +79,15 @@ fn grow(
     space: &SearchSpace,
 ) -> Result<Kept, AllocError>
     requires near { MatchesNear space.now.table.now }
-    requires board { IsBoard (described space.now) space.now.table.now space.now.ssa.now board.old }
-    requires level { Every (IsKept (described space.now) space.now.table.now space.now.ssa.now
-        board.old.packs.items) level.now }
-    requires candidate { CanGrow (described space.now) space.now.table.now space.now.ssa.now
-        board.old.packs.items level.now candidate.now }
-    ensures { IfOk result (IsGrown (described space.now) space.now.table.now space.now.ssa.now
-        board.old board.new level.now candidate.now) }
+    requires groups { HasGroups space.now }
+    requires board { IsBoard (choice_of space.now) (described space.now) space.now.table.now
+        space.now.ssa.now board.old }
+    requires level { Every (IsKept (choice_of space.now) (described space.now) space.now.table.now
+        space.now.ssa.now board.old.packs.items) level.now }
+    requires candidate { CanGrow (choice_of space.now) (described space.now) space.now.table.now
+        space.now.ssa.now board.old.packs.items level.now candidate.now }
+    ensures { IfOk result (IsGrown (choice_of space.now) (described space.now) space.now.table.now
+        space.now.ssa.now board.old board.new level.now candidate.now) }
 {
     let parent = kept_at(level, candidate.parent);
     let pack = board.pack(candidate.pack);
@@ -110,13 +114,16 @@ pub(crate) fn grow_all(
     space: &SearchSpace,
 ) -> Result<Vec<Kept>, AllocError>
     requires near { MatchesNear space.now.table.now }
-    requires board { IsBoard (described space.now) space.now.table.now space.now.ssa.now board.old }
-    requires level { Every (IsKept (described space.now) space.now.table.now space.now.ssa.now
-        board.old.packs.items) level.now }
-    requires candidates { Every (CanGrow (described space.now) space.now.table.now space.now.ssa.now
-        board.old.packs.items level.now) candidates.now }
-    ensures { IfOk result (λ next. AreGrown (described space.now) space.now.table.now
-        space.now.ssa.now board.old board.new level.now candidates.now next.items) }
+    requires groups { HasGroups space.now }
+    requires board { IsBoard (choice_of space.now) (described space.now) space.now.table.now
+        space.now.ssa.now board.old }
+    requires level { Every (IsKept (choice_of space.now) (described space.now) space.now.table.now
+        space.now.ssa.now board.old.packs.items) level.now }
+    requires candidates { Every (CanGrow (choice_of space.now) (described space.now)
+        space.now.table.now space.now.ssa.now board.old.packs.items level.now) candidates.now }
+    ensures { IfOk result (λ next. AreGrown (choice_of space.now) (described space.now)
+        space.now.table.now space.now.ssa.now board.old board.new level.now candidates.now
+        next.items) }
 {
     let mut next = Vec::new(alloc);
     'candidates: for candidate in candidates {

@@ -8,11 +8,15 @@
 mod board;
 mod candidate;
 mod choosing;
+mod completing;
+mod fed;
 mod kept;
 mod key;
 mod met;
 mod priced_plan;
 mod search;
 mod search_space;
+mod turn;
 
 pub use choosing::choose;
+pub use fed::choose_fed;

@@ -1,16 +1,16 @@
 //! A plan and its cost.
 
 ghost use Rattle.std.specs.Prelude.{◌≡◌, ◌<◌, ◌∷◌, [], IfOk, length, map};
-ghost use Rattle.vg_packing.specs.Laws.{cost_of};
 ghost use Rattle.vg_packing.specs.Packing.{plain_of};
-ghost use Rattle.vg_packing.specs.Taken.{MatchesNear};
+ghost use Rattle.vg_packing.specs.Taken.{IsShort, MatchesNear};
+ghost use Rattle.std.specs.List.{AllByRecursion};
 ghost use Rattle.vg_packs.specs.Walk.{NameEarlierUnits};
 ghost use Rattle.vg_plans.specs.Levels.{first_least};
 ghost use Rattle.vg_plans.specs.Members.{Every};
 ghost use Rattle.vg_beam.specs.Candidate.{IsPlaced, grown_plan};
 ghost use Rattle.vg_beam.specs.Chosen.{HaveShortPacks};
 ghost use Rattle.vg_beam.specs.Priced.{priced_plans};
-ghost use Rattle.vg_beam.specs.SearchSpace.{described};
+ghost use Rattle.vg_beam.specs.SearchSpace.{cost_in, described};
 
 use crate::board::Board;
 use crate::candidate::{Candidate, least_below};
@@ -29,17 +29,51 @@ pub(crate) struct PricedPlan {
     pub(crate) cost: u64,
 }
 
+/// A plan with its cost.
+pub(crate) fn price(
+    alloc: Global,
+    plan: Plan,
+    space: &SearchSpace,
+) -> Result<PricedPlan, AllocError>
+    requires near { MatchesNear space.now.table.now }
+    requires short { AllByRecursion IsShort plan }
+    ensures plan { IfOk result (λ priced. priced.plan ≡ plan) }
+    ensures cost { IfOk result (λ priced. priced.cost ≡ cost_in space.now priced.plan) }
+{
+    let cost = plan_cost(alloc, &plan, space.descriptions, space.table, space.ssa)?;
+    Ok(PricedPlan { plan, cost })
+}
+
+/// The empty plan.
+pub(crate) fn empty_priced(alloc: Global, space: &SearchSpace) -> Result<PricedPlan, AllocError>
+    requires near { MatchesNear space.now.table.now }
+    ensures plan { IfOk result (λ priced. priced.plan ≡ []) }
+    ensures cost { IfOk result (λ priced. priced.cost ≡ cost_in space.now priced.plan) }
+{
+    let empty = Plan::from_vec(Vec::new(alloc));
+    price(alloc, empty, space)
+}
+
+/// The second plan where it costs less, else the first.
+pub(crate) fn lesser_plan(first: PricedPlan, second: PricedPlan) -> PricedPlan
+    ensures { result ≡ first_least (λ p. p.cost) first (second ∷ []) }
+{
+    if second.cost < first.cost {
+        second
+    } else {
+        first
+    }
+}
+
 /// The empty plan, or the plain plan where that costs less.
 pub(crate) fn first_plan(alloc: Global, space: &SearchSpace) -> Result<PricedPlan, AllocError>
     requires near { MatchesNear space.now.table.now }
     requires earlier { NameEarlierUnits space.now.ssa.now space.now.deps.now }
     requires short { HaveShortPacks (described space.now) space.now.table.now space.now.ssa.now
         space.now.deps.now }
-    ensures plan { IfOk result (λ first. first.plan ≡ first_least (cost_of (described space.now)
-        space.now.table.now space.now.ssa.now space.now.deps.now) [] (plain_of (described space.now)
-        space.now.table.now space.now.ssa.now space.now.deps.now ∷ [])) }
-    ensures cost { IfOk result (λ first. first.cost ≡ cost_of (described space.now)
-        space.now.table.now space.now.ssa.now space.now.deps.now first.plan) }
+    ensures plan { IfOk result (λ first. first.plan ≡ first_least (cost_in space.now) [] (plain_of
+        (described space.now) space.now.table.now space.now.ssa.now space.now.deps.now ∷ [])) }
+    ensures cost { IfOk result (λ first. first.cost ≡ cost_in space.now first.plan) }
 {
     let plain = plain_plan(
         alloc,
@@ -48,20 +82,9 @@ pub(crate) fn first_plan(alloc: Global, space: &SearchSpace) -> Result<PricedPla
         space.ssa,
         space.deps,
     )?;
-    let empty = Plan::from_vec(Vec::new(alloc));
-    let plain_cost = plan_cost(alloc, &plain, space.descriptions, space.table, space.ssa)?;
-    let empty_cost = plan_cost(alloc, &empty, space.descriptions, space.table, space.ssa)?;
-    if plain_cost < empty_cost {
-        Ok(PricedPlan {
-            plan: plain,
-            cost: plain_cost,
-        })
-    } else {
-        Ok(PricedPlan {
-            plan: empty,
-            cost: empty_cost,
-        })
-    }
+    let empty = empty_priced(alloc, space)?;
+    let priced = price(alloc, plain, space)?;
+    Ok(lesser_plan(empty, priced))
 }
 
 /// The plan of a candidate of a level.

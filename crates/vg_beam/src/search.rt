@@ -2,7 +2,7 @@
 
 ghost use Rattle.std.specs.Prelude.{◌≡◌, ◌<◌, ◌∷◌, [], IfOk, OnOk, length, map};
 ghost use Rattle.vg_cost.specs.Room.{IsRoomFor};
-ghost use Rattle.vg_packing.specs.Laws.{IsPlanFor};
+ghost use Rattle.vg_packing.specs.Fed.{IsPlanBy};
 ghost use Rattle.vg_packing.specs.Taken.{MatchesNear};
 ghost use Rattle.vg_packs.specs.PlanMarks.{MarksPlan};
 ghost use Rattle.vg_packs.specs.Walk.{NameEarlierUnits};
@@ -11,10 +11,10 @@ ghost use Rattle.vg_plans.specs.Members.{Every, Has};
 ghost use Rattle.vg_plans.specs.World.{follows, same_packs, tried};
 ghost use Rattle.vg_beam.specs.Board.{IsBoard, pack_at};
 ghost use Rattle.vg_beam.specs.Candidate.{IsCandidate, grown_plans};
-ghost use Rattle.vg_beam.specs.Chosen.{HaveShortPacks};
+ghost use Rattle.vg_beam.specs.Chosen.{HaveShortPacksBy};
 ghost use Rattle.vg_beam.specs.Kept.{IsKept, plan_at, plans_of};
 ghost use Rattle.vg_beam.specs.Met.{IsMet, Meets};
-ghost use Rattle.vg_beam.specs.SearchSpace.{described, world_of};
+ghost use Rattle.vg_beam.specs.SearchSpace.{choice_of, described, world_of};
 
 use crate::board::Board;
 use crate::candidate::Candidate;
@@ -41,25 +41,26 @@ fn meet(
 ) -> Result<(), AllocError>
     requires near { MatchesNear space.now.table.now }
     requires earlier { NameEarlierUnits space.now.ssa.now space.now.deps.now }
-    requires short { HaveShortPacks (described space.now) space.now.table.now space.now.ssa.now
-        space.now.deps.now }
-    requires board { IsBoard (described space.now) space.now.table.now space.now.ssa.now board.now }
-    requires level { Every (IsKept (described space.now) space.now.table.now space.now.ssa.now
-        board.now.packs.items) level.now }
+    requires short { HaveShortPacksBy (choice_of space.now) (described space.now)
+        space.now.table.now space.now.ssa.now space.now.deps.now }
+    requires board { IsBoard (choice_of space.now) (described space.now) space.now.table.now
+        space.now.ssa.now board.now }
+    requires level { Every (IsKept (choice_of space.now) (described space.now) space.now.table.now
+        space.now.ssa.now board.now.packs.items) level.now }
     requires parent { parent < length level.now }
-    requires plan { IsPlanFor (described space.now) space.now.table.now space.now.ssa.now
-        space.now.deps.now (plan_at level.now parent) }
+    requires plan { IsPlanBy (choice_of space.now) (described space.now) space.now.table.now
+        space.now.ssa.now space.now.deps.now (plan_at level.now parent) }
     requires marks { MarksPlan space.now.ssa.now (plan_at level.now parent) marks.now }
     requires room { IsRoomFor space.now.ssa.now (plan_at level.now parent) room.old }
     requires pack { pack < length board.now.packs.items }
     requires tried { Has (pack_at board.now.packs.items pack) (tried (world_of space.now) (plan_at
         level.now parent)) }
-    requires met { IsMet (described space.now) space.now.table.now space.now.ssa.now
-        space.now.deps.now board.now.packs.items level.now met.old }
+    requires met { IsMet (choice_of space.now) (described space.now) space.now.table.now
+        space.now.ssa.now space.now.deps.now board.now.packs.items level.now met.old }
     ensures room { room.new ≡ room.old }
-    ensures met { OnOk result (Meets (described space.now) space.now.table.now space.now.ssa.now
-        space.now.deps.now board.now.packs.items level.now (plan_at level.now parent) (pack_at
-        board.now.packs.items pack ∷ []) met.old met.new) }
+    ensures met { OnOk result (Meets (choice_of space.now) (described space.now) space.now.table.now
+        space.now.ssa.now space.now.deps.now board.now.packs.items level.now (plan_at level.now
+        parent) (pack_at board.now.packs.items pack ∷ []) met.old met.new) }
 {
     let kept = kept_at(level, parent);
     let last = board.pack(pack);
@@ -100,19 +101,20 @@ fn meet_all(
 ) -> Result<(), AllocError>
     requires near { MatchesNear space.now.table.now }
     requires earlier { NameEarlierUnits space.now.ssa.now space.now.deps.now }
-    requires short { HaveShortPacks (described space.now) space.now.table.now space.now.ssa.now
-        space.now.deps.now }
-    requires board { IsBoard (described space.now) space.now.table.now space.now.ssa.now board.now }
-    requires level { Every (IsKept (described space.now) space.now.table.now space.now.ssa.now
-        board.now.packs.items) level.now }
+    requires short { HaveShortPacksBy (choice_of space.now) (described space.now)
+        space.now.table.now space.now.ssa.now space.now.deps.now }
+    requires board { IsBoard (choice_of space.now) (described space.now) space.now.table.now
+        space.now.ssa.now board.now }
+    requires level { Every (IsKept (choice_of space.now) (described space.now) space.now.table.now
+        space.now.ssa.now board.now.packs.items) level.now }
     requires parent { parent < length level.now }
-    requires plan { IsPlanFor (described space.now) space.now.table.now space.now.ssa.now
-        space.now.deps.now (plan_at level.now parent) }
-    requires met { IsMet (described space.now) space.now.table.now space.now.ssa.now
-        space.now.deps.now board.now.packs.items level.now met.old }
-    ensures { OnOk result (Meets (described space.now) space.now.table.now space.now.ssa.now
-        space.now.deps.now board.now.packs.items level.now (plan_at level.now parent) (tried
-        (world_of space.now) (plan_at level.now parent)) met.old met.new) }
+    requires plan { IsPlanBy (choice_of space.now) (described space.now) space.now.table.now
+        space.now.ssa.now space.now.deps.now (plan_at level.now parent) }
+    requires met { IsMet (choice_of space.now) (described space.now) space.now.table.now
+        space.now.ssa.now space.now.deps.now board.now.packs.items level.now met.old }
+    ensures { OnOk result (Meets (choice_of space.now) (described space.now) space.now.table.now
+        space.now.ssa.now space.now.deps.now board.now.packs.items level.now (plan_at level.now
+        parent) (tried (world_of space.now) (plan_at level.now parent)) met.old met.new) }
 {
     let kept = kept_at(level, parent);
     let packs = kept.running.packs();
@@ -136,16 +138,17 @@ pub(crate) fn candidates(
 ) -> Result<Vec<Candidate>, AllocError>
     requires near { MatchesNear space.now.table.now }
     requires earlier { NameEarlierUnits space.now.ssa.now space.now.deps.now }
-    requires short { HaveShortPacks (described space.now) space.now.table.now space.now.ssa.now
-        space.now.deps.now }
-    requires board { IsBoard (described space.now) space.now.table.now space.now.ssa.now board.now }
-    requires level { Every (IsKept (described space.now) space.now.table.now space.now.ssa.now
-        board.now.packs.items) level.now }
-    requires plans { Every (IsPlanFor (described space.now) space.now.table.now space.now.ssa.now
-        space.now.deps.now) (plans_of level.now) }
-    ensures candidates { IfOk result (λ met. Every (IsCandidate (described space.now)
-        space.now.table.now space.now.ssa.now space.now.deps.now board.now.packs.items level.now)
-        met.items) }
+    requires short { HaveShortPacksBy (choice_of space.now) (described space.now)
+        space.now.table.now space.now.ssa.now space.now.deps.now }
+    requires board { IsBoard (choice_of space.now) (described space.now) space.now.table.now
+        space.now.ssa.now board.now }
+    requires level { Every (IsKept (choice_of space.now) (described space.now) space.now.table.now
+        space.now.ssa.now board.now.packs.items) level.now }
+    requires plans { Every (IsPlanBy (choice_of space.now) (described space.now) space.now.table.now
+        space.now.ssa.now space.now.deps.now) (plans_of level.now) }
+    ensures candidates { IfOk result (λ met. Every (IsCandidate (choice_of space.now) (described
+        space.now) space.now.table.now space.now.ssa.now space.now.deps.now board.now.packs.items
+        level.now) met.items) }
     ensures plans { IfOk result (λ met. grown_plans board.now.packs.items level.now met.items ≡
         candidates (follows (world_of space.now)) (same_packs (world_of space.now)) (plans_of
         level.now)) }

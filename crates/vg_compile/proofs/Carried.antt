@@ -1,5 +1,5 @@
 -- What the program of a plan is for a kernel.
-use Rattle.std.proofs.Common.{◌≡◌, ◌∙◌, ◌↔◌, ℕ, ◌<◌, ◌^◌, List, [], ◌∷◌, refl, sym, ap, subst, arith}
+use Rattle.std.proofs.Common.{◌≡◌, ◌∙◌, ◌↔◌, ℕ, ◌<◌, ◌≤◌, ◌^◌, List, length, [], ◌∷◌, refl, sym, ap, subst, arith}
 use Rattle.vg_program.specs.declared.program.Program.{Program}
 use Rattle.vg_program.specs.Cost as program
 use Rattle.vg_shapes.specs.declared.match_table.Match.{Match}
@@ -13,8 +13,11 @@ use Rattle.vg_shapes.specs.MatchTable.{IsTable}
 use Rattle.vg_shapes.specs.Nodes.{IsOrder}
 use Rattle.std.specs.List.{AllByRecursion}
 use Rattle.vg_plans.specs.Members.{Every}
+use Rattle.vg_packing.specs.Completed.{chosen_fed_of}
+use Rattle.vg_packing.specs.Fed.{IsFedPlanFor, IsPlanBy, fed_aligned, unfed}
 use Rattle.vg_packing.specs.Laws as plans
 use Rattle.vg_packing.specs.Packing.{chosen_of, plain_of}
+use Rattle.vg_packing.proofs.FedPlans.{may-be-fed}
 use Rattle.vg_beam.specs.Chosen as found
 use Rattle.vg_beam.specs.Chosen.{IsChosen}
 use Rattle.vg_emission.specs.Truth.{IsCallable}
@@ -24,9 +27,9 @@ use Rattle.vg_plan_laws.proofs.Chosen.{kernels-are-small}
 use Rattle.vg_plan_laws.proofs.Packs.{match-units}
 use Rattle.vg_plan_laws.proofs.Programs.{programs-call, programs-cost, programs-keep-rules, programs-mean}
 use Rattle.vg_plan_relations.specs.Plans.{IsPlanByNodes}
-use Rattle.vg_plan_relations.proofs.Planning.{plans-by-nodes}
-use Rattle.vg_compile.specs.Chosen.{IsChosenPlan, IsCrowded}
-use Rattle.vg_compile.specs.Emitted.{IsEmitted, IsProgramFor, IsProgramOf}
+use Rattle.vg_plan_relations.proofs.Planning.{plans-by-nodes, plans-by-nodes-by}
+use Rattle.vg_compile.specs.Chosen.{IsChosenPlan, IsChosenFedPlan, IsCrowded, IsCrowdedFed, IsAlignedFedPlan, IsTableOf}
+use Rattle.vg_compile.specs.Emitted.{IsEmitted, IsProgramFor, IsProgramOf, IsProgramOver}
 use Rattle.vg_compile.specs.Planned.{IsPlanned}
 use Rattle.vg_compile.proofs.EmptyPlan.{empty-cost}
 
@@ -43,6 +46,19 @@ picked-by ds matches ssa deps width packs e is chosen = record {
   chosen = subst (λ d. IsChosen ds matches ssa d width packs) e chosen;
 }
 
+-- what is chosen of the fed plans, by a list of all dependences
+pub record IsPickedFed (ds : List Description) (matches : List Match) (ssa : Ssa) (width : ℕ) (packs : List Packed) : Type 0 where
+  pub is : packs ≡ chosen_fed_of ds matches ssa (dependences ssa) width
+  pub chosen : found.IsChosenFed ds matches ssa (dependences ssa) width packs
+
+pub picked-fed-by : (ds : List Description) (matches : List Match) (ssa : Ssa) (deps : List (ℕ × ℕ)) (width : ℕ) (packs : List Packed)
+    → deps ≡ dependences ssa → packs ≡ chosen_fed_of ds matches ssa deps width → found.IsChosenFed ds matches ssa deps width packs
+    → IsPickedFed ds matches ssa width packs
+picked-fed-by ds matches ssa deps width packs e is chosen = record {
+  is = subst (λ d. packs ≡ chosen_fed_of ds matches ssa d width) e is;
+  chosen = subst (λ d. found.IsChosenFed ds matches ssa d width packs) e chosen;
+}
+
 -- ---- plans by their packs, units and nodes
 
 packable : (ds : List Description) → AllByRecursion IsCallable ds → AllByRecursion IsPackable ds
@@ -53,6 +69,10 @@ pub by-nodes : (ds : List Description) (matches : List Match) (ssa : Ssa) → Ar
     → (packs : List Packed) → plans.IsPlanFor ds matches ssa (dependences ssa) packs ↔ IsPlanByNodes ds matches ssa packs
 by-nodes ds matches ssa known packs = plans-by-nodes ds matches ssa packs (packable ds known.described) known.matched
 
+pub fed-by-nodes : (ds : List Description) (matches : List Match) (ssa : Ssa) → AreKnown ds matches ssa
+    → (packs : List Packed) → IsPlanBy fed_aligned ds matches ssa (dependences ssa) packs ↔ IsAlignedFedPlan ds matches ssa packs
+fed-by-nodes ds matches ssa known packs = plans-by-nodes-by fed_aligned ds matches ssa packs (packable ds known.described) known.matched
+
 each : {X : Type 0} (P Q : X → Type 0) → ((x : X) → P x → Q x) → (xs : List X) → Every P xs → Every Q xs
 each P Q f [] all = tt
 each P Q f (x ∷ xs) all = (f x all.0, each P Q f xs all.1)
@@ -61,6 +81,11 @@ crowded-by-nodes : (ds : List Description) (matches : List Match) (ssa : Ssa) (w
     → found.IsCrowded ds matches ssa (dependences ssa) width size → IsCrowded ds matches ssa width size
 crowded-by-nodes ds matches ssa width size known (many, more, are, differ) =
     (many, more, each _ _ (λ packs is. ((by-nodes ds matches ssa known packs).0 is.0, is.1)) many are, differ)
+
+crowded-fed : (ds : List Description) (matches : List Match) (ssa : Ssa) (width size : ℕ) → AreKnown ds matches ssa
+    → found.IsCrowdedFed ds matches ssa (dependences ssa) width size → IsCrowdedFed ds matches ssa width size
+crowded-fed ds matches ssa width size known (many, more, are, differ) =
+    (many, more, each _ _ (λ packs is. ((fed-by-nodes ds matches ssa known packs).0 is.0, is.1)) many are, differ)
 
 -- the chosen plan, by the list of all dependences
 pub chosen-plan : (ds : List Description) (matches : List Match) (ssa : Ssa) (width : ℕ) (packs : List Packed)
@@ -79,23 +104,54 @@ chosen-plan ds matches ssa width packs known ordered bindings picked =
           (λ size less crowded. uncrowded size less (crowded-by-nodes ds matches ssa width size known crowded));
     }
 
+-- the chosen fed plan, by the list of all dependences
+pub chosen-fed-plan : (ds : List Description) (matches : List Match) (ssa : Ssa) (width : ℕ) (packs : List Packed)
+    → AreKnown ds matches ssa → IsTableOf ds ssa matches → IsPickedFed ds matches ssa width packs
+    → IsChosenFedPlan ds matches ssa width packs
+chosen-fed-plan ds matches ssa width packs known table picked =
+    let chosen = picked.chosen in
+    record {
+      table = table;
+      is = picked.is;
+      plan = (fed-by-nodes ds matches ssa known packs).0 chosen.plan;
+      below_plain = chosen.below_plain;
+      below_careful = chosen.below_careful;
+      below_scalar = omega (arith, chosen.below_scalar, empty-cost ds matches ssa (dependences ssa));
+      optimal = λ few plan is uncrowded.
+          chosen.optimal (match-units ds matches ssa known.sound known.matched) few plan ((fed-by-nodes ds matches ssa known plan).1 is)
+          (λ size less crowded. uncrowded size less (crowded-fed ds matches ssa width size known crowded));
+    }
+
 -- it grows from the empty one
+grows : (ds : List Description) (matches : List Match) (ssa : Ssa) (width : ℕ) (packs : List Packed)
+    → AreKnown ds matches ssa → IsChosenPlan ds matches ssa width packs → plans.IsPlanFor ds matches ssa (dependences ssa) packs
+grows ds matches ssa width packs known chosen = (by-nodes ds matches ssa known packs).1 chosen.plan
+
+-- so it is one of the plans that may be fed
+pub may-feed : (ds : List Description) (matches : List Match) (ssa : Ssa) (width : ℕ) (packs : List Packed)
+    → AreKnown ds matches ssa → IsChosenPlan ds matches ssa width packs → IsFedPlanFor ds matches ssa (dependences ssa) packs
+may-feed ds matches ssa width packs known chosen =
+    may-be-fed ds matches ssa (dependences ssa) unfed packs (grows ds matches ssa width packs known chosen)
+
+pub fed-may-feed : (ds : List Description) (matches : List Match) (ssa : Ssa) (width : ℕ) (packs : List Packed)
+    → AreKnown ds matches ssa → IsChosenFedPlan ds matches ssa width packs → IsFedPlanFor ds matches ssa (dependences ssa) packs
+fed-may-feed ds matches ssa width packs known chosen =
+    may-be-fed ds matches ssa (dependences ssa) fed_aligned packs ((fed-by-nodes ds matches ssa known packs).1 chosen.plan)
+
 pub plan-grows : (ds : List Description) (matches : List Match) (ssa : Ssa) (deps : List (ℕ × ℕ)) (width : ℕ) (packs : List Packed)
-    → AreKnown ds matches ssa → deps ≡ dependences ssa → IsChosenPlan ds matches ssa width packs → plans.IsPlanFor ds matches ssa deps packs
+    → AreKnown ds matches ssa → deps ≡ dependences ssa → IsChosenPlan ds matches ssa width packs → IsFedPlanFor ds matches ssa deps packs
 plan-grows ds matches ssa deps width packs known e chosen =
-    subst (λ d. plans.IsPlanFor ds matches ssa d packs) (sym e) ((by-nodes ds matches ssa known packs).1 chosen.plan)
+    subst (λ d. IsFedPlanFor ds matches ssa d packs) (sym e) (may-feed ds matches ssa width packs known chosen)
 
 -- ---- programs
 
--- the program of the chosen plan in a legal order
-pub is-program : (ds : List Description) (matches : List Match) (ssa : Ssa) (width : ℕ) (packs : List Packed) (order : List Node)
-    → AreKnown ds matches ssa → IsChosenPlan ds matches ssa width packs → IsOrder ssa matches packs order
-    → IsProgramFor ds ssa width (planned_program ds matches ssa packs order)
-is-program ds matches ssa width packs order known chosen is =
+-- the program of a plan in a legal order, where it costs at most a line for each unit
+is-program : (ds : List Description) (matches : List Match) (ssa : Ssa) (packs : List Packed) (order : List Node)
+    → AreKnown ds matches ssa → IsFedPlanFor ds matches ssa (dependences ssa) packs → plans.cost_of ds matches ssa (dependences ssa) packs ≤ length ssa.units
+    → IsOrder ssa matches packs order → IsProgramOver ds ssa (planned_program ds matches ssa packs order)
+is-program ds matches ssa packs order known plan most is =
     let deps = dependences ssa in
-    let plan = (by-nodes ds matches ssa known packs).1 chosen.plan in
     let costs = programs-cost ds matches ssa deps packs order known plan is in
-    let most = chosen.below_scalar in
     let below : plans.cost_of ds matches ssa deps packs < 2 ^ 32 = omega (arith, most, kernels-are-small ssa known.sound) in
     record {
       name = refl;
@@ -105,29 +161,39 @@ is-program ds matches ssa width packs order known chosen is =
       rules = λ headers have. programs-keep-rules headers ds matches ssa deps packs order known have plan is below;
       calls = λ headers have. programs-call headers ds matches ssa deps packs order known have plan is;
       cost = omega (arith, costs, most);
+    }
+
+pub emitted-is : (ds : List Description) (matches : List Match) (ssa : Ssa) (packs : List Packed) (p : Program)
+    → AreKnown ds matches ssa → IsFedPlanFor ds matches ssa (dependences ssa) packs → plans.cost_of ds matches ssa (dependences ssa) packs ≤ length ssa.units
+    → IsEmitted ds matches ssa packs p → IsProgramOver ds ssa p
+emitted-is ds matches ssa packs p known plan most (order, is, e) =
+    subst (IsProgramOver ds ssa) (sym e) (is-program ds matches ssa packs order known plan most is)
+
+-- what it costs
+pub emitted-costs : (ds : List Description) (matches : List Match) (ssa : Ssa) (packs : List Packed) (p : Program)
+    → AreKnown ds matches ssa → IsFedPlanFor ds matches ssa (dependences ssa) packs → IsEmitted ds matches ssa packs p
+    → IsProgramOf ds (record { ssa = ssa; matches = matches; packs = packs }) p
+emitted-costs ds matches ssa packs p known plan (order, is, e) = record {
+  emitted = (order, is, e);
+  cost = ap program.cost_of e ∙ programs-cost ds matches ssa (dependences ssa) packs order known plan is;
+}
+
+-- the program of the chosen plan
+pub emitted-for : (ds : List Description) (matches : List Match) (ssa : Ssa) (width : ℕ) (packs : List Packed) (p : Program)
+    → AreKnown ds matches ssa → IsChosenPlan ds matches ssa width packs → IsEmitted ds matches ssa packs p
+    → IsProgramFor ds ssa width p
+emitted-for ds matches ssa width packs p known chosen emitted =
+    let plan = may-feed ds matches ssa width packs known chosen in
+    record {
+      program = emitted-is ds matches ssa packs p known plan chosen.below_scalar emitted;
       chosen = record {
         matches = matches;
         packs = packs;
         chosen = chosen;
-        emitted = (order, is, refl);
-        cost = costs;
+        emitted = emitted;
+        cost = (emitted-costs ds matches ssa packs p known plan emitted).cost;
       };
     }
-
-pub emitted-is : (ds : List Description) (matches : List Match) (ssa : Ssa) (width : ℕ) (packs : List Packed) (p : Program)
-    → AreKnown ds matches ssa → IsChosenPlan ds matches ssa width packs → IsEmitted ds matches ssa packs p
-    → IsProgramFor ds ssa width p
-emitted-is ds matches ssa width packs p known chosen (order, is, e) =
-    subst (IsProgramFor ds ssa width) (sym e) (is-program ds matches ssa width packs order known chosen is)
-
--- what it costs
-pub emitted-costs : (ds : List Description) (matches : List Match) (ssa : Ssa) (width : ℕ) (packs : List Packed) (p : Program)
-    → AreKnown ds matches ssa → IsChosenPlan ds matches ssa width packs → IsEmitted ds matches ssa packs p
-    → IsProgramOf ds (record { ssa = ssa; matches = matches; packs = packs }) p
-emitted-costs ds matches ssa width packs p known chosen (order, is, e) = record {
-  emitted = (order, is, e);
-  cost = ap program.cost_of e ∙ programs-cost ds matches ssa (dependences ssa) packs order known ((by-nodes ds matches ssa known packs).1 chosen.plan) is;
-}
 
 -- what is told of the plan
 pub planned-is : (ds : List Description) (matches : List Match) (ssa : Ssa) (width : ℕ) (packs : List Packed) (cost plain : ℕ)

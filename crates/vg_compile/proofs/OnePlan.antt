@@ -14,11 +14,12 @@ use Rattle.vg_shapes.specs.declared.ssa.SsaParam.{SsaParam}
 use Rattle.vg_shapes.specs.declared.unit.Unit.{Unit as Work}
 use Rattle.vg_shapes.specs.Depends.{dependences}
 use Rattle.vg_shapes.specs.Description.{Description}
+use Rattle.vg_packing.specs.Completed.{chosen_fed_of}
 use Rattle.vg_packing.specs.Packing.{chosen_of}
 use Rattle.vg_match.specs.Laws.{HaveSameValues, IsOrderedTable}
 use Rattle.vg_match.proofs.OneTable.{one-table}
 use Rattle.vg_instances.specs.Descriptions.{descriptions}
-use Rattle.vg_compile.specs.Chosen.{AreWhole, AreWide, cheaper, cost_of, IsChosenMore, IsChosenPlan, IsChosenWhole, IsChosenWide, IsTableOf, KernelPlan, price_of}
+use Rattle.vg_compile.specs.Chosen.{AreWhole, AreWide, cheaper, cost_of, IsChosenFed, IsChosenFedPlan, IsChosenMore, IsChosenPlan, IsChosenWhole, IsChosenWide, IsTableOf, KernelPlan, price_of}
 use Rattle.vg_compile.specs.Compiled.{IsCompiled}
 use Rattle.vg_compile.specs.OnePlan.{AreOnePlan, CompileMoreCostsNoMore, OneChosenPlan}
 use Rattle.vg_compile.proofs.More.{cheaper-below}
@@ -51,6 +52,10 @@ module _ (ds : List Description) (a b : Ssa) (same : HaveSameValues a b) where
   chosen-same matches width =
       λ i. chosen_of ds matches (with_units (same.params i) (same.units i)) (dependences (with_units (same.params i) (same.units i))) width
 
+  fed-same : (matches : List Match) (width : ℕ) → chosen_fed_of ds matches a (dependences a) width ≡ chosen_fed_of ds matches b (dependences b) width
+  fed-same matches width =
+      λ i. chosen_fed_of ds matches (with_units (same.params i) (same.units i)) (dependences (with_units (same.params i) (same.units i))) width
+
   cost-same : (matches : List Match) (packs : List Packed) → cost_of ds matches a packs ≡ cost_of ds matches b packs
   cost-same matches packs = λ i. cost_of ds matches (with_units (same.params i) (same.units i)) packs
 
@@ -73,14 +78,31 @@ one-plan ds width a b same x y =
       price = cost-same ds a.ssa b.ssa same a.matches a.packs ∙ ap₂ (λ (ms : List Match) (ps : List Packed). cost_of ds ms b.ssa ps) matches packs;
     }
 
+one-fed-plan : (ds : List Description) (width : ℕ) (a b : KernelPlan) → HaveSameValues a.ssa b.ssa → IsChosenFedPlan ds a.matches a.ssa width a.packs
+    → IsChosenFedPlan ds b.matches b.ssa width b.packs → AreOnePlan ds a b
+one-fed-plan ds width a b same x y =
+    let matches = one-table ds a.ssa b.ssa a.matches b.matches same (in-order ds a.ssa a.matches x.table) (in-order ds b.ssa b.matches y.table) in
+    let packs = x.is
+    ∙ fed-same ds a.ssa b.ssa same a.matches width
+    ∙ ap (λ (ms : List Match). chosen_fed_of ds ms b.ssa (dependences b.ssa) width) matches
+    ∙ sym y.is in
+    record {
+      matches = matches;
+      packs = packs;
+      price = cost-same ds a.ssa b.ssa same a.matches a.packs ∙ ap₂ (λ (ms : List Match) (ps : List Packed). cost_of ds ms b.ssa ps) matches packs;
+    }
+
 one-whole : (ds : List Description) (k : Tree) (width : ℕ) (a b : KernelPlan) → IsChosenWhole ds k width a → IsChosenWhole ds k width b → AreOnePlan ds a b
 one-whole ds k width a b x y = one-plan ds width a b (whole-values k a.ssa b.ssa x.values y.values) x.chosen y.chosen
 
 one-wide : (ds : List Description) (k : Tree) (width : ℕ) (a b : KernelPlan) → IsChosenWide ds k width a → IsChosenWide ds k width b → AreOnePlan ds a b
 one-wide ds k width a b x y = one-plan ds width a b (wide-values k a.ssa b.ssa x.values y.values) x.chosen y.chosen
 
+one-fed : (ds : List Description) (k : Tree) (width : ℕ) (a b : KernelPlan) → IsChosenFed ds k width a → IsChosenFed ds k width b → AreOnePlan ds a b
+one-fed ds k width a b x y = one-fed-plan ds width a b (wide-values k a.ssa b.ssa x.values y.values) x.chosen y.chosen
+
 pub one-chosen-plan : OneChosenPlan
-one-chosen-plan = record { whole = one-whole; wide = one-wide }
+one-chosen-plan = record { whole = one-whole; wide = one-wide; fed = one-fed }
 
 -- ---- what is compiled
 
@@ -99,10 +121,13 @@ one-price : (ds : List Description) (k : Tree) (width : ℕ) (a b : KernelPlan) 
 one-price ds k width a b x y =
     let whole = one-whole ds k width x.whole y.whole x.whole_chosen y.whole_chosen in
     let wide = one-wide ds k width x.wide y.wide x.wide_chosen y.wide_chosen in
+    let fed = one-fed ds k width x.fed y.fed x.fed_chosen y.fed_chosen in
+    let two : price_of ds (cheaper ds x.whole x.wide) ≡ price_of ds (cheaper ds y.whole y.wide) =
+    cheaper-price ds x.whole x.wide ∙ ap₂ lesser whole.price wide.price ∙ sym (cheaper-price ds y.whole y.wide) in
     ap (price_of ds) x.is
-    ∙ cheaper-price ds x.whole x.wide
-    ∙ ap₂ lesser whole.price wide.price
-    ∙ sym (cheaper-price ds y.whole y.wide)
+    ∙ cheaper-price ds (cheaper ds x.whole x.wide) x.fed
+    ∙ ap₂ lesser two fed.price
+    ∙ sym (cheaper-price ds (cheaper ds y.whole y.wide) y.fed)
     ∙ sym (ap (price_of ds) y.is)
 
 pub compile-more-costs-no-more : CompileMoreCostsNoMore
@@ -122,6 +147,7 @@ compile-more-costs-no-more = record { same = same; no_more = no_more }
         let ds = descriptions set entries in
         let more : IsChosenMore ds k width x.plan = x.chosen in
         let plan = one-whole ds k width more.whole y.plan more.whole_chosen y.chosen in
-        let below = (cheaper-below ds more.whole more.wide).0 in
-        let cost : programs.cost_of p ≡ price_of ds (cheaper ds more.whole more.wide) = x.program.cost ∙ ap (price_of ds) more.is in
-        omega (arith, cost, below, plan.price, y.program.cost)
+        let two = (cheaper-below ds more.whole more.wide).0 in
+        let three = (cheaper-below ds (cheaper ds more.whole more.wide) more.fed).0 in
+        let cost : programs.cost_of p ≡ price_of ds (cheaper ds (cheaper ds more.whole more.wide) more.fed) = x.program.cost ∙ ap (price_of ds) more.is in
+        omega (arith, cost, three, two, plan.price, y.program.cost)

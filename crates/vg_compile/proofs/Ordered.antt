@@ -12,11 +12,13 @@ use Rattle.vg_shapes.specs.Matches.{AreMatches}
 use Rattle.vg_shapes.specs.Nodes.{ArePacks, IsOrder}
 use Rattle.vg_shapes.specs.Sound.{IsSound}
 use Rattle.vg_packing.specs.Laws as plans
+use Rattle.vg_packing.specs.Fed.{IsFedPlanFor, fed_aligned, unfed}
 use Rattle.vg_packing.specs.Laws.{IsPlanFor}
+use Rattle.vg_packing.proofs.FedPlans.{may-be-fed}
 use Rattle.vg_packing.specs.Packing.{plain_of}
 use Rattle.vg_packing.specs.Taken.{IsShort}
 use Rattle.vg_packs.specs.Walk.{NameEarlierUnits}
-use Rattle.vg_beam.specs.Chosen.{HaveShortPacks}
+use Rattle.vg_beam.specs.Chosen.{HaveShortPacks, HaveShortPacksBy}
 use Rattle.vg_order.specs.ByList.{IsOrderBy, NameLesser, NameUnits, NamesCycle}
 use Rattle.vg_order.proofs.AllDependences.{dependences-give_orders, dependences-name_units}
 use Rattle.vg_emission.specs.Truth.{IsCallable}
@@ -38,7 +40,7 @@ pub names_earlier : (ssa : Ssa) (deps : List (ℕ × ℕ)) → deps ≡ dependen
 names_earlier ssa deps e = record { units = names_units ssa deps e; earlier = names_lesser ssa deps e }
 
 pub no_cycle : (ds : List Description) (matches : List Match) (ssa : Ssa) (deps : List (ℕ × ℕ)) (plan : List Packed) (units : List ℕ)
-    → deps ≡ dependences ssa → IsPlanFor ds matches ssa deps plan → NamesCycle deps ssa matches plan units → ⊥
+    → deps ≡ dependences ssa → IsFedPlanFor ds matches ssa deps plan → NamesCycle deps ssa matches plan units → ⊥
 no_cycle ds matches ssa deps plan units e is (cycle, closed, are, once) =
     plans-have-no-cycle ds matches ssa deps plan cycle (names_units ssa deps e) (names_lesser ssa deps e) is closed
 
@@ -48,7 +50,7 @@ is_order matches ssa deps plan order e is =
     (dependences-give_orders ssa matches plan order).0.0 (subst (λ d. IsOrderBy d ssa matches plan order) e is)
 
 pub are_packs : (ds : List Description) (matches : List Match) (ssa : Ssa) (deps : List (ℕ × ℕ)) (plan : List Packed)
-    → AreKnown ds matches ssa → IsPlanFor ds matches ssa deps plan → ArePacks ssa plan
+    → AreKnown ds matches ssa → IsFedPlanFor ds matches ssa deps plan → ArePacks ssa plan
 are_packs ds matches ssa deps plan known is = (packs-are-right ds matches ssa deps plan known is).0
 
 pub is_emitted : (ds : List Description) (matches : List Match) (ssa : Ssa) (plan : List Packed) (order : List Node) (p : Program)
@@ -59,11 +61,14 @@ pub known : (ds : List Description) (matches : List Match) (ssa : Ssa) → IsSou
 known ds matches ssa sound callable matched = record { sound = sound; described = callable; matched = matched }
 
 pub short_packs : (ds : List Description) (matches : List Match) (ssa : Ssa) (deps : List (ℕ × ℕ)) → AreKnown ds matches ssa → HaveShortPacks ds matches ssa deps
-short_packs ds matches ssa deps k plan is = packs-are-short ds matches ssa deps plan k is
+short_packs ds matches ssa deps k plan is = packs-are-short ds matches ssa deps plan k (may-be-fed ds matches ssa deps unfed plan is)
+
+pub short_fed : (ds : List Description) (matches : List Match) (ssa : Ssa) (deps : List (ℕ × ℕ)) → AreKnown ds matches ssa → HaveShortPacksBy fed_aligned ds matches ssa deps
+short_fed ds matches ssa deps k plan is = packs-are-short ds matches ssa deps plan k (may-be-fed ds matches ssa deps fed_aligned plan is)
 
 pub plain_short : (ds : List Description) (matches : List Match) (ssa : Ssa) (deps : List (ℕ × ℕ)) (plan : List Packed) → AreKnown ds matches ssa
     → plan ≡ plain_of ds matches ssa deps → AllByRecursion IsShort plan
-plain_short ds matches ssa deps plan k e = packs-are-short ds matches ssa deps plan k (plain_is_plan ds matches ssa deps plan e)
+plain_short ds matches ssa deps plan k e = packs-are-short ds matches ssa deps plan k (may-be-fed ds matches ssa deps unfed plan (plain_is_plan ds matches ssa deps plan e))
 
 -- what the plain plan costs, by the list of all dependences
 pub plain-cost : (ds : List Description) (matches : List Match) (ssa : Ssa) (deps : List (ℕ × ℕ)) (plan : List Packed) (cost : ℕ)

@@ -27,7 +27,7 @@ use Rattle.vg_instances.specs.Descriptions.{AreOf, descriptions}
 use Rattle.vg_instances.specs.Proper.{AreProper, IsProper}
 use Rattle.vg_compile.specs.Chosen.{KernelPlan, AreWhole, IsChosenFor}
 use Rattle.vg_compile.specs.Compiled.{IsCompiled}
-use Rattle.vg_compile.specs.Emitted.{IsProgramFor, IsProgramOf}
+use Rattle.vg_compile.specs.Emitted.{IsProgramFor, IsProgramOf, IsProgramOver}
 use Rattle.vg_compile.specs.Means.{param_of}
 use Rattle.vg_compile.specs.Planned.{IsExplained, IsPlanOf, IsPlanned, IsPlannedFor, costs_told}
 use Rattle.vg_compile.proofs.Joined.{units-mean-kernels}
@@ -61,7 +61,7 @@ cost-some (e ∷ es) all = (all.0.cost, cost-some es all.1)
 
 pub compiled : (entries : List Entry) (set : ℕ) (k : Tree) (width : ℕ) (more : Bool) (ssa : Ssa) (ds : List Description) (p : Program) (plan : KernelPlan)
     → IsNumbering k ssa → StandsFor k ssa → IsSound ssa → ds ≡ descriptions set entries → AreOf entries ds → AreProper entries
-    → IsProgramFor ds ssa width p → IsChosenFor more ds k width plan → IsProgramOf ds plan p → IsCompiled entries set k width more p
+    → IsProgramOver ds ssa p → IsChosenFor more ds k width plan → IsProgramOf ds plan p → IsCompiled entries set k width more p
 compiled entries set k width more ssa ds p plan is stands sound same are proper program chosen of_plan =
     let headers = headers_of entries in
     let rules = program.rules headers (all-headers entries ds are) in
@@ -82,10 +82,10 @@ compiled entries set k width more ssa ds p plan is stands sound same are proper 
 -- the same by the descriptions that the code has
 pub compiled-by : (entries : List Entry) (set : ℕ) (k : Tree) (width : ℕ) (more : Bool) (ssa : Ssa) (ds xs : List Description) (p : Program) (plan : KernelPlan)
     → xs ≡ ds → IsNumbering k ssa → StandsFor k ssa → IsSound ssa → ds ≡ descriptions set entries → AreOf entries ds
-    → AreProper entries → IsProgramFor xs ssa width p → IsChosenFor more xs k width plan → IsProgramOf xs plan p → IsCompiled entries set k width more p
+    → AreProper entries → IsProgramOver xs ssa p → IsChosenFor more xs k width plan → IsProgramOf xs plan p → IsCompiled entries set k width more p
 compiled-by entries set k width more ssa ds xs p plan slice is stands sound listed are proper program chosen of_plan =
     compiled entries set k width more ssa ds p plan is stands sound listed are proper
-    (subst (λ d. IsProgramFor d ssa width p) slice program) (subst (λ d. IsChosenFor more d k width plan) slice chosen) (subst (λ d. IsProgramOf d plan p) slice of_plan)
+    (subst (λ d. IsProgramOver d ssa p) slice program) (subst (λ d. IsChosenFor more d k width plan) slice chosen) (subst (λ d. IsProgramOf d plan p) slice of_plan)
 
 -- without more plans
 pub compiled-whole : (entries : List Entry) (set : ℕ) (k : Tree) (width : ℕ) (ssa : Ssa) (ds xs : List Description) (p : Program)
@@ -93,7 +93,7 @@ pub compiled-whole : (entries : List Entry) (set : ℕ) (k : Tree) (width : ℕ)
     → AreProper entries → IsProgramFor xs ssa width p → IsCompiled entries set k width false p
 compiled-whole entries set k width ssa ds xs p slice values stands sound listed are proper program =
     compiled-by entries set k width false ssa ds xs p (record { ssa = ssa; matches = program.chosen.matches; packs = program.chosen.packs })
-    slice values.0 stands sound listed are proper program
+    slice values.0 stands sound listed are proper program.program
     (record { values = values; chosen = program.chosen.chosen }) (record { emitted = program.chosen.emitted; cost = program.chosen.cost })
 
 -- ---- what is told of the plan

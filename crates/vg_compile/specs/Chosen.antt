@@ -15,9 +15,11 @@ use Rattle.vg_shapes.specs.Matches.{AreMatches}
 use Rattle.vg_shapes.specs.MatchTable.{IsTable}
 use Rattle.vg_plans.specs.Members.{AllDiffer, Every}
 use Rattle.vg_plans.specs.World.{same_packs}
+use Rattle.vg_packing.specs.Completed.{aligned_plain_of, careful_of, chosen_fed_of}
+use Rattle.vg_packing.specs.Fed.{fed_aligned, packing_by}
 use Rattle.vg_packing.specs.Laws as plan
 use Rattle.vg_packing.specs.Packing.{chosen_of, packing, plain_of}
-use Rattle.vg_plan_relations.specs.Plans.{IsPlanByNodes}
+use Rattle.vg_plan_relations.specs.Plans.{IsPlanByNodes, IsPlanByNodesBy}
 
 -- the table of all matches of descriptions with the values of a kernel, each with its leaves bound in order
 pub record IsTableOf (ds : List Description) (ssa : Ssa) (matches : List Match) : Type 0 where
@@ -62,6 +64,46 @@ pub record IsChosenPlan
   pub below_scalar : cost_of ds matches ssa packs ≤ length ssa.units
   pub optimal : IsOptimalCost ds matches ssa width (cost_of ds matches ssa packs)
 
+-- ---- that load groups may feed
+
+-- a plan of aligned store groups, of producers and of load groups that feed, by its packs, units and nodes
+abbrev pub IsAlignedFedPlan : List Description → List Match → Ssa → List Packed → Type 0
+IsAlignedFedPlan ds matches ssa packs = IsPlanByNodesBy fed_aligned ds matches ssa packs
+
+-- more than so many of them of this number of packs, no two of the same packs
+abbrev pub IsCrowdedFed : List Description → List Match → Ssa → ℕ → ℕ → Type 0
+IsCrowdedFed ds matches ssa width size =
+    (plans : List (List Packed)) × (width < length plans)
+    × Every (λ packs. IsAlignedFedPlan ds matches ssa packs × (length packs ≡ size)) plans
+    × AllDiffer (same_packs (packing_by fed_aligned ds matches ssa (dependences ssa))) plans
+
+-- In a kernel of at most 256 units a cost is at most that of each of them, where no lesser number of packs
+-- is crowded.
+abbrev pub IsOptimalFedCost : List Description → List Match → Ssa → ℕ → ℕ → Type 0
+IsOptimalFedCost ds matches ssa width cost =
+    length ssa.units ≤ 256 →
+    (packs : List Packed) → IsAlignedFedPlan ds matches ssa packs →
+    ((size : ℕ) → size < length packs → IsCrowdedFed ds matches ssa width size → ⊥) →
+    cost ≤ cost_of ds matches ssa packs
+
+-- The chosen fed plan, where the search keeps so many plans of each size. It is a plan by its packs, units
+-- and nodes, and costs at most as much as the plain plan of the aligned store groups, as the careful plain
+-- plan, as a line for each unit and, in a kernel of few units, as any fed plan where no lesser size is crowded.
+pub record IsChosenFedPlan
+    (ds : List Description) (matches : List Match) (ssa : Ssa) (width : ℕ) (packs : List Packed)
+    : Type 0 where
+  pub table : IsTableOf ds ssa matches
+  pub is : packs ≡ chosen_fed_of ds matches ssa (dependences ssa) width
+  pub plan : IsAlignedFedPlan ds matches ssa packs
+  pub below_plain :
+      cost_of ds matches ssa packs
+      ≤ cost_of ds matches ssa (aligned_plain_of ds matches ssa (dependences ssa))
+  pub below_careful :
+      cost_of ds matches ssa packs
+      ≤ cost_of ds matches ssa (careful_of ds matches ssa (dependences ssa))
+  pub below_scalar : cost_of ds matches ssa packs ≤ length ssa.units
+  pub optimal : IsOptimalFedCost ds matches ssa width (cost_of ds matches ssa packs)
+
 -- ---- of a kernel
 
 -- a plan of a kernel: the values that are numbered, the matches over which it is a plan, and its packs
@@ -98,17 +140,24 @@ IsChosenWhole ds k width plan = IsChosenOver AreWhole ds k width plan
 abbrev pub IsChosenWide : List Description → Tree → ℕ → KernelPlan → Type 0
 IsChosenWide ds k width plan = IsChosenOver AreWide ds k width plan
 
+-- The chosen fed plan over the values of a kernel with their cut terms.
+pub record IsChosenFed (ds : List Description) (k : Tree) (width : ℕ) (plan : KernelPlan) : Type 0 where
+  pub values : AreWide k plan.ssa
+  pub chosen : IsChosenFedPlan ds plan.matches plan.ssa width plan.packs
+
 -- of two plans the first where it costs no more, else the second
 abbrev pub cheaper : List Description → KernelPlan → KernelPlan → KernelPlan
 cheaper ds first second = if nat_le (price_of ds first) (price_of ds second) then first else second
 
--- The chosen plan where it costs no more than the chosen wide plan, else that.
+-- The first of the least cost of the chosen plan, the chosen wide plan and the chosen fed plan.
 pub record IsChosenMore (ds : List Description) (k : Tree) (width : ℕ) (plan : KernelPlan) : Type 0 where
   pub whole : KernelPlan
   pub wide : KernelPlan
   pub whole_chosen : IsChosenWhole ds k width whole
   pub wide_chosen : IsChosenWide ds k width wide
-  pub is : plan ≡ cheaper ds whole wide
+  pub fed : KernelPlan
+  pub fed_chosen : IsChosenFed ds k width fed
+  pub is : plan ≡ cheaper ds (cheaper ds whole wide) fed
 
 -- the plan that is chosen of a kernel, with more plans or without
 abbrev pub IsChosenFor : Bool → List Description → Tree → ℕ → KernelPlan → Type 0

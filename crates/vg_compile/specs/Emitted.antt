@@ -40,12 +40,11 @@ pub record IsChosenProgram (ds : List Description) (ssa : Ssa) (width : ℕ) (p 
   pub emitted : IsEmitted ds matches ssa packs p
   pub cost : cost_of p ≡ plans.cost_of ds matches ssa packs
 
--- A program for a kernel by the descriptions of instances. It has the kernel's name and parameters and
--- states its number of units as the scalar cost. Where the descriptions are true, it leaves the memory
--- that the units leave or traps where they do; where they are those of instructions, it keeps the rules
--- on programs and calls described instances alone. It costs at most a line for each unit, and is the program
--- of the chosen plan where the search keeps so many plans of each size.
-pub record IsProgramFor (ds : List Description) (ssa : Ssa) (width : ℕ) (p : Program) : Type 0 where
+-- A program for the numbered values of a kernel by the descriptions of instances. It has the kernel's name
+-- and parameters and states its number of units as the scalar cost. Where the descriptions are true, it
+-- leaves the memory that the units leave or traps where they do; where they are those of instructions, it
+-- keeps the rules on programs and calls described instances alone. It costs at most a line for each unit.
+pub record IsProgramOver (ds : List Description) (ssa : Ssa) (p : Program) : Type 0 where
   pub name : p.name ≡ ssa.name
   pub params : p.params ≡ map param_of ssa.params
   pub scalar : p.scalar ≡ length ssa.units
@@ -54,4 +53,8 @@ pub record IsProgramFor (ds : List Description) (ssa : Ssa) (width : ℕ) (p : P
   pub calls : (headers : List Header) → AllByRecursion (HasHeader headers) ds
       → CallsDescribed ds p.lines
   pub cost : cost_of p ≤ length ssa.units
+
+-- such a program of the chosen plan, where the search keeps so many plans of each size
+pub record IsProgramFor (ds : List Description) (ssa : Ssa) (width : ℕ) (p : Program) : Type 0 where
+  pub program : IsProgramOver ds ssa p
   pub chosen : IsChosenProgram ds ssa width p

@@ -7,11 +7,13 @@ use Rattle.vg_program.specs.declared.program.Program.{Program}
 use Rattle.vg_program.specs.Cost.{cost_of}
 use Rattle.vg_program.specs.Meaning.{Instructions}
 use Rattle.vg_shapes.specs.declared.ssa.Ssa.{Ssa}
+use Rattle.vg_shapes.specs.Depends.{dependences}
+use Rattle.vg_packing.specs.Completed.{careful_of}
 use Rattle.vg_ssa.specs.Numbering.{IsNumbering}
 use Rattle.vg_ssa.specs.StandsFor.{StandsFor}
 use Rattle.vg_emission.specs.Laws.{MeansUnits}
 use Rattle.vg_emission.specs.Program.{param_of}
-use Rattle.vg_compile.specs.Chosen.{KernelPlan, price_of, plain_of_units, IsChosenWhole, IsChosenWide, IsOptimalCost}
+use Rattle.vg_compile.specs.Chosen.{KernelPlan, price_of, plain_of_units, IsChosenWhole, IsChosenWide, IsChosenFed, IsOptimalCost, IsOptimalFedCost}
 use Rattle.vg_compile.specs.Chosen as plans
 use Rattle.vg_compile.specs.Compiled.{IsCompiled}
 use Rattle.vg_compile.specs.Means.{Means}
@@ -25,24 +27,33 @@ UnitsMeanKernels =
     p.name ≡ ssa.name → p.params ≡ map param_of ssa.params → MeansUnits called p ssa →
     Means called p k
 
--- What a program of more plans costs, beside a chosen plan and a chosen wide plan of its kernel: at most
--- what either costs, and what the plain plan costs. In a kernel of at most 256 units no plan and no wide
--- plan costs less where no lesser size is crowded.
+-- What a program of more plans costs, beside a chosen plan, a chosen wide plan and a chosen fed plan of its
+-- kernel: at most what each costs, what the plain plan costs, and what the careful plain plan costs. In a
+-- kernel of at most 256 units no plan, no wide plan and no fed plan of aligned store groups costs less where
+-- no lesser size is crowded.
 pub record CostsNoMore
     (entries : List Entry) (set : ℕ) (k : Tree) (width : ℕ) (p : Program)
     : Type 0 where
   pub whole : KernelPlan
   pub wide : KernelPlan
+  pub fed : KernelPlan
   pub whole_chosen : IsChosenWhole (descriptions set entries) k width whole
   pub wide_chosen : IsChosenWide (descriptions set entries) k width wide
+  pub fed_chosen : IsChosenFed (descriptions set entries) k width fed
   pub below_whole : cost_of p ≤ price_of (descriptions set entries) whole
   pub below_wide : cost_of p ≤ price_of (descriptions set entries) wide
+  pub below_fed : cost_of p ≤ price_of (descriptions set entries) fed
   pub below_plain :
       cost_of p
       ≤ plans.cost_of (descriptions set entries) whole.matches whole.ssa
       (plain_of_units (descriptions set entries) whole.matches whole.ssa)
+  pub below_careful :
+      cost_of p
+      ≤ plans.cost_of (descriptions set entries) fed.matches fed.ssa
+      (careful_of (descriptions set entries) fed.matches fed.ssa (dependences fed.ssa))
   pub optimal : IsOptimalCost (descriptions set entries) whole.matches whole.ssa width (cost_of p)
   pub optimal_wide : IsOptimalCost (descriptions set entries) wide.matches wide.ssa width (cost_of p)
+  pub optimal_fed : IsOptimalFedCost (descriptions set entries) fed.matches fed.ssa width (cost_of p)
 
 -- more plans cost no more
 abbrev pub MorePlansCostNoMore : Type 0

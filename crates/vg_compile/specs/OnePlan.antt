@@ -5,7 +5,7 @@ use Rattle.vg_kernel.specs.Tree.{Tree}
 use Rattle.vg_program.specs.declared.program.Program.{Program}
 use Rattle.vg_program.specs.Cost.{cost_of}
 use Rattle.vg_shapes.specs.Description.{Description}
-use Rattle.vg_compile.specs.Chosen.{KernelPlan, IsChosenWhole, IsChosenWide, price_of}
+use Rattle.vg_compile.specs.Chosen.{KernelPlan, IsChosenWhole, IsChosenWide, IsChosenFed, price_of}
 use Rattle.vg_compile.specs.Compiled.{IsCompiled}
 
 -- two plans of a kernel have the same matches and the same packs, and cost the same
@@ -14,12 +14,14 @@ pub record AreOnePlan (ds : List Description) (a b : KernelPlan) : Type 0 where
   pub packs : a.packs ≡ b.packs
   pub price : price_of ds a ≡ price_of ds b
 
--- two chosen plans of a kernel are one, and so are two chosen wide plans
+-- two chosen plans of a kernel are one, and so are two chosen wide plans and two chosen fed plans
 pub record OneChosenPlan : Type 0 where
   pub whole : (ds : List Description) (k : Tree) (width : ℕ) (a b : KernelPlan) →
       IsChosenWhole ds k width a → IsChosenWhole ds k width b → AreOnePlan ds a b
   pub wide : (ds : List Description) (k : Tree) (width : ℕ) (a b : KernelPlan) →
       IsChosenWide ds k width a → IsChosenWide ds k width b → AreOnePlan ds a b
+  pub fed : (ds : List Description) (k : Tree) (width : ℕ) (a b : KernelPlan) →
+      IsChosenFed ds k width a → IsChosenFed ds k width b → AreOnePlan ds a b
 
 -- Two programs that are compiled of a kernel by the same entries, both with more plans or both without, cost
 -- the same; and one with more plans costs at most what one without costs.

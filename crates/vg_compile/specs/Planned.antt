@@ -13,6 +13,7 @@ use Rattle.vg_plan_text.specs.declared.costs.Costs.{Costs}
 use Rattle.vg_plan_text.specs.PlanText.{plan_text}
 use Rattle.vg_ssa.specs.StandsFor.{StandsFor}
 use Rattle.vg_instances.specs.Descriptions.{descriptions}
+use Rattle.vg_compile.specs.declared.more_plans.FedPlan.{FedPlan}
 use Rattle.vg_compile.specs.declared.more_plans.PlannedValues.{PlannedValues}
 use Rattle.vg_compile.specs.Chosen.{IsChosenPlan, KernelPlan, IsChosenFor, AreWhole, IsTableOf, cost_of, price_of, plain_of_units}
 use Rattle.vg_compile.specs.Means.{param_of}
@@ -53,6 +54,17 @@ pub record IsPlannedFor
 abbrev pub plan_seen : PlannedValues → KernelPlan
 plan_seen v =
     record { ssa = v.ssa; matches = v.planned.chosen.table; packs = v.planned.chosen.plan }
+
+-- values with another plan of theirs
+abbrev pub with_plan : PlannedValues → FedPlan → PlannedValues
+with_plan v f = record {
+  ssa = v.ssa;
+  planned = record {
+    chosen = record { table = v.planned.chosen.table; deps = v.planned.chosen.deps; plan = f.plan };
+    cost = f.cost;
+    plain = v.planned.plain;
+  };
+}
 
 -- The plan that is chosen of a kernel with more plans, with what it and the plain plan cost, over sound values
 -- that stand for the kernel.

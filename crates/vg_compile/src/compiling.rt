@@ -43,10 +43,11 @@ pub fn compile(
     compile_units(alloc, descriptions.as_slice(), &ssa, width)
 }
 
-/// The same with more plans: the program of the plan that `compile` chooses, where that costs no
-/// more than the wide plan that it would choose if lanes fitted cut terms too, as they are or
-/// turned; else of that wide plan. Each of the two searches keeps `width` plans of each size. So
-/// the program costs at most what `compile` gives for the same.
+/// The same with more plans: the program of the first of the least cost of the plan that `compile`
+/// chooses, the wide plan that it would choose if lanes fitted cut terms too, as they are or turned,
+/// and the fed plan that it would then choose of aligned store groups if load groups could feed
+/// operands. Each of the three searches keeps `width` plans of each size. So the program costs at
+/// most what `compile` gives for the same.
 ///
 /// Fails for want of memory, also at the bounds of `compile`.
 pub fn compile_more(

@@ -2,7 +2,7 @@
 
 ghost use Rattle.std.specs.Prelude.{◌≡◌, IfOk, map};
 ghost use Rattle.vg_compile.specs.Emitted.{IsEmitted};
-ghost use Rattle.vg_packing.specs.Laws.{IsPlanFor};
+ghost use Rattle.vg_packing.specs.Fed.{IsFedPlanFor};
 ghost use Rattle.vg_plan_laws.specs.Laws.{AreKnown};
 ghost use Rattle.vg_shapes.specs.Depends.{dependences};
 ghost use Rattle.vg_shapes.specs.Description.{description_of};
@@ -25,7 +25,7 @@ fn order_of(
 ) -> Result<Order, AllocError>
     requires known { AreKnown (map description_of descriptions.now) table.now ssa.now }
     requires deps { deps.now ≡ dependences ssa.now }
-    requires plan { IsPlanFor (map description_of descriptions.now) table.now ssa.now deps.now
+    requires plan { IsFedPlanFor (map description_of descriptions.now) table.now ssa.now deps.now
         plan.now }
     ensures { IfOk result (IsOrder ssa.now table.now plan.now) }
 {
@@ -48,7 +48,7 @@ pub(crate) fn emit_plan(
 ) -> Result<Program, AllocError>
     requires known { AreKnown (map description_of descriptions.now) table.now ssa.now }
     requires deps { deps.now ≡ dependences ssa.now }
-    requires plan { IsPlanFor (map description_of descriptions.now) table.now ssa.now deps.now
+    requires plan { IsFedPlanFor (map description_of descriptions.now) table.now ssa.now deps.now
         plan.now }
     ensures { IfOk result
         (IsEmitted (map description_of descriptions.now) table.now ssa.now plan.now) }

@@ -9,15 +9,15 @@ pub fn units_mean_kernels()
     ensures { UnitsMeanKernels }
 {}
 
-/// A law: what is compiled with more plans costs at most what the chosen plan, the plain plan and the
-/// chosen wide plan cost, and in a kernel of at most 256 units at most what any plan or wide plan costs where no
-/// lesser size is crowded.
+/// A law: what is compiled with more plans costs at most what the chosen plan, the chosen wide plan, the
+/// chosen fed plan, the plain plan and the careful plain plan cost, and in a kernel of at most 256 units at
+/// most what any plan, wide plan or fed plan of aligned store groups costs where no lesser size is crowded.
 pub fn more_plans_cost_no_more()
     ensures { MorePlansCostNoMore }
 {}
 
 /// A law: two chosen plans of a kernel have the same matches and packs and cost the same, and so
-/// have two chosen wide plans.
+/// have two chosen wide plans and two chosen fed plans.
 pub fn there_is_one_plan()
     ensures { OneChosenPlan }
 {}

@@ -1,8 +1,10 @@
-//! The plan that is chosen of a kernel with more plans: the cheaper of the chosen plan and the chosen wide plan.
+//! The plan that is chosen of a kernel with more plans: the cheapest of the chosen plan, the chosen wide
+//! plan and the chosen fed plan.
 
-ghost use Rattle.std.specs.Prelude.{◌≡◌, IfOk, map, nat_le, if◌then◌else◌};
+ghost use Rattle.std.specs.Prelude.{◌≡◌, ◌&&◌, IfOk, map, nat_le, nat_lt, if◌then◌else◌};
 ghost use Rattle.std.specs.List.{AllByRecursion};
-ghost use Rattle.vg_compile.specs.Planned.{IsPlanned, IsPlannedMore};
+ghost use Rattle.vg_compile.specs.Chosen.{IsChosenFedPlan, IsTableOf, cost_of};
+ghost use Rattle.vg_compile.specs.Planned.{IsPlanned, IsPlannedMore, with_plan};
 ghost use Rattle.vg_emission.specs.Truth.{IsCallable};
 ghost use Rattle.vg_kernel.specs.Tree.{tree_of};
 ghost use Rattle.vg_kernel.specs.WellFormed.{IsWellFormed};
@@ -10,10 +12,13 @@ ghost use Rattle.vg_shapes.specs.Depends.{dependences};
 ghost use Rattle.vg_shapes.specs.Description.{description_of};
 ghost use Rattle.vg_shapes.specs.Sound.{IsSound};
 
+use crate::choosing::ChosenPlan;
 use crate::planning::{Planned, plan_units};
 use std::alloc::{AllocError, Global};
+use vg_beam::choose_fed;
+use vg_cost::plan_cost;
 use vg_kernel::Kernel;
-use vg_shapes::{Description, Ssa};
+use vg_shapes::{Description, Plan, Ssa};
 use vg_ssa::{number_more, number_values};
 
 /// A chosen plan with the values that it is of, and what is told of it.
@@ -29,6 +34,13 @@ pub(crate) struct PlannedValues {
 pub(crate) struct PlannedMore {
     pub(crate) values: PlannedValues,
     pub(crate) plain: u64,
+}
+
+/// A plan and what it costs.
+#[derive(Drop)]
+pub(crate) struct FedPlan {
+    pub(crate) plan: Plan,
+    pub(crate) cost: u64,
 }
 
 /// The chosen plan of numbered values, with them.
@@ -49,19 +61,73 @@ fn plan_values(
     Ok(PlannedValues { ssa, planned })
 }
 
-/// The first where it costs no more, else the second.
-fn cheaper(first: PlannedValues, second: PlannedValues) -> PlannedValues
-    ensures { result ≡ (if nat_le first.planned.cost second.planned.cost then first else second) }
+/// The chosen fed plan of values, by the matches and the dependences of their chosen plan.
+fn plan_fed(
+    alloc: Global,
+    descriptions: &[Description],
+    values: &PlannedValues,
+    width: u32,
+) -> Result<FedPlan, AllocError>
+    requires sound { IsSound values.now.ssa }
+    requires callable { AllByRecursion IsCallable (map description_of descriptions.now) }
+    requires table { IsTableOf (map description_of descriptions.now) values.now.ssa
+        values.now.planned.chosen.table }
+    requires deps { values.now.planned.chosen.deps ≡ dependences values.now.ssa }
+    ensures chosen { IfOk result (λ f. IsChosenFedPlan (map description_of descriptions.now)
+        values.now.planned.chosen.table values.now.ssa width f.plan) }
+    ensures cost { IfOk result (λ f. f.cost ≡ cost_of (map description_of descriptions.now)
+        values.now.planned.chosen.table values.now.ssa f.plan) }
 {
-    if first.planned.cost <= second.planned.cost {
-        first
+    let ssa = &values.ssa;
+    let chosen = &values.planned.chosen;
+    let plan = choose_fed(alloc, descriptions, &chosen.table, ssa, &chosen.deps, width)?;
+    let cost = plan_cost(alloc, &plan, descriptions, &chosen.table, ssa)?;
+    Ok(FedPlan { plan, cost })
+}
+
+/// The values with another plan of theirs.
+fn with_plan(values: PlannedValues, fed: FedPlan) -> PlannedValues
+    ensures { result ≡ with_plan values fed }
+{
+    let PlannedValues { ssa, planned } = values;
+    let Planned {
+        chosen,
+        cost: _,
+        plain,
+    } = planned;
+    let ChosenPlan {
+        table,
+        deps,
+        plan: _,
+    } = chosen;
+    let FedPlan { plan, cost } = fed;
+    let chosen = ChosenPlan { table, deps, plan };
+    let planned = Planned {
+        chosen,
+        cost,
+        plain,
+    };
+    PlannedValues { ssa, planned }
+}
+
+/// The first of the least cost of the chosen plan, the chosen wide plan, and the chosen fed plan of the
+/// same values as that.
+fn cheapest(whole: PlannedValues, wide: PlannedValues, fed: FedPlan) -> PlannedValues
+    ensures { result ≡ (if nat_lt fed.cost whole.planned.cost && nat_lt fed.cost wide.planned.cost
+        then with_plan wide fed
+        else if nat_le whole.planned.cost wide.planned.cost then whole else wide) }
+{
+    if fed.cost < whole.planned.cost && fed.cost < wide.planned.cost {
+        with_plan(wide, fed)
+    } else if whole.planned.cost <= wide.planned.cost {
+        whole
     } else {
-        second
+        wide
     }
 }
 
-/// The plan that is chosen of a kernel with more plans, where each of the two searches keeps `width` plans of
-/// each size, and what is told of it.
+/// The plan that is chosen of a kernel with more plans, where each of the three searches keeps `width` plans
+/// of each size, and what is told of it.
 pub(crate) fn plan_more(
     alloc: Global,
     descriptions: &[Description],
@@ -77,7 +143,8 @@ pub(crate) fn plan_more(
     let wide_values = number_more(alloc, kernel)?;
     let whole = plan_values(alloc, descriptions, whole_values, width)?;
     let wide = plan_values(alloc, descriptions, wide_values, width)?;
+    let fed = plan_fed(alloc, descriptions, &wide, width)?;
     let plain = whole.planned.plain;
-    let values = cheaper(whole, wide);
+    let values = cheapest(whole, wide, fed);
     Ok(PlannedMore { values, plain })
 }

@@ -141,3 +141,51 @@ FOR j := 0 to 3
 ENDFOR
 END
 ";
+
+/// The bytes of four double words, each in reverse.
+pub const SWAP: &[u8] = b"INSTRUCTION seq_bswap PARAM a 128 UI8
+RESULT dst 128 UI8 EXTENSION SSSE3 COST 2 OPERATION
+FOR j := 0 to 3
+ dst.byte[4*j] := a.byte[4*j+3]
+ dst.byte[4*j+1] := a.byte[4*j+2]
+ dst.byte[4*j+2] := a.byte[4*j+1]
+ dst.byte[4*j+3] := a.byte[4*j]
+ENDFOR
+END
+";
+
+/// Sums, shuffles and products of four double words.
+pub const SUMS_SHUFFLES_PRODUCTS: &[u8] =
+    b"INSTRUCTION _mm_add_epi32 PARAM a 128 SI32 PARAM b 128 SI32
+RESULT dst 128 SI32 EXTENSION SSE2 COST 1 OPERATION
+FOR j := 0 to 3
+ i := j*32
+ dst[i+31:i] := a[i+31:i] + b[i+31:i]
+ENDFOR
+dst[MAX:128] := 0
+END
+INSTRUCTION _mm_shuffle_epi32 PARAM a 128 UI32 IMM imm8 0 to 255
+RESULT dst 128 UI32 EXTENSION SSE2 COST 1 OPERATION
+DEFINE SELECT4(src, control) {
+ CASE(control[1:0]) OF
+ 0: tmp[31:0] := src[31:0]
+ 1: tmp[31:0] := src[63:32]
+ 2: tmp[31:0] := src[95:64]
+ 3: tmp[31:0] := src[127:96]
+ ESAC
+ RETURN tmp[31:0]
+}
+dst[31:0] := SELECT4(a[127:0], imm8[1:0])
+dst[63:32] := SELECT4(a[127:0], imm8[3:2])
+dst[95:64] := SELECT4(a[127:0], imm8[5:4])
+dst[127:96] := SELECT4(a[127:0], imm8[7:6])
+END
+INSTRUCTION _mm_mullo_epi32 PARAM a 128 SI32 PARAM b 128 SI32
+RESULT dst 128 SI32 EXTENSION SSE4.1 COST 2 OPERATION
+FOR j := 0 to 3
+ i := j*32
+ tmp[63:0] := a[i+31:i] * b[i+31:i]
+ dst[i+31:i] := tmp[31:0]
+ENDFOR
+END
+";

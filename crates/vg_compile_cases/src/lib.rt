@@ -9,6 +9,8 @@ mod calls;
 #[cfg(test)]
 mod entries;
 #[cfg(test)]
+mod fed_plans;
+#[cfg(test)]
 mod kernels;
 #[cfg(test)]
 mod more_plans;

@@ -8,7 +8,7 @@ ghost use Rattle.vg_cost.specs.Room.{IsRoomFor};
 ghost use Rattle.vg_cost.specs.Running.{StandsFor, taken_by};
 ghost use Rattle.vg_cost.specs.Taken.{inserted_for};
 ghost use Rattle.vg_cost.specs.Tried.{AreMarksFor};
-ghost use Rattle.vg_packing.specs.Laws.{IsPlanFor};
+ghost use Rattle.vg_packing.specs.Fed.{IsFedPlanFor};
 ghost use Rattle.vg_packing.specs.Packing.{packing};
 ghost use Rattle.vg_packing.specs.Taken.{IsShort, MatchesNear};
 ghost use Rattle.vg_plans.specs.World.{plan_cost};
@@ -96,7 +96,7 @@ impl Running {
         requires short { IsShort pack.now }
         requires stands { StandsFor (map description_of descriptions.now) table.now ssa.now
             self.now }
-        requires plan { (deps : List (ℕ × ℕ)) × IsPlanFor (map description_of descriptions.now)
+        requires plan { (deps : List (ℕ × ℕ)) × IsFedPlanFor (map description_of descriptions.now)
             table.now ssa.now deps (self.now.packs.items ++ pack.now ∷ []) }
         ensures packs { IfOk result (λ r. r.packs.items ≡ self.now.packs.items ++ pack.now ∷ []) }
         ensures stands { IfOk result (StandsFor (map description_of descriptions.now) table.now
@@ -147,7 +147,7 @@ impl Running {
         requires room { IsRoomFor ssa.now self.now.packs.items room.old }
         requires stands { StandsFor (map description_of descriptions.now) table.now ssa.now
             self.now }
-        requires plan { (deps : List (ℕ × ℕ)) × IsPlanFor (map description_of descriptions.now)
+        requires plan { (deps : List (ℕ × ℕ)) × IsFedPlanFor (map description_of descriptions.now)
             table.now ssa.now deps (self.now.packs.items ++ pack.now ∷ []) }
         ensures room { room.new ≡ room.old }
         ensures cost { IfOk result (λ c. (deps : List (ℕ × ℕ)) → c ≡ plan_cost
@@ -177,7 +177,7 @@ impl Running {
         requires tried { AreMarksFor (arguments ssa.now + length ssa.now.units) tried.old }
         requires stands { StandsFor (map description_of descriptions.now) table.now ssa.now
             self.now }
-        requires plan { (deps : List (ℕ × ℕ)) × IsPlanFor (map description_of descriptions.now)
+        requires plan { (deps : List (ℕ × ℕ)) × IsFedPlanFor (map description_of descriptions.now)
             table.now ssa.now deps (self.now.packs.items ++ pack.now ∷ []) }
         ensures tried { AreMarksFor (arguments ssa.now + length ssa.now.units) tried.new }
         ensures cost { IfOk result (λ c. (deps : List (ℕ × ℕ)) → c ≡ plan_cost

@@ -1,4 +1,5 @@
--- Each plan by packs, units and nodes can be emitted, and its program is right.
+-- Each plan by packs, units and nodes can be emitted, also where load groups feed operands, and its
+-- program is right.
 use Rattle.std.proofs.Common.{◌<◌, ◌^◌, List, [], ◌∷◌, subst, arith}
 use Rattle.std.specs.List.{AllByRecursion}
 use Rattle.vg_program.specs.Cost.{cost_of}
@@ -10,7 +11,7 @@ use Rattle.vg_shapes.specs.declared.pack.Pack.{Pack as Packed}
 use Rattle.vg_shapes.specs.declared.ssa.Ssa.{Ssa}
 use Rattle.vg_shapes.specs.Depends.{dependences}
 use Rattle.vg_shapes.specs.Description.{Description, IsPackable}
-use Rattle.vg_packing.specs.Laws.{IsPlanFor}
+use Rattle.vg_packing.specs.Fed.{IsFedPlanFor, fed}
 use Rattle.vg_emission.specs.Fit.{HasHeader}
 use Rattle.vg_emission.specs.Truth.{IsCallable}
 use Rattle.vg_gather.specs.Recipes.{planned_program}
@@ -19,8 +20,8 @@ use Rattle.vg_plan_laws.proofs.Chosen.{kernels-are-small}
 use Rattle.vg_plan_laws.proofs.Keeping.{plans-keep}
 use Rattle.vg_plan_laws.proofs.Planned.{plans-are-planned}
 use Rattle.vg_plan_laws.proofs.Programs.{plans-are-fit, programs-call, programs-cost, programs-keep-rules, programs-mean}
-use Rattle.vg_plan_relations.specs.Plans.{IsPlanByNodes}
-use Rattle.vg_plan_relations.proofs.Planning.{plans-by-nodes}
+use Rattle.vg_plan_relations.specs.Plans.{IsFedPlanByNodes}
+use Rattle.vg_plan_relations.proofs.Planning.{plans-by-nodes-by}
 use Rattle.vg_emit_laws.specs.Laws.{EmittedProgramsAreRight, PlansCanBeEmitted}
 use Rattle.vg_emit_laws.proofs.Lines.{program-lines}
 use Rattle.vg_emit_laws.proofs.Near.{matches-are-near, packs-are-short}
@@ -31,8 +32,8 @@ packable (d ∷ ds) all = (all.0.packable, packable ds all.1)
 
 -- it grows from the empty plan, by the list of all dependences
 grows : (ds : List Description) (matches : List Match) (ssa : Ssa) (plan : List Packed) → AreKnown ds matches ssa
-    → IsPlanByNodes ds matches ssa plan → IsPlanFor ds matches ssa (dependences ssa) plan
-grows ds matches ssa plan known is = (plans-by-nodes ds matches ssa plan (packable ds known.described)
+    → IsFedPlanByNodes ds matches ssa plan → IsFedPlanFor ds matches ssa (dependences ssa) plan
+grows ds matches ssa plan known is = (plans-by-nodes-by fed ds matches ssa plan (packable ds known.described)
     known.matched).1 is
 
 pub plans-can-be-emitted : PlansCanBeEmitted

@@ -22,13 +22,14 @@ use Rattle.vg_shapes.specs.Matches.{IsMatch, lane_at}
 use Rattle.vg_shapes.specs.Pack.{is_pack_size}
 use Rattle.vg_match.proofs.Laws.{wide-alone}
 use Rattle.vg_packing.specs.Taken.{AreNear, IsShort, MatchesNear}
+use Rattle.vg_packing.proofs.FedPlans.{may-be-fed}
 use Rattle.vg_emission.specs.Truth.{IsCallable, IsRegisterWidth}
 use Rattle.vg_plan_laws.specs.Made.{IsMade}
 use Rattle.vg_plan_laws.proofs.Filled.{all-get}
 use Rattle.vg_plan_laws.proofs.Fitted.{IsInside, each-inside, leaf-holds}
 use Rattle.vg_plan_laws.proofs.Packs.{match-units}
 use Rattle.vg_plan_laws.proofs.Planned.{plans-are-made}
-use Rattle.vg_emit_laws.specs.Laws.{MatchesAreNear, MatchesAreOfUnits, PacksAreShort}
+use Rattle.vg_emit_laws.specs.Laws.{MatchesAreNear, MatchesAreOfUnits, PacksAreShort, PacksByChoiceAreShort}
 
 -- ---- matches
 
@@ -150,6 +151,10 @@ all-short ds matches ssa (p ∷ plan) all are = (
 pub packs-are-short : PacksAreShort
 packs-are-short ds matches ssa deps plan known is = all-short ds matches ssa plan known.described
     (plans-are-made ds matches ssa deps plan is)
+
+pub packs-are-short-by : PacksByChoiceAreShort
+packs-are-short-by c ds matches ssa deps known plan is =
+    packs-are-short ds matches ssa deps plan known (may-be-fed ds matches ssa deps c plan is)
 
 pub matches-are-of-units : MatchesAreOfUnits
 matches-are-of-units ds matches ssa known = match-units ds matches ssa known.sound known.matched

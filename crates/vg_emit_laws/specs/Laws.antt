@@ -16,7 +16,9 @@ use Rattle.vg_shapes.specs.Depends.{dependences}
 use Rattle.vg_shapes.specs.Description.{Description}
 use Rattle.vg_shapes.specs.Nodes.{IsOrder}
 use Rattle.vg_shapes.specs.Sound.{IsSound}
-use Rattle.vg_packing.specs.Laws.{IsPlanFor, MatchUnits}
+use Rattle.vg_packing.specs.declared.choice.Choice.{Choice}
+use Rattle.vg_packing.specs.Fed.{IsFedPlanFor, IsPlanBy}
+use Rattle.vg_packing.specs.Laws.{MatchUnits}
 use Rattle.vg_packing.specs.Packing.{packing}
 use Rattle.vg_packing.specs.Taken.{IsShort, MatchesNear}
 use Rattle.vg_emission.specs.Fit.{AreFit, CallsDescribed, HasHeader}
@@ -24,15 +26,22 @@ use Rattle.vg_emission.specs.Laws.{AlwaysKeep, MeansUnits}
 use Rattle.vg_emission.specs.Planned.{IsPlanned}
 use Rattle.vg_gather.specs.Recipes.{planned_job, planned_program}
 use Rattle.vg_plan_laws.specs.Laws.{AreKnown, AreTrue}
-use Rattle.vg_plan_relations.specs.Plans.{IsPlanByNodes}
+use Rattle.vg_plan_relations.specs.Plans.{IsFedPlanByNodes}
 
 -- ---- plans and matches
 
--- the packs of plans are short
+-- the packs of plans are short, also where load groups feed operands
 abbrev pub PacksAreShort : Type 0
 PacksAreShort =
     (ds : List Description) (matches : List Match) (ssa : Ssa) (deps : List (ℕ × ℕ))
-    (plan : List Packed) → AreKnown ds matches ssa → IsPlanFor ds matches ssa deps plan →
+    (plan : List Packed) → AreKnown ds matches ssa → IsFedPlanFor ds matches ssa deps plan →
+    AllByRecursion IsShort plan
+
+-- so are those of plans by any choice of the packs that are tried, as a search over these plans asks
+abbrev pub PacksByChoiceAreShort : Type 0
+PacksByChoiceAreShort =
+    (c : Choice) (ds : List Description) (matches : List Match) (ssa : Ssa) (deps : List (ℕ × ℕ)) →
+    AreKnown ds matches ssa → (plan : List Packed) → IsPlanBy c ds matches ssa deps plan →
     AllByRecursion IsShort plan
 
 -- the leaves that matches bind begin near
@@ -62,11 +71,11 @@ pub record CanBeEmitted
   pub fit : (headers : List Header) → AllByRecursion (HasHeader headers) ds
       → AreFit (planned_job ds matches ssa plan) headers
 
--- so of each plan by its packs, units and nodes
+-- so of each plan by its packs, units and nodes, in which load groups may feed operands
 abbrev pub PlansCanBeEmitted : Type 0
 PlansCanBeEmitted =
     (ds : List Description) (matches : List Match) (ssa : Ssa) (plan : List Packed) →
-    AreKnown ds matches ssa → IsPlanByNodes ds matches ssa plan →
+    AreKnown ds matches ssa → IsFedPlanByNodes ds matches ssa plan →
     CanBeEmitted ds matches ssa plan
 
 -- instructions that cost at least a line
@@ -90,10 +99,12 @@ pub record IsProgramOf
   pub valid : (headers : List Header) → AllByRecursion (HasHeader headers) ds → TakeFew headers
       → CostSome headers → cost_of p ≤ length ssa.units → IsValid headers p
 
--- so the program that is emitted for a plan by its packs, units and nodes, in any legal order
+-- so the program that is emitted for a plan by its packs, units and nodes, in which load groups may
+-- feed operands, in any legal order
 abbrev pub EmittedProgramsAreRight : Type 0
 EmittedProgramsAreRight =
     (ds : List Description) (matches : List Match) (ssa : Ssa) (plan : List Packed)
     (order : List Node) →
-    AreKnown ds matches ssa → IsPlanByNodes ds matches ssa plan → IsOrder ssa matches plan order →
+    AreKnown ds matches ssa → IsFedPlanByNodes ds matches ssa plan →
+    IsOrder ssa matches plan order →
     IsProgramOf ds matches ssa plan (planned_program ds matches ssa plan order)

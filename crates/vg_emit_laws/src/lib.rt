@@ -9,5 +9,5 @@ mod law;
 
 pub use law::{
     emitted_programs_are_right, matches_are_near, matches_are_of_units, packs_are_short,
-    plans_can_be_emitted,
+    packs_by_choice_are_short, plans_can_be_emitted,
 };

@@ -1,8 +1,8 @@
 -- Where matches are those of units, packs that are tried have units alone, and there are no more
 -- units than the kernel has.
-use Rattle.std.proofs.Common.{◌≡◌, ℕ, zero, suc, ◌+◌, ◌-◌, ◌*◌, ◌/◌, ◌<◌, ◌≤◌, ◌⊎◌, Bool, true, false, List, [], ◌∷◌, ◌++◌, map, length, refl, sym, ap, subst, inl, inr, arith}
-use Rattle.std.specs.Prelude.{◌&&◌, if◌then◌else◌, filter, find, nat_eq, nat_le, nat_lt, Option, Some, None, is_some, slice_get, cond}
-use Rattle.std.specs.List.{AllByRecursion, filter_map, flat_map, list_any, list_all}
+use Rattle.std.proofs.Common.{◌≡◌, ℕ, zero, suc, ◌+◌, ◌-◌, ◌*◌, ◌/◌, ◌<◌, ◌≤◌, true, false, List, [], ◌∷◌, map, length, refl, sym, ap, subst, inl, inr, arith}
+use Rattle.std.specs.Prelude.{◌&&◌, filter, nat_eq, nat_le, nat_lt, Option, Some, None, is_some, slice_get}
+use Rattle.std.specs.List.{filter_map, list_all}
 use Rattle.std.proofs.lemmas.Bool.{cases_Bool}
 use Rattle.std.proofs.lemmas.Bool.Decides.{nat_tests}
 use Rattle.std.specs.Cmp.Lexicographic.{pointwise}
@@ -10,9 +10,8 @@ use Rattle.vg_base.specs.declared.address.Address.{Address}
 use Rattle.vg_base.specs.declared.width.Width.{Width}
 use Rattle.vg_base.specs.Width.{size_of}
 use Rattle.vg_plans.specs.Members.{Has}
-use Rattle.vg_plans.specs.World.{is_in, tried}
-use Rattle.vg_plans.proofs.Members.{any-found, from-filter, from-flat_map, has-append, has-filter}
-use Rattle.vg_plans.proofs.Reach.{in-has}
+use Rattle.vg_plans.specs.World.{tried}
+use Rattle.vg_plans.proofs.Members.{from-filter, from-flat_map, has-append, has-filter}
 use Rattle.vg_shapes.specs.declared.match_table.Match.{Match}
 use Rattle.vg_shapes.specs.declared.operand.Operand.{Operand}
 use Rattle.vg_shapes.specs.declared.pack.Pack.{Pack as Packed}
@@ -22,19 +21,21 @@ use Rattle.vg_shapes.specs.declared.unit.Unit.{Unit as Work}
 use Rattle.vg_shapes.specs.declared.unit.Unit.TheVariants.{Load, Store, Operation}
 use Rattle.vg_shapes.specs.Depends.{numbers_below}
 use Rattle.vg_shapes.specs.Description.{Description}
-use Rattle.vg_shapes.specs.Order.{numbers_from}
-use Rattle.vg_shapes.specs.Pack.{behind, is_pack_size, match_at, stores_before, stores_to, units_of}
+use Rattle.vg_shapes.specs.Pack.{AreLoads, behind, is_pack_size, match_at, stores_before, stores_to, units_of}
 use Rattle.vg_shapes.specs.Units.{arguments, is_unit, unit_at}
+use Rattle.vg_packing.specs.declared.choice.Choice.{Choice}
+use Rattle.vg_packing.specs.Fed.{packing_by, unfed}
+use Rattle.vg_packing.specs.LoadGroups.{feeders}
 use Rattle.vg_packing.specs.Groups.{group_of, groups_of, store_groups, stores_at, stores_from, unit_numbers}
 use Rattle.vg_packing.specs.Held.{lanes_from}
 use Rattle.vg_packing.specs.Laws.{MatchUnits}
 use Rattle.vg_packing.specs.Packing.{falling_units, packing}
-use Rattle.vg_packing.specs.Producers.{are_beside, are_loads, are_matched, begin_loads, call_producer, call_producers, can_be_produced, lanes_for, load_producer, loads_from, producers}
+use Rattle.vg_packing.specs.Producers.{are_beside, are_loads, are_matched, begin_loads, call_producer, call_producers, can_be_produced, lanes_for, load_producer, loads_from}
 use Rattle.vg_packing.specs.SameAs.{same_slot}
-use Rattle.vg_packing.specs.Taken.{first_width, operands_of, register_for}
+use Rattle.vg_packing.specs.Taken.{first_width, register_for}
 use Rattle.vg_packing.specs.Wants.{wanted_slots, wanted_values}
 use Rattle.vg_packing.proofs.SameTests.{both-true}
-use Rattle.vg_packing.proofs.Tried.{if-has}
+use Rattle.vg_packing.proofs.Tried.{IsTried, feeder-group, feeds, group, if-has, is-tried, produces}
 
 -- the members of a list are units
 abbrev Inside : Ssa → List ℕ → Type 0
@@ -168,23 +169,45 @@ call-inside ds matches ssa m o p d (e ∷ es) k =
       | inr r ↦ call-inside ds matches ssa m o p (suc d) es r
     ]
 
+groups-inside : (ssa : Ssa) (p : Packed) → Has p (store_groups ssa) → Inside ssa (units_of p)
+groups-inside ssa p l =
+    let size = from-flat_map (groups_of ssa) p (64 ∷ 32 ∷ 16 ∷ 8 ∷ 4 ∷ []) l in
+    let first = from-flat_map (λ v. group_of ssa size.0 v (unit_at ssa v)) p (unit_numbers ssa) size.2 in
+    group-inside ssa size.0 first.0 p (unit_at ssa first.0) first.2
+
+-- loads beside each other are units
+pub are-inside : (ssa : Ssa) (w : Width) (a : Address) (us : List ℕ) → AreLoads ssa w a us → Inside ssa us
+are-inside ssa w a [] h v k = absurd k
+are-inside ssa w a (u ∷ us) h v k = elim k [
+  | inl e ↦ subst (λ x. is_unit ssa x ≡ true) e (is-some-of (unit_at ssa u) (Load a w) h.0)
+  | inr r ↦ are-inside ssa w (behind a (size_of w)) us h.1 v r
+]
+
+fed-inside : (ssa : Ssa) (o : Operand) (p : Packed) → Has p (feeders ssa o) → Inside ssa (units_of p)
+fed-inside ssa o p h =
+    let g = feeder-group ssa o p h in
+    subst (λ q. Inside ssa (units_of q)) (sym g.pack) (are-inside ssa g.loads.0 g.loads.1 g.units g.loads.2)
+
+any-inside : (ds : List Description) (matches : List Match) (ssa : Ssa) → MatchUnits ssa matches
+    → (plan : List Packed) (p : Packed) → IsTried ds matches ssa plan p → Inside ssa (units_of p)
+any-inside ds matches ssa m plan p (group h) = groups-inside ssa p h
+any-inside ds matches ssa m plan p (feeds q o a b h) = fed-inside ssa o p h
+any-inside ds matches ssa m plan p (produces q o a b h) =
+    elim (has-append p (load_producer ssa o) (call_producers ds matches ssa o 0 ds) h) [
+      | inl l ↦ load-inside ssa o p l
+      | inr s ↦ call-inside ds matches ssa m o p 0 ds s
+    ]
+
+pub tried-inside_by : (c : Choice) (ds : List Description) (matches : List Match) (ssa : Ssa) (deps : List (ℕ × ℕ))
+    → MatchUnits ssa matches → (plan : List Packed) (p : Packed)
+    → Has p (tried (packing_by c ds matches ssa deps) plan) → Inside ssa (units_of p)
+tried-inside_by c ds matches ssa deps m plan p h =
+    any-inside ds matches ssa m plan p (is-tried c ds matches ssa deps plan p h)
+
 pub tried-inside : (ds : List Description) (matches : List Match) (ssa : Ssa) (deps : List (ℕ × ℕ))
     → MatchUnits ssa matches → (plan : List Packed) (p : Packed)
     → Has p (tried (packing ds matches ssa deps) plan) → Inside ssa (units_of p)
-tried-inside ds matches ssa deps m plan p h =
-    elim (has-append p (store_groups ssa) (flat_map (λ q. flat_map (producers ds matches ssa) (operands_of ds matches ssa q)) plan) h) [
-      | inl l ↦
-          let size = from-flat_map (groups_of ssa) p (64 ∷ 32 ∷ 16 ∷ 8 ∷ 4 ∷ []) l in
-          let first = from-flat_map (λ v. group_of ssa size.0 v (unit_at ssa v)) p (unit_numbers ssa) size.2 in
-          group-inside ssa size.0 first.0 p (unit_at ssa first.0) first.2
-      | inr r ↦
-          let q = from-flat_map (λ q. flat_map (producers ds matches ssa) (operands_of ds matches ssa q)) p plan r in
-          let o = from-flat_map (producers ds matches ssa) p (operands_of ds matches ssa q.0) q.2 in
-          elim (has-append p (load_producer ssa o.0) (call_producers ds matches ssa o.0 0 ds) o.2) [
-            | inl l ↦ load-inside ssa o.0 p l
-            | inr s ↦ call-inside ds matches ssa m o.0 p 0 ds s
-          ]
-    ]
+tried-inside ds matches ssa deps m plan p h = tried-inside_by unfed ds matches ssa deps m plan p h
 
 -- ---- how many units there are
 
@@ -194,7 +217,7 @@ get-short [] (suc k) t = absurd (cc)
 get-short (x ∷ xs) zero t = omega arith
 get-short (x ∷ xs) (suc k) t = let h = get-short xs k t in omega (arith, h)
 
-unit-number : (ssa : Ssa) (v : ℕ) → is_unit ssa v ≡ true
+pub unit-number : (ssa : Ssa) (v : ℕ) → is_unit ssa v ≡ true
     → (arguments ssa ≤ v) × (v < arguments ssa + length ssa.units)
 unit-number ssa v t = elim (cases_Bool (nat_lt v (arguments ssa))) [
   | inl e ↦ absurd (let f : is_unit ssa v ≡ false = rw e refl in cc)

@@ -1,5 +1,5 @@
 -- The first of the least is no dearer than the first.
-use Rattle.std.proofs.Common.{◌≡◌, ℕ, ◌≤◌, Bool, true, false, List, ◌∷◌, refl, ap, subst, inl}
+use Rattle.std.proofs.Common.{◌≡◌, ℕ, ◌≤◌, Bool, true, false, List, ◌∷◌, refl, subst, inl}
 use Rattle.std.specs.Prelude.{if◌then◌else◌, nat_lt}
 use Rattle.vg_plans.specs.Levels.{first_least}
 use Rattle.vg_plans.proofs.Lists.{least-below}

@@ -1,8 +1,14 @@
+pub mod FedPlans
+pub mod FirstLoads
+pub mod GroupNumbers
 pub mod Inside
 pub mod Lanes
+pub mod LoadPacks
 pub mod Least
 pub mod Moved
 pub mod Nearness
 pub mod Onto
+pub mod Parts
 pub mod SameTests
+pub mod Tables
 pub mod Tried

@@ -1,7 +1,6 @@
 -- What near matches bind is near.
 use Rattle.std.proofs.Common.{◌≡◌, ℕ, ◌+◌, List, [], ◌∷◌, ◌++◌, inl, inr, subst, sym}
-use Rattle.std.specs.Prelude.{◌&&◌, find, nat_eq, Option, Some, None}
-use Rattle.std.specs.List.{AllByRecursion}
+use Rattle.std.specs.Prelude.{◌&&◌, nat_eq, Option, Some, None}
 use Rattle.std.specs.Option.{option_map_or}
 use Rattle.std.proofs.lemmas.Bool.{cases_Bool}
 use Rattle.vg_shapes.specs.declared.match_table.Bound.{Bound}

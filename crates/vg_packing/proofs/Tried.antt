@@ -1,16 +1,14 @@
 -- Each pack that is tried has a unit, and where matches are those of units, it has units alone.
-use Rattle.std.proofs.Common.{◌≡◌, ℕ, zero, suc, ◌+◌, ◌*◌, ◌/◌, ◌≤◌, ◌⊎◌, Bool, true, false, List, [], ◌∷◌, ◌++◌, map, length, refl, sym, ap, subst, inl, inr, arith}
+use Rattle.std.proofs.Common.{◌≡◌, ℕ, suc, ◌+◌, ◌/◌, ◌≤◌, ◌⊎◌, Bool, true, false, List, [], ◌∷◌, ◌++◌, length, refl, sym, ap, subst, inl, inr, arith}
 use Rattle.std.specs.Prelude.{◌&&◌, if◌then◌else◌, filter, nat_eq, nat_le, Option, Some, None, is_some, cond, option_to_list}
-use Rattle.std.specs.List.{filter_map, flat_map, list_any, list_all}
-use Rattle.std.proofs.lemmas.Bool.{cases_Bool}
+use Rattle.std.specs.List.{filter_map, flat_map, list_all}
 use Rattle.std.proofs.lemmas.Bool.Decides.{nat_tests}
 use Rattle.std.specs.Cmp.Lexicographic.{pointwise}
-use Rattle.vg_base.specs.declared.address.Address.{Address}
-use Rattle.vg_base.specs.declared.width.Width.{Width}
 use Rattle.vg_base.specs.Width.{size_of}
 use Rattle.vg_plans.specs.Members.{Has}
-use Rattle.vg_plans.specs.World.{IsWorld, is_in}
-use Rattle.vg_plans.proofs.Members.{has-append, from-flat_map}
+use Rattle.vg_plans.specs.World.{IsWorld, is_in, tried, tried_for}
+use Rattle.vg_plans.proofs.Lists.{has-append_left, has-append_right, has-flat_map}
+use Rattle.vg_plans.proofs.Members.{has-append, from-filter, from-flat_map}
 use Rattle.vg_shapes.specs.declared.match_table.Match.{Match}
 use Rattle.vg_shapes.specs.declared.operand.Operand.{Operand}
 use Rattle.vg_shapes.specs.declared.operand.Slot.{Slot}
@@ -22,15 +20,19 @@ use Rattle.vg_shapes.specs.declared.unit.Unit.TheVariants.{Load, Store, Operatio
 use Rattle.vg_shapes.specs.declared.wanted.Wanted.{Wanted}
 use Rattle.vg_shapes.specs.declared.wanted.Wanted.TheVariants.{Value, Constant, Nothing}
 use Rattle.vg_shapes.specs.Description.{Description}
-use Rattle.vg_shapes.specs.Pack.{behind, stores_before, units_of}
+use Rattle.vg_shapes.specs.Pack.{stores_before, units_of}
 use Rattle.vg_shapes.specs.Units.{unit_at}
-use Rattle.vg_packing.specs.Groups.{group_of, groups_of, store_groups, stores_at, stores_from, unit_numbers}
+use Rattle.vg_packing.specs.declared.choice.Choice.{Choice}
+use Rattle.vg_packing.specs.Fed.{feeders_by, groups_by, packing_by, unfed}
+use Rattle.vg_packing.specs.LoadGroups.{feeders, load_groups, feeds as has_fed}
+use Rattle.vg_packing.specs.Groups.{aligned_groups, is_aligned, group_of, groups_of, store_groups, stores_from, unit_numbers}
 use Rattle.vg_packing.specs.Held.{lanes_from}
 use Rattle.vg_packing.specs.Packing.{packing}
 use Rattle.vg_packing.specs.Producers.{all_differ, call_producer, call_producers, can_be_produced, lanes_for, load_producer, producers}
 use Rattle.vg_packing.specs.SameAs.{same_slot}
-use Rattle.vg_packing.specs.Taken.{first_width, operands_of}
+use Rattle.vg_packing.specs.Taken.{operands_of}
 use Rattle.vg_packing.specs.Wants.{is_wanted, value_of, wanted_slots, wanted_values, wants_value}
+use Rattle.vg_packing.proofs.LoadPacks.{IsLoadGroup, load-group}
 use Rattle.vg_packing.proofs.SameTests.{both-true, eq-itself, list-is, operand-is, operand-itself, pack-is, pack-itself, slot-is}
 
 -- a list has a member
@@ -144,21 +146,110 @@ produced-has ds matches ssa o p h =
       | inr r ↦ call-has ds matches ssa o p 0 ds r
     ]
 
-pub is-packing : (ds : List Description) (matches : List Match) (ssa : Ssa) (deps : List (ℕ × ℕ))
-    → IsWorld (packing ds matches ssa deps)
-is-packing ds matches ssa deps = record {
+first-unit : (us : List ℕ) → 1 ≤ length us → Somewhere us
+first-unit [] le = absurd (omega arith)
+first-unit (u ∷ us) le = (u, here u us)
+
+fed-has : (ssa : Ssa) (register : ℕ) (p : Packed) → Has p (load_groups ssa register) → HasUnit p
+fed-has ssa register p h =
+    let g = load-group ssa register p h in
+    let two : 2 ≤ length g.units = g.loads.3 in
+    subst HasUnit (sym g.pack) (first-unit g.units (omega (arith, two)))
+
+groups-has : (ssa : Ssa) (p : Packed) → Has p (store_groups ssa) → HasUnit p
+groups-has ssa p l =
+    let size = from-flat_map (groups_of ssa) p (64 ∷ 32 ∷ 16 ∷ 8 ∷ 4 ∷ []) l in
+    let first = from-flat_map (λ v. group_of ssa size.0 v (unit_at ssa v)) p (unit_numbers ssa) size.2 in
+    group-has ssa size.0 first.0 p (unit_at ssa first.0) first.2
+
+-- what is tried by a choice: a store group, a producer or a load group
+pub tried-groups : (c : Choice) (ssa : Ssa) (p : Packed) → Has p (groups_by c ssa) → Has p (store_groups ssa)
+tried-groups c ssa p h = of c.aligned h
+  where
+    of : (b : Bool) → Has p (if b then aligned_groups ssa else store_groups ssa) → Has p (store_groups ssa)
+    of true h = (from-filter (is_aligned ssa) p (store_groups ssa) h).0
+    of false h = h
+
+pub tried-feeders : (c : Choice) (ssa : Ssa) (o : Operand) (p : Packed) → Has p (feeders_by c ssa o) → Has p (feeders ssa o)
+tried-feeders c ssa o p h = of c.fed h
+  where
+    of : (b : Bool) → Has p (if b then feeders ssa o else []) → Has p (feeders ssa o)
+    of true h = h
+    of false h = absurd h
+
+-- a pack that is tried is a store group, produces an operand of a pack of the plan, or feeds one
+pub data IsTried (ds : List Description) (matches : List Match) (ssa : Ssa) (plan : List Packed) (p : Packed) : Type 0 where
+  group : Has p (store_groups ssa) → IsTried ds matches ssa plan p
+  produces : (q : Packed) (o : Operand) → Has q plan → Has o (operands_of ds matches ssa q)
+      → Has p (producers ds matches ssa o) → IsTried ds matches ssa plan p
+  feeds : (q : Packed) (o : Operand) → Has q plan → Has o (operands_of ds matches ssa q)
+      → Has p (feeders ssa o) → IsTried ds matches ssa plan p
+
+pub is-tried : (c : Choice) (ds : List Description) (matches : List Match) (ssa : Ssa) (deps : List (ℕ × ℕ)) (plan : List Packed) (p : Packed)
+    → Has p (tried (packing_by c ds matches ssa deps) plan) → IsTried ds matches ssa plan p
+is-tried c ds matches ssa deps plan p h =
+    let of : Operand → List Packed = tried_for (packing_by c ds matches ssa deps) in
+    elim (has-append p (groups_by c ssa) (flat_map (λ q. flat_map of (operands_of ds matches ssa q)) plan) h) [
+      | inl l ↦ group (tried-groups c ssa p l)
+      | inr r ↦
+          let q = from-flat_map (λ q. flat_map of (operands_of ds matches ssa q)) p plan r in
+          let o = from-flat_map of p (operands_of ds matches ssa q.0) q.2 in
+          elim (has-append p (producers ds matches ssa o.0) (feeders_by c ssa o.0) o.2) [
+            | inl m ↦ produces q.0 o.0 q.1 o.1 m
+            | inr f ↦ feeds q.0 o.0 q.1 o.1 (tried-feeders c ssa o.0 p f)
+          ]
+    ]
+
+-- where nothing feeds, a pack that is tried is a store group or produces an operand of a pack of the plan
+abbrev pub IsProduced : List Description → List Match → Ssa → List Packed → Packed → Type 0
+IsProduced ds matches ssa plan p =
+    (q : Packed) × (o : Operand) × Has q plan × Has o (operands_of ds matches ssa q) × Has p (producers ds matches ssa o)
+
+pub tried-unfed : (ds : List Description) (matches : List Match) (ssa : Ssa) (deps : List (ℕ × ℕ)) (plan : List Packed) (p : Packed)
+    → Has p (tried (packing ds matches ssa deps) plan) → Has p (store_groups ssa) ⊎ IsProduced ds matches ssa plan p
+tried-unfed ds matches ssa deps plan p h =
+    let of : Operand → List Packed = tried_for (packing ds matches ssa deps) in
+    elim (has-append p (store_groups ssa) (flat_map (λ q. flat_map of (operands_of ds matches ssa q)) plan) h) [
+      | inl l ↦ inl l
+      | inr r ↦
+          let q = from-flat_map (λ q. flat_map of (operands_of ds matches ssa q)) p plan r in
+          let o = from-flat_map of p (operands_of ds matches ssa q.0) q.2 in
+          elim (has-append p (producers ds matches ssa o.0) [] o.2) [
+            | inl m ↦ inr (q.0, o.0, q.1, o.1, m)
+            | inr n ↦ absurd n
+          ]
+    ]
+
+-- and each of these is tried
+pub unfed-tried : (ds : List Description) (matches : List Match) (ssa : Ssa) (deps : List (ℕ × ℕ)) (plan : List Packed) (p : Packed)
+    → IsProduced ds matches ssa plan p → Has p (tried (packing ds matches ssa deps) plan)
+unfed-tried ds matches ssa deps plan p k =
+    let of : Operand → List Packed = tried_for (packing ds matches ssa deps) in
+    has-append_right p (store_groups ssa) _
+    (has-flat_map (λ q. flat_map of (operands_of ds matches ssa q)) k.0 p plan k.2
+    (has-flat_map of k.1 p (operands_of ds matches ssa k.0) k.3 (has-append_left p (producers ds matches ssa k.1) [] k.4)))
+
+pub feeder-group : (ssa : Ssa) (o : Operand) (p : Packed) → Has p (feeders ssa o) → IsLoadGroup ssa p
+feeder-group ssa o p h =
+    load-group ssa o.register p (from-filter (has_fed o) p (load_groups ssa o.register) h).0
+
+tried-has : (ds : List Description) (matches : List Match) (ssa : Ssa) (plan : List Packed) (p : Packed)
+    → IsTried ds matches ssa plan p → HasUnit p
+tried-has ds matches ssa plan p (group h) = groups-has ssa p h
+tried-has ds matches ssa plan p (produces q o a b h) = produced-has ds matches ssa o p h
+tried-has ds matches ssa plan p (feeds q o a b h) =
+    fed-has ssa o.register p (from-filter (has_fed o) p (load_groups ssa o.register) h).0
+
+pub is-packing_by : (c : Choice) (ds : List Description) (matches : List Match) (ssa : Ssa) (deps : List (ℕ × ℕ))
+    → IsWorld (packing_by c ds matches ssa deps)
+is-packing_by c ds matches ssa deps = record {
   pack_itself = pack-itself;
   pack_is = pack-is;
   operand_itself = operand-itself;
   operand_is = operand-is;
-  has_unit = λ plan p h. elim (has-append p (store_groups ssa) (flat_map (λ q. flat_map (producers ds matches ssa) (operands_of ds matches ssa q)) plan) h) [
-    | inl l ↦
-        let size = from-flat_map (groups_of ssa) p (64 ∷ 32 ∷ 16 ∷ 8 ∷ 4 ∷ []) l in
-        let first = from-flat_map (λ v. group_of ssa size.0 v (unit_at ssa v)) p (unit_numbers ssa) size.2 in
-        group-has ssa size.0 first.0 p (unit_at ssa first.0) first.2
-    | inr r ↦
-        let q = from-flat_map (λ q. flat_map (producers ds matches ssa) (operands_of ds matches ssa q)) p plan r in
-        let o = from-flat_map (producers ds matches ssa) p (operands_of ds matches ssa q.0) q.2 in
-        produced-has ds matches ssa o.0 p o.2
-  ];
+  has_unit = λ plan p h. tried-has ds matches ssa plan p (is-tried c ds matches ssa deps plan p h);
 }
+
+pub is-packing : (ds : List Description) (matches : List Match) (ssa : Ssa) (deps : List (ℕ × ℕ))
+    → IsWorld (packing ds matches ssa deps)
+is-packing ds matches ssa deps = is-packing_by unfed ds matches ssa deps

@@ -1,8 +1,14 @@
+pub mod Completed
+pub mod Fed
+pub mod FedLaws
 pub mod Groups
 pub mod Held
 pub mod Laws
+pub mod LoadGroups
+pub mod LoadTable
 pub mod Packing
 pub mod Producers
+pub mod Rows
 pub mod SameAs
 pub mod Shuffles
 pub mod Taken

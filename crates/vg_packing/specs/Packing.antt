@@ -1,5 +1,5 @@
 -- The packs of a kernel: over them stand plans, their costs, the plain and the chosen plan.
-use Rattle.std.specs.Prelude.{ℕ, ◌+◌, ◌*◌, Bool, true, false, List, [], ◌∷◌, length, filter, Option, Some, None, slice_get, nat_le, if◌then◌else◌}
+use Rattle.std.specs.Prelude.{ℕ, ◌+◌, ◌*◌, List, [], ◌∷◌, length, filter, Option, Some, None, slice_get, nat_le, if◌then◌else◌}
 use Rattle.std.specs.List.{filter_map, flat_map}
 use Rattle.std.specs.Option.{is_some, option_map_or}
 use Rattle.vg_plans.specs.Levels.{chosen}
@@ -61,6 +61,7 @@ packing ds matches ssa deps = record {
   needs_of = needs_of matches ssa deps;
   operands_of = operands_of ds matches ssa;
   producers = producers ds matches ssa;
+  feeders = λ o. [];
   holds = holds ds ssa;
   price = price_of ds;
   is_constant = is_constant;

@@ -70,7 +70,7 @@ group-front found count e =
     ]))
 
 -- the store of a rank at a place, if there is one
-store-found : (ssa : Ssa) (a : Address) (w : Width) (r : ℕ)
+pub store-found : (ssa : Ssa) (a : Address) (w : Width) (r : ℕ)
     → option_map unit_of (find (is_ranked a w r) (placed ssa)) ≡ slice_get (stores_at ssa a w) r
 store-found ssa a w r =
     let first = arguments ssa in
@@ -95,7 +95,7 @@ runs-of ssa n a w r (Some s) e next is =
     ∙ ap (λ b. front (stores_from ssa (behind b (size_of s.width)) s.width r n)) same.1
     ∙ ap (λ x. front (stores_from ssa (behind a (size_of x)) x r n)) same.2)
 
-find-is : {X : Type 0} (test : X → Bool) (xs : List X) (x : X) → find test xs ≡ Some x → test x ≡ true
+pub find-is : {X : Type 0} (test : X → Bool) (xs : List X) (x : X) → find test xs ≡ Some x → test x ≡ true
 find-is test [] x e = absurd (cc)
 find-is test (z ∷ xs) x e = elim (cases_Bool (test z)) [
   | inl t ↦ let h : Some z ≡ Some x = rw t at e in let k : z ≡ x = cc in subst (λ y. test y ≡ true) k t

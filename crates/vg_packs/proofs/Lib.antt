@@ -1,5 +1,7 @@
+pub mod Ahead
 pub mod Beginning
 pub mod Chains
+pub mod Completion
 pub mod Counts
 pub mod Cycles
 pub mod Floors
@@ -15,4 +17,5 @@ pub mod Once
 pub mod Placing
 pub mod Pushes
 pub mod Rows
+pub mod Tries
 pub mod Turns

@@ -42,7 +42,7 @@ from-first u f (suc n) h = elim h [
   | inr r ↦ let l = from-first u (f + 1) n r in omega (arith, l)
 ]
 
-number-has : (u f n : ℕ) → f ≤ u → u < f + n → Has u (numbers_from f n)
+pub number-has : (u f n : ℕ) → f ≤ u → u < f + n → Has u (numbers_from f n)
 number-has u f zero a b = absurd (omega (arith, a, b))
 number-has u f (suc n) a b = elim (cases_Bool (nat_eq f u)) [
   | inl t ↦ inl (grind (arith, nat_tests, t))

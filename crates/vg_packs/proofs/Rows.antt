@@ -1,10 +1,10 @@
 -- Walks from rows, one after the other.
-use Rattle.std.proofs.Common.{◌≡◌, ℕ, zero, suc, ◌+◌, ◌<◌, ◌≤◌, ◌⊎◌, Bool, true, false, List, [], ◌∷◌, ◌++◌, length, take, get_or, refl, sym, ◌∙◌, subst, inl, inr, arith}
+use Rattle.std.proofs.Common.{◌≡◌, ℕ, zero, suc, ◌+◌, ◌<◌, ◌≤◌, ◌⊎◌, Bool, List, [], ◌∷◌, length, take, get_or, refl, sym, ◌∙◌, subst, inl, inr, arith}
 use Rattle.std.specs.Prelude.{flat_map}
 use Rattle.std.proofs.lemmas.List.{take_all, take_more}
 use Rattle.vg_plans.specs.Members.{Has}
 use Rattle.vg_plans.proofs.Members.{from-flat_map, has-append, has-flat}
-use Rattle.vg_packs.specs.Walk.{HasWay, IsApart, IsSettled, KeepMarks, Way}
+use Rattle.vg_packs.specs.Walk.{HasWay, IsApart, IsSettled, KeepMarks}
 
 has-more : (v : ℕ) (list : List ℕ) (i : ℕ) → i < length list → Has v (take (i + 1) list)
     → Has v (take i list) ⊎ (get_or list i 0 ≡ v)

@@ -1,3 +1,5 @@
+pub mod Aligned
+pub mod Completing
 pub mod Floor
 pub mod Lanes
 pub mod Laws

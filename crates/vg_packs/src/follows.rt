@@ -2,12 +2,13 @@
 
 ghost use Rattle.std.specs.Prelude.{◌≡◌, ◌↔◌, ◌++◌, [], IfOk, IsTrue, OnOk, flat_map, map};
 ghost use Rattle.std.specs.List.{list_any};
+ghost use Rattle.vg_packing.specs.Fed.{packing_by, unfed};
+ghost use Rattle.vg_packing.specs.LoadTable.{AreLoadGroups};
 ghost use Rattle.vg_packing.specs.Packing.{packing};
-ghost use Rattle.vg_packing.specs.Producers.{producers};
 ghost use Rattle.vg_packing.specs.SameAs.{same_pack};
 ghost use Rattle.vg_packing.specs.Taken.{MatchesNear, operands_of};
 ghost use Rattle.vg_plans.specs.Members.{Has};
-ghost use Rattle.vg_plans.specs.World.{follows, has_pack, tried};
+ghost use Rattle.vg_plans.specs.World.{follows, has_pack, tried, tried_for};
 ghost use Rattle.vg_shapes.specs.Description.{description_of};
 ghost use Rattle.vg_packs.specs.Walk.{IsFree, NameUnits};
 
@@ -17,58 +18,114 @@ use crate::taking::taken_by;
 use crate::walk::stays_plan;
 use std::alloc::{AllocError, Global};
 use vg_packing::same::is_same_pack;
+use vg_packing::{Choice, LoadGroups};
 use vg_shapes::{DepList, Description, MatchTable, Operand, Pack, Ssa};
 
-/// Appends the packs that produce operands.
-fn push_producers(
+/// Appends the packs that are tried for an operand: those that produce it, then load groups that feed it.
+fn push_for(
     alloc: Global,
     packs: &mut Vec<Pack>,
     descriptions: &[Description],
     table: &MatchTable,
     ssa: &Ssa,
+    groups: &LoadGroups,
+    operand: &Operand,
+) -> Result<(), AllocError>
+    requires near { MatchesNear table.now }
+    requires groups { AreLoadGroups ssa.now groups.now }
+    ensures { OnOk result (packs.new.items ≡ packs.old.items
+        ++ tried_for (packing_by groups.now.choice (map description_of descriptions.now) table.now ssa.now [])
+        operand.now) }
+{
+    let mut produce = producers(alloc, operand, descriptions, table, ssa)?;
+    packs.append(&mut produce)?;
+    let mut feed = groups.feeders(alloc, operand)?;
+    packs.append(&mut feed)?;
+    Ok(())
+}
+
+/// Appends the packs that are tried for operands.
+fn push_for_all(
+    alloc: Global,
+    packs: &mut Vec<Pack>,
+    descriptions: &[Description],
+    table: &MatchTable,
+    ssa: &Ssa,
+    groups: &LoadGroups,
     operands: &[Operand],
 ) -> Result<(), AllocError>
     requires near { MatchesNear table.now }
-    ensures { OnOk result (packs.new.items ≡ packs.old.items ++ flat_map (producers (map description_of descriptions.now) table.now ssa.now) operands.now) }
+    requires groups { AreLoadGroups ssa.now groups.now }
+    ensures { OnOk result (packs.new.items ≡ packs.old.items
+        ++ flat_map (tried_for (packing_by groups.now.choice (map description_of descriptions.now) table.now ssa.now []))
+        operands.now) }
 {
     'operands: for operand in operands {
-        let mut more = producers(alloc, operand, descriptions, table, ssa)?;
-        packs.append(&mut more)?;
+        push_for(alloc, packs, descriptions, table, ssa, groups, operand)?;
     }
     Ok(())
 }
 
-/// Appends the packs that produce what a pack takes.
-fn push_produced(
+/// Appends the packs that are tried for what a pack takes.
+fn push_tried(
     alloc: Global,
     packs: &mut Vec<Pack>,
     descriptions: &[Description],
     table: &MatchTable,
     ssa: &Ssa,
+    groups: &LoadGroups,
     pack: &Pack,
 ) -> Result<(), AllocError>
     requires near { MatchesNear table.now }
-    ensures { OnOk result (packs.new.items ≡ packs.old.items ++ flat_map (producers (map description_of descriptions.now) table.now ssa.now) (operands_of (map description_of descriptions.now) table.now ssa.now pack.now)) }
+    requires groups { AreLoadGroups ssa.now groups.now }
+    ensures { OnOk result (packs.new.items ≡ packs.old.items
+        ++ flat_map (tried_for (packing_by groups.now.choice (map description_of descriptions.now) table.now ssa.now []))
+        (operands_of (map description_of descriptions.now) table.now ssa.now pack.now)) }
 {
     let operands = taken_by(alloc, descriptions, table, ssa, pack)?;
-    push_producers(alloc, packs, descriptions, table, ssa, operands.as_slice())
+    push_for_all(
+        alloc,
+        packs,
+        descriptions,
+        table,
+        ssa,
+        groups,
+        operands.as_slice(),
+    )
 }
 
-/// The packs that produce what a pack takes. Where it has more than 64 loads or stores, or more than
-/// some 2^24 lanes, there is no memory.
-pub fn produced(
+/// The packs that are tried for what a pack takes: for each operand those that produce it, then the load
+/// groups that feed it, if any are tried. Where it has more than 64 loads or stores, or more than some
+/// 2^24 lanes, there is no memory.
+pub fn tried_by(
     alloc: Global,
     descriptions: &[Description],
     table: &MatchTable,
     ssa: &Ssa,
+    groups: &LoadGroups,
     pack: &Pack,
 ) -> Result<Vec<Pack>, AllocError>
     requires near { MatchesNear table.now }
-    ensures { IfOk result (λ packs. packs.items ≡ flat_map (producers (map description_of descriptions.now) table.now ssa.now) (operands_of (map description_of descriptions.now) table.now ssa.now pack.now)) }
+    requires groups { AreLoadGroups ssa.now groups.now }
+    ensures { IfOk result (λ packs. packs.items
+        ≡ flat_map (tried_for (packing_by groups.now.choice (map description_of descriptions.now) table.now ssa.now []))
+        (operands_of (map description_of descriptions.now) table.now ssa.now pack.now)) }
 {
     let mut packs = Vec::new(alloc);
-    push_produced(alloc, &mut packs, descriptions, table, ssa, pack)?;
+    push_tried(alloc, &mut packs, descriptions, table, ssa, groups, pack)?;
     Ok(packs)
+}
+
+/// No load groups: of the packs of loads only those are tried that produce what packs take.
+fn no_groups(alloc: Global, ssa: &Ssa) -> Result<LoadGroups, AllocError>
+    ensures groups { IfOk result (AreLoadGroups ssa.now) }
+    ensures choice { IfOk result (λ groups. groups.choice ≡ unfed) }
+{
+    let choice = Choice {
+        fed: false,
+        aligned: false,
+    };
+    LoadGroups::new(alloc, choice, ssa)
 }
 
 /// The packs that are tried after a plan: the store groups of the kernel, then for each pack of the plan
@@ -84,9 +141,10 @@ pub fn tried(
     requires near { MatchesNear table.now }
     ensures { IfOk result (λ packs. packs.items ≡ tried (packing (map description_of descriptions.now) table.now ssa.now []) plan.now) }
 {
+    let groups = no_groups(alloc, ssa)?;
     let mut packs = store_groups(alloc, ssa)?;
     'plan: for pack in plan {
-        push_produced(alloc, &mut packs, descriptions, table, ssa, pack)?;
+        push_tried(alloc, &mut packs, descriptions, table, ssa, &groups, pack)?;
     }
     Ok(packs)
 }

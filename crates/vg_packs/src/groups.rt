@@ -22,8 +22,8 @@ fn places(size: usize, width: Width) -> usize
     }
 }
 
-/// The units of the stores from one on, each right after the one before, at most so many.
-fn run_from(
+/// The units of the stores from one on, each linked by the one before, at most so many.
+pub(crate) fn run_from(
     alloc: Global,
     links: &[Link],
     first: Link,

@@ -1,11 +1,13 @@
-//! Packs and plans of kernels: the store groups of a kernel, the packs that produce an operand,
-//! whether a plan is still one with a pack after it, which packs may follow it, and the plain plan.
+//! Packs and plans of kernels: the store groups of a kernel, the packs that produce an operand, whether a
+//! plan stays one with a pack after it, which packs may follow it, the plain plan, and completed plans.
 //!
 //! `specs/Placed.antt` says how the stores of a kernel are linked to those beside them in memory.
 //!
 //! An `AllocError` is want of memory; nothing else is.
 #![tactic(auto)]
 
+mod aligned;
+mod completing;
 mod floor;
 mod follows;
 mod groups;
@@ -22,10 +24,12 @@ mod producing;
 mod taking;
 mod walk;
 
-pub use follows::{compatible, produced, tried};
+pub use aligned::{aligned_groups, groups_by};
+pub use completing::{completed_plan, completed_with};
+pub use follows::{compatible, tried, tried_by};
 pub use groups::store_groups;
 pub use law::{dependences_are_earlier, store_groups_are_listed};
-pub use plain::plain_plan;
+pub use plain::{plain_plan, plain_plan_by};
 pub use plan_marks::PlanMarks;
 pub use producing::producers;
 pub use walk::stays_plan;

@@ -1,8 +1,10 @@
 //! The stores of a kernel by their places in memory.
 
 ghost use Rattle.std.specs.Prelude.{◌≡◌, ◌++◌, ◌/◌, IfOk, OnOk, filter, length, map, position, Option};
+ghost use Rattle.vg_packing.specs.LoadTable.{place};
 ghost use Rattle.vg_shapes.specs.Units.{arguments, unit_at};
-ghost use Rattle.vg_packs.specs.Placed.{is_next, link_behind, link_in, links_of, placed, placed_here, stands_at};
+ghost use Rattle.vg_packs.specs.Aligned.{is_ahead};
+ghost use Rattle.vg_packs.specs.Placed.{is_next, is_ranked, link_behind, link_in, links_of, placed, placed_here, stands_at};
 
 use std::alloc::{AllocError, Global};
 use vg_base::{Address, Width};
@@ -40,15 +42,29 @@ impl PlacedStore {
             && (self.address.offset == address.offset && self.width.bits() == width.bits())
     }
 
+    /// Whether it is a store of this width and rank to this place of a pointer.
+    fn is_ranked(&self, pointer: u32, offset: i64, width: Width, rank: usize) -> bool
+        ensures { result ≡ is_ranked (place pointer offset) width rank self.now }
+    {
+        self.rank == rank
+            && (self.address.pointer == pointer
+                && (i64::from(self.address.offset) == offset && self.width.bits() == width.bits()))
+    }
+
     /// Whether another store has its width and rank and stands right after it in memory.
     fn is_next(&self, other: &PlacedStore) -> bool
         ensures { result ≡ is_next self.now other.now }
     {
         let behind = i64::from(self.address.offset) + i64::from(self.width.size());
-        other.rank == self.rank
-            && (other.address.pointer == self.address.pointer
-                && (i64::from(other.address.offset) == behind
-                    && other.width.bits() == self.width.bits()))
+        other.is_ranked(self.address.pointer, behind, self.width, self.rank)
+    }
+
+    /// Whether another store has its width and rank and stands right ahead of it in memory.
+    pub(crate) fn is_ahead(&self, other: &PlacedStore) -> bool
+        ensures { result ≡ is_ahead self.now other.now }
+    {
+        let ahead = i64::from(self.address.offset) - i64::from(self.width.size());
+        other.is_ranked(self.address.pointer, ahead, self.width, self.rank)
     }
 }
 

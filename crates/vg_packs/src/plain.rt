@@ -2,23 +2,28 @@
 
 ghost use Rattle.std.specs.Prelude.{◌≡◌, ◌++◌, ◌||◌, ◌∷◌, [], find, flat_map, IfOk, OnOk, map};
 ghost use Rattle.std.specs.List.{list_any};
-ghost use Rattle.vg_plans.specs.PlainPlan.{with_groups};
+ghost use Rattle.vg_plans.specs.Completed.{produced};
+ghost use Rattle.vg_plans.specs.PlainPlan.{plain_plan, walk, with_groups};
 ghost use Rattle.vg_plans.specs.World.{stays_plan};
+ghost use Rattle.vg_packing.specs.Completed.{turns_of};
+ghost use Rattle.vg_packing.specs.Fed.{packing_by};
 ghost use Rattle.vg_packing.specs.Held.{holds};
 ghost use Rattle.vg_packing.specs.Packing.{packing, plain_of};
 ghost use Rattle.vg_packing.specs.Taken.{MatchesNear, operands_of};
 ghost use Rattle.vg_packing.specs.Wants.{is_constant};
 ghost use Rattle.vg_shapes.specs.Description.{description_of};
 ghost use Rattle.vg_packs.specs.Floor.{IsGrown};
-ghost use Rattle.vg_packs.specs.Plain.{IsTurn};
+ghost use Rattle.vg_packs.specs.Plain.{IsTurn, plain_among};
 ghost use Rattle.vg_packs.specs.Walk.{IsFree, NameEarlierUnits};
 
+use crate::aligned::groups_by;
 use crate::groups::store_groups;
 use crate::growing::GrowingPlan;
 use crate::producing::producers;
 use crate::taking::taken_by;
 use std::alloc::{AllocError, Global};
 use std::collections::VecDeque;
+use vg_packing::Choice;
 use vg_packing::held::holds;
 use vg_packing::wants::is_constant;
 use vg_shapes::{DepList, Description, MatchTable, Operand, Pack, Plan, Ssa};
@@ -60,7 +65,8 @@ fn first_queue(
     plan: &[Pack],
 ) -> Result<VecDeque<Operand>, AllocError>
     requires near { MatchesNear table.now }
-    ensures { IfOk result (λ queue. queue.items ≡ flat_map (operands_of (map description_of descriptions.now) table.now ssa.now) plan.now) }
+    ensures { IfOk result (λ queue. queue.items
+        ≡ flat_map (operands_of (map description_of descriptions.now) table.now ssa.now) plan.now) }
 {
     let mut queue = VecDeque::new(alloc);
     'packs: for pack in plan {
@@ -91,24 +97,25 @@ fn push_if_stays(
     Ok(())
 }
 
-/// The plan of each of these packs with which it stays one, one after the other.
-fn with_groups(
+/// Puts each of these packs after a plan with which it stays one, one after the other.
+pub(crate) fn push_each(
     alloc: Global,
-    groups: Vec<Pack>,
+    plan: &mut GrowingPlan,
+    packs: Vec<Pack>,
     table: &MatchTable,
     ssa: &Ssa,
     deps: &DepList,
-) -> Result<GrowingPlan, AllocError>
+) -> Result<(), AllocError>
     requires earlier { NameEarlierUnits ssa.now deps.now }
-    ensures groups { IfOk result (λ plan. plan.packs.items
-        ≡ with_groups (packing [] table.now ssa.now deps.now) [] groups.items) }
-    ensures grown { IfOk result (IsGrown table.now ssa.now deps.now) }
+    requires grown { IsGrown table.now ssa.now deps.now plan.old }
+    ensures plan { OnOk result (plan.new.packs.items
+        ≡ with_groups (packing [] table.now ssa.now deps.now) plan.old.packs.items packs.items) }
+    ensures grown { OnOk result (IsGrown table.now ssa.now deps.now plan.new) }
 {
-    let mut plan = GrowingPlan::new(alloc, table, ssa, deps)?;
-    'groups: for group in groups {
-        push_if_stays(alloc, &mut plan, group, table, ssa, deps)?;
+    'packs: for pack in packs {
+        push_if_stays(alloc, plan, pack, table, ssa, deps)?;
     }
-    Ok(plan)
+    Ok(())
 }
 
 /// Whether a pack of a plan holds an operand.
@@ -119,7 +126,12 @@ fn is_reused(descriptions: &[Description], ssa: &Ssa, plan: &[Pack], operand: &O
 }
 
 /// Whether an operand needs no pack: a pack of the plan holds it, or it wants no value.
-fn is_settled(descriptions: &[Description], ssa: &Ssa, plan: &[Pack], operand: &Operand) -> bool
+pub(crate) fn is_settled(
+    descriptions: &[Description],
+    ssa: &Ssa,
+    plan: &[Pack],
+    operand: &Operand,
+) -> bool
     ensures { result ≡ (list_any (λ p. holds (map description_of descriptions.now) ssa.now p operand.now) plan.now || is_constant operand.now) }
 {
     is_reused(descriptions, ssa, plan, operand) || is_constant(operand)
@@ -181,17 +193,23 @@ fn turn(
     }
 }
 
-/// The plain plan of a kernel, as it grew.
-fn grown_plan(
+/// A plan with a pack for each operand that waits, or for those of at most twice as many turns as there
+/// are units.
+fn walk_on(
     alloc: Global,
     descriptions: &[Description],
     table: &MatchTable,
     ssa: &Ssa,
     deps: &DepList,
+    start: GrowingPlan,
+    waiting: VecDeque<Operand>,
 ) -> Result<GrowingPlan, AllocError>
     requires near { MatchesNear table.now }
     requires earlier { NameEarlierUnits ssa.now deps.now }
-    ensures plain { IfOk result (λ plan. plan.packs.items ≡ plain_of (map description_of descriptions.now) table.now ssa.now deps.now) }
+    requires grown { IsGrown table.now ssa.now deps.now start }
+    ensures plan { IfOk result (λ plan. plan.packs.items
+        ≡ walk (packing (map description_of descriptions.now) table.now ssa.now deps.now)
+        (turns_of ssa.now) start.packs.items waiting.items) }
     ensures grown { IfOk result (IsGrown table.now ssa.now deps.now) }
 {
     let count = ssa.units.as_slice().len();
@@ -199,9 +217,8 @@ fn grown_plan(
         return Err(AllocError);
     }
     let mut turns = 2 * count;
-    let groups = store_groups(alloc, ssa)?;
-    let mut plan = with_groups(alloc, groups, table, ssa, deps)?;
-    let mut queue = first_queue(alloc, descriptions, table, ssa, plan.packs())?;
+    let mut plan = start;
+    let mut queue = waiting;
     'turns: while turns > 0 {
         match queue.pop_front() {
             None => return Ok(plan),
@@ -223,6 +240,50 @@ fn grown_plan(
     Ok(plan)
 }
 
+/// A plan with a producer for each operand that waits: at first the operands of its packs.
+pub(crate) fn produced(
+    alloc: Global,
+    descriptions: &[Description],
+    table: &MatchTable,
+    ssa: &Ssa,
+    deps: &DepList,
+    plan: GrowingPlan,
+) -> Result<GrowingPlan, AllocError>
+    requires near { MatchesNear table.now }
+    requires earlier { NameEarlierUnits ssa.now deps.now }
+    requires grown { IsGrown table.now ssa.now deps.now plan }
+    ensures plan { IfOk result (λ grown. grown.packs.items
+        ≡ produced (packing (map description_of descriptions.now) table.now ssa.now deps.now)
+        (turns_of ssa.now) plan.packs.items) }
+    ensures grown { IfOk result (IsGrown table.now ssa.now deps.now) }
+{
+    let queue = first_queue(alloc, descriptions, table, ssa, plan.packs())?;
+    let grown = walk_on(alloc, descriptions, table, ssa, deps, plan, queue)?;
+    Ok(grown)
+}
+
+/// The plan of these store groups with which it stays one, with a producer for each operand that waits.
+fn grown_plan(
+    alloc: Global,
+    descriptions: &[Description],
+    table: &MatchTable,
+    ssa: &Ssa,
+    deps: &DepList,
+    groups: Vec<Pack>,
+) -> Result<GrowingPlan, AllocError>
+    requires near { MatchesNear table.now }
+    requires earlier { NameEarlierUnits ssa.now deps.now }
+    ensures plain { IfOk result (λ plan. plan.packs.items
+        ≡ plain_among (packing (map description_of descriptions.now) table.now ssa.now deps.now)
+        (turns_of ssa.now) groups.items) }
+    ensures grown { IfOk result (IsGrown table.now ssa.now deps.now) }
+{
+    let mut plan = GrowingPlan::new(alloc, table, ssa, deps)?;
+    push_each(alloc, &mut plan, groups, table, ssa, deps)?;
+    let grown = produced(alloc, descriptions, table, ssa, deps, plan)?;
+    Ok(grown)
+}
+
 /// The plain plan of a kernel: each store group with which it stays a plan, then for each operand that
 /// waits, first in, first out, the first pack that produces it and with which it stays a plan. The
 /// dependences name earlier units alone, as those of a kernel do. Where a kernel has more than some
@@ -239,6 +300,27 @@ pub fn plain_plan(
     ensures plain { IfOk result (λ plan. plan ≡ plain_of (map description_of descriptions.now) table.now ssa.now deps.now) }
     ensures free { IfOk result (λ plan. IsFree table.now ssa.now deps.now plan) }
 {
-    let plan = grown_plan(alloc, descriptions, table, ssa, deps)?;
+    let groups = store_groups(alloc, ssa)?;
+    let plan = grown_plan(alloc, descriptions, table, ssa, deps, groups)?;
+    Ok(Plan::from_vec(plan.into_packs()))
+}
+
+/// The plain plan of the store groups that a choice tries, as `plain_plan` is that of all.
+pub fn plain_plan_by(
+    alloc: Global,
+    descriptions: &[Description],
+    table: &MatchTable,
+    ssa: &Ssa,
+    deps: &DepList,
+    choice: Choice,
+) -> Result<Plan, AllocError>
+    requires near { MatchesNear table.now }
+    requires earlier { NameEarlierUnits ssa.now deps.now }
+    ensures { IfOk result (λ plan. plan
+        ≡ plain_plan (packing_by choice (map description_of descriptions.now) table.now ssa.now deps.now)
+        (turns_of ssa.now)) }
+{
+    let groups = groups_by(alloc, choice, ssa)?;
+    let plan = grown_plan(alloc, descriptions, table, ssa, deps, groups)?;
     Ok(Plan::from_vec(plan.into_packs()))
 }

@@ -7,7 +7,7 @@ use Rattle.std.proofs.lemmas.Bool.{cases_Bool}
 use Rattle.vg_plans.specs.Crowded.{IsPlan, empty, more}
 use Rattle.vg_plans.specs.Members.{Has, Every}
 use Rattle.vg_plans.specs.PlainPlan.{first_producer, is_settled, plain_plan, walk, with_groups}
-use Rattle.vg_plans.specs.World.{World, follows, is_reused, stays_plan, tried}
+use Rattle.vg_plans.specs.World.{World, follows, is_reused, stays_plan, tried, tried_for}
 use Rattle.vg_plans.proofs.Lists.{every-append, has-append_left, has-append_right, has-flat_map}
 use Rattle.vg_plans.proofs.Members.{any-found, any-is, from-filter, from-flat_map, has-append, has-filter}
 use Rattle.vg_plans.proofs.Plain.{plain-plan}
@@ -67,8 +67,8 @@ module _ {P O N : Type 0} (w : World P O N) where
   producer-tried : (plan : List P) (o : O) (p : P) → IsOpen plan o → Has p (w.producers o) → Has p (tried w plan)
   producer-tried plan o p open_ h =
       has-append_right p w.groups _
-      (has-flat_map (λ q. flat_map w.producers (w.operands_of q)) open_.0 p plan open_.1
-      (has-flat_map w.producers o p (w.operands_of open_.0) open_.2 h))
+      (has-flat_map (λ q. flat_map (tried_for w) (w.operands_of q)) open_.0 p plan open_.1
+      (has-flat_map (tried_for w) o p (w.operands_of open_.0) open_.2 (has-append_left p (w.producers o) (w.feeders o) h)))
 
   module _ (n : ℕ) (two : TakeTwo) (few : HaveUnits n) where
     -- so many operands wait at most as turns are left

@@ -1,10 +1,10 @@
 -- Packs of a kernel take at most two operands for each of their units, and a plan has no unit twice.
 use Rattle.std.proofs.Common.{◌≡◌, ℕ, zero, suc, ◌*◌, ◌/◌, ◌<◌, ◌≤◌, Bool, true, false, List, [], ◌∷◌, length, refl, sym, ap, subst, inl, inr, arith}
-use Rattle.std.specs.Prelude.{flat_map, nat_eq}
+use Rattle.std.specs.Prelude.{nat_eq}
 use Rattle.std.specs.Cmp.Lexicographic.{pointwise}
 use Rattle.vg_plans.specs.Members.{Has}
 use Rattle.vg_plans.proofs.Disjoint.{unique-length}
-use Rattle.vg_plans.proofs.Members.{from-flat_map, has-append, Unique}
+use Rattle.vg_plans.proofs.Members.{has-append, Unique}
 use Rattle.vg_shapes.specs.declared.match_table.Bound.{Bound}
 use Rattle.vg_shapes.specs.declared.match_table.Match.{Match}
 use Rattle.vg_shapes.specs.declared.operand.Operand.{Operand}
@@ -18,16 +18,17 @@ use Rattle.vg_shapes.specs.Order.{count_of, one_if}
 use Rattle.vg_shapes.specs.Pack.{bounds_from, units_of}
 use Rattle.vg_shapes.specs.Sound.{IsSound}
 use Rattle.vg_shapes.specs.Units.{is_unit}
-use Rattle.vg_packing.specs.Groups.{store_groups}
+use Rattle.vg_packing.specs.Fed.{unfed}
 use Rattle.vg_packing.specs.Held.{lanes_from}
 use Rattle.vg_packing.specs.Packing.{falling_units, packing}
-use Rattle.vg_packing.specs.Producers.{call_producer, call_producers, can_be_produced, lanes_for, load_producer, producers}
+use Rattle.vg_packing.specs.Producers.{call_producer, call_producers, can_be_produced, lanes_for, load_producer}
 use Rattle.vg_packing.specs.SameAs.{same_slot}
 use Rattle.vg_packing.specs.Taken.{operands_from, operands_of, params_of}
 use Rattle.vg_packing.specs.Wants.{wanted_slots, wanted_values}
+use Rattle.vg_packing.proofs.FedPlans.{may-be-fed}
 use Rattle.vg_packing.proofs.Inside.{units-counted, units-listed}
 use Rattle.vg_packing.proofs.SameTests.{both-true, eq-itself, list-is, slot-is}
-use Rattle.vg_packing.proofs.Tried.{if-has}
+use Rattle.vg_packing.proofs.Tried.{if-has, tried-unfed}
 use Rattle.vg_packs.specs.Laws.{IsGroup}
 use Rattle.vg_packs.proofs.Once.{groups-listed}
 use Rattle.vg_plan_relations.proofs.Exact.{has-two}
@@ -80,15 +81,12 @@ module _ (ds : List Description) (matches : List Match) (ssa : Ssa) where
 
   tried-two : (deps : List (ℕ × ℕ)) → TakeFew ds → TakeTwo (packing ds matches ssa deps)
   tried-two deps few plan p h =
-      elim (has-append p (store_groups ssa) (flat_map
-      (λ q. flat_map (producers ds matches ssa) (operands_of ds matches ssa q)) plan) h) [
+      elim (tried-unfed ds matches ssa deps plan p h) [
         | inl l ↦ group-two p ((groups-listed ssa).right p l)
-        | inr r ↦
-            let q = from-flat_map (λ q. flat_map (producers ds matches ssa) (operands_of ds matches ssa q)) p plan r in
-            let o = from-flat_map (producers ds matches ssa) p (operands_of ds matches ssa q.0) q.2 in
-            elim (has-append p (load_producer ssa o.0) (call_producers ds matches ssa o.0 0 ds) o.2) [
-              | inl l ↦ load-two o.0 p l
-              | inr s ↦ call-two few o.0 p 0 ds s
+        | inr t ↦
+            elim (has-append p (load_producer ssa t.1) (call_producers ds matches ssa t.1 0 ds) t.4) [
+              | inl l ↦ load-two t.1 p l
+              | inr s ↦ call-two few t.1 p 0 ds s
             ]
       ]
 
@@ -117,7 +115,7 @@ plan-units : (ds : List Description) (matches : List Match) (ssa : Ssa) (deps : 
     → AreMatches ds ssa matches
     → HaveUnits (packing ds matches ssa deps) (length ssa.units)
 plan-units ds matches ssa deps sound are plan is =
-    let packs = plan-packs ds matches ssa deps plan sound are is in
+    let packs = plan-packs ds matches ssa deps plan sound are (may-be-fed ds matches ssa deps unfed plan is) in
     let unique = once-unique (packed plan) (λ v. let most = packs.once v in omega
     (arith, most, one-most (is_unit ssa v))) in
     let inside = unique-length (packed plan) (falling_units ssa) unique

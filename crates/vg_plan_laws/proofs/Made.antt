@@ -1,7 +1,7 @@
 -- The packs of a plan are store groups, loads beside each other and matched calls, and no unit
 -- stands twice in one of them.
 use Rattle.std.proofs.Common.{◌≡◌, ℕ, suc, ◌+◌, ◌/◌, ◌<◌, List, [], ◌∷◌, Some, refl, sym, ap, subst, ◌∙◌, inl, inr, arith}
-use Rattle.std.specs.Prelude.{ℤ, pos, ◌+ℤ◌, flat_map, nat_eq, slice_get}
+use Rattle.std.specs.Prelude.{ℤ, pos, ◌+ℤ◌, nat_eq, slice_get}
 use Rattle.std.specs.Cmp.Lexicographic.{pointwise}
 use Rattle.std.specs.List.{filter_map}
 use Rattle.std.proofs.Math.IntN.{+ℤ_assoc, pos-+ℤ-pos}
@@ -14,26 +14,26 @@ use Rattle.vg_plans.specs.Crowded.{IsPlan, empty, more}
 use Rattle.vg_plans.specs.Members.{Every, Has}
 use Rattle.vg_plans.specs.World.{follows, stays_plan, tried}
 use Rattle.vg_plans.proofs.Lists.{every-append}
-use Rattle.vg_plans.proofs.Members.{from-filter, from-flat_map, has-append, Unique}
+use Rattle.vg_plans.proofs.Members.{from-filter, has-append, Unique}
 use Rattle.vg_shapes.specs.declared.match_table.Match.{Match}
 use Rattle.vg_shapes.specs.declared.operand.Operand.{Operand}
 use Rattle.vg_shapes.specs.declared.pack.Pack.{Pack as Packed}
 use Rattle.vg_shapes.specs.declared.pack.Pack.TheVariants.{Stores, Loads, Call}
 use Rattle.vg_shapes.specs.declared.ssa.Ssa.{Ssa}
-use Rattle.vg_shapes.specs.declared.unit.Unit.TheVariants.{Store}
+use Rattle.vg_shapes.specs.declared.unit.Unit.TheVariants.{Load, Store}
 use Rattle.vg_shapes.specs.declared.wanted.Wanted.{Wanted}
 use Rattle.vg_shapes.specs.Description.{Description}
-use Rattle.vg_shapes.specs.Pack.{AreStores, behind, units_of}
+use Rattle.vg_shapes.specs.Pack.{AreLoads, AreStores, behind, units_of}
 use Rattle.vg_shapes.specs.Units.{unit_at}
-use Rattle.vg_packing.specs.Groups.{store_groups}
+use Rattle.vg_packing.specs.declared.choice.Choice.{Choice}
+use Rattle.vg_packing.specs.Fed.{fed, packing_by}
 use Rattle.vg_packing.specs.Held.{lanes_from}
-use Rattle.vg_packing.specs.Packing.{packing}
+use Rattle.vg_packing.specs.LoadGroups.{feeders}
 use Rattle.vg_packing.specs.Producers.{are_matched, call_producer, call_producers, can_be_produced, lanes_for, load_producer, producers}
 use Rattle.vg_packing.specs.SameAs.{same_slot}
-use Rattle.vg_packing.specs.Taken.{operands_of}
 use Rattle.vg_packing.specs.Wants.{wanted_slots, wanted_values}
 use Rattle.vg_packing.proofs.SameTests.{both-true, eq-itself, list-is, slot-is}
-use Rattle.vg_packing.proofs.Tried.{if-has}
+use Rattle.vg_packing.proofs.Tried.{IsTried, feeder-group, feeds, group, if-has, is-tried, produces}
 use Rattle.vg_packs.proofs.Once.{groups-listed}
 use Rattle.vg_plan_relations.specs.Produces.{Produces}
 use Rattle.vg_plan_relations.proofs.Calling.{lanes-count}
@@ -100,6 +100,45 @@ stores-unique ssa w a (u ∷ us) (x ∷ xs) are = (
   stores-unique ssa w (behind a (size_of w)) us xs are.1,
 )
 
+-- ---- load groups
+
+-- a load so many bytes after an address
+abbrev IsLoadBehind : Ssa → Address → ℕ → Type 0
+IsLoadBehind ssa a v =
+    (b : Address) × (w : Width) × (n : ℕ) × (unit_at ssa v ≡ Some (Load b w))
+    × (b.offset ≡ a.offset +ℤ pos n)
+
+load-behind : (ssa : Ssa) (w : Width) (a : Address) (us : List ℕ) (v : ℕ) → AreLoads ssa w a us
+    → Has v us → IsLoadBehind ssa a v
+load-behind ssa w a [] v are h = absurd h
+load-behind ssa w a (u ∷ us) v are h = elim h [
+  | inl e ↦ (a, w, 0, subst (λ y. unit_at ssa y ≡ Some (Load a w)) e are.0, none a.offset)
+  | inr rest ↦
+      let k = load-behind ssa w (behind a (size_of w)) us v are.1 rest in
+      let off : k.0.offset ≡ a.offset +ℤ pos (size_of w + k.2) =
+      k.4 ∙ +ℤ_assoc a.offset (pos (size_of w)) (pos k.2) ∙ ap (λ z. a.offset +ℤ z)
+      (pos-+ℤ-pos (size_of w) k.2) in
+      (k.0, k.1, size_of w + k.2, k.3, off)
+]
+  where
+    none : (z : ℤ) → z ≡ z +ℤ pos 0
+    none z = omega (arith, ints)
+
+loads-unique : (ssa : Ssa) (w : Width) (a : Address) (us : List ℕ) → AreLoads ssa w a us → Unique us
+loads-unique ssa w a [] are = tt
+loads-unique ssa w a (u ∷ us) are = (
+  (λ h.
+      let k = load-behind ssa w (behind a (size_of w)) us u are.1 h in
+      let same : Some (Load a w) ≡ Some (Load k.0 k.1) = sym are.0 ∙ k.3 in
+      let place : a ≡ k.0 = cc in
+      let off : a.offset ≡ a.offset +ℤ pos (size_of w + k.2) =
+      ap (λ (b : Address). b.offset) place ∙ k.4 ∙ +ℤ_assoc a.offset (pos (size_of w)) (pos k.2)
+      ∙ ap (λ z. a.offset +ℤ z) (pos-+ℤ-pos (size_of w) k.2) in
+      let some = size-some w in
+      further a.offset (size_of w + k.2) (omega arith) off),
+  loads-unique ssa w (behind a (size_of w)) us are.1,
+)
+
 -- ---- packs that are tried
 
 load-single : (ds : List Description) (matches : List Match) (ssa : Ssa) (o : Operand) (p : Packed)
@@ -157,35 +196,46 @@ group-single ds matches ssa (Stores us) g =
 group-single ds matches ssa (Loads us) g = absurd g
 group-single ds matches ssa (Call d lanes) g = absurd g
 
-pub tried-single : (ds : List Description) (matches : List Match) (ssa : Ssa) (deps : List (ℕ × ℕ))
-    (plan : List Packed) (p : Packed)
-    → Has p (tried (packing ds matches ssa deps) plan) → IsSingle ds matches ssa p
-tried-single ds matches ssa deps plan p h =
-    elim (has-append p (store_groups ssa)
-    (flat_map (λ q. flat_map (producers ds matches ssa) (operands_of ds matches ssa q)) plan) h) [
-      | inl l ↦ group-single ds matches ssa p ((groups-listed ssa).right p l)
-      | inr r ↦
-          let q =
-          from-flat_map (λ q. flat_map (producers ds matches ssa)
-          (operands_of ds matches ssa q)) p plan r in
-          let o = from-flat_map (producers ds matches ssa) p (operands_of ds matches ssa q.0) q.2 in
-          elim (has-append p (load_producer ssa o.0) (call_producers ds matches ssa o.0 0 ds) o.2) [
-            | inl l ↦ load-single ds matches ssa o.0 p l
-            | inr s ↦ call-single ds matches ssa o.0 p 0 ds
-                (λ k e g. let same : k ≡ 0 + k = omega arith in subst (λ n. slice_get ds n
-                ≡ Some e) same g) s
-          ]
+produced-single : (ds : List Description) (matches : List Match) (ssa : Ssa) (o : Operand) (p : Packed)
+    → Has p (producers ds matches ssa o) → IsSingle ds matches ssa p
+produced-single ds matches ssa o p h =
+    elim (has-append p (load_producer ssa o) (call_producers ds matches ssa o 0 ds) h) [
+      | inl l ↦ load-single ds matches ssa o p l
+      | inr s ↦ call-single ds matches ssa o p 0 ds
+          (λ k e g. let same : k ≡ 0 + k = omega arith in subst (λ n. slice_get ds n
+          ≡ Some e) same g) s
     ]
+
+fed-single : (ds : List Description) (matches : List Match) (ssa : Ssa) (o : Operand) (p : Packed)
+    → Has p (feeders ssa o) → IsSingle ds matches ssa p
+fed-single ds matches ssa o p h =
+    let g = feeder-group ssa o p h in
+    let loads = g.loads in
+    subst (IsSingle ds matches ssa) (sym g.pack) (record {
+      made = loads;
+      once = loads-unique ssa loads.0 loads.1 g.units loads.2;
+    })
+
+-- whatever is tried
+pub tried-single : (c : Choice) (ds : List Description) (matches : List Match) (ssa : Ssa)
+    (deps : List (ℕ × ℕ)) (plan : List Packed) (p : Packed)
+    → Has p (tried (packing_by c ds matches ssa deps) plan) → IsSingle ds matches ssa p
+tried-single c ds matches ssa deps plan p h = of (is-tried c ds matches ssa deps plan p h)
+  where
+    of : IsTried ds matches ssa plan p → IsSingle ds matches ssa p
+    of (group l) = group-single ds matches ssa p ((groups-listed ssa).right p l)
+    of (produces q o a b m) = produced-single ds matches ssa o p m
+    of (feeds q o a b f) = fed-single ds matches ssa o p f
 
 -- ---- plans
 
 -- each pack of a plan is made
 pub plan-made : (ds : List Description) (matches : List Match) (ssa : Ssa) (deps : List (ℕ × ℕ))
     (plan : List Packed)
-    → IsPlan (follows (packing ds matches ssa deps)) plan → Every (IsSingle ds matches ssa) plan
+    → IsPlan (follows (packing_by fed ds matches ssa deps)) plan → Every (IsSingle ds matches ssa) plan
 plan-made ds matches ssa deps _ empty = tt
 plan-made ds matches ssa deps _ (more plan p is has) =
-    let w = packing ds matches ssa deps in
+    let w = packing_by fed ds matches ssa deps in
     let k = from-filter (stays_plan w plan) p (tried w plan) has in
     every-append (IsSingle ds matches ssa) plan (p ∷ []) (plan-made ds matches ssa deps plan is)
-    (tried-single ds matches ssa deps plan p k.0, tt)
+    (tried-single fed ds matches ssa deps plan p k.0, tt)

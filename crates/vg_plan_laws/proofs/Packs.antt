@@ -20,10 +20,10 @@ use Rattle.vg_shapes.specs.Order.{count_of, one_if}
 use Rattle.vg_shapes.specs.Pack.{match_at, units_of}
 use Rattle.vg_shapes.specs.Sound.{IsSound}
 use Rattle.vg_shapes.specs.Units.{is_unit}
-use Rattle.vg_packing.specs.Laws.{IsPlanFor, MatchUnits}
-use Rattle.vg_packing.specs.Packing.{packing}
+use Rattle.vg_packing.specs.Fed.{IsFedPlanFor, fed, packing_by}
+use Rattle.vg_packing.specs.Laws.{MatchUnits}
 use Rattle.vg_packing.specs.Producers.{are_matched}
-use Rattle.vg_packing.proofs.Inside.{tried-inside}
+use Rattle.vg_packing.proofs.Inside.{tried-inside_by}
 use Rattle.vg_packing.proofs.SameTests.{both-true, eq-itself}
 use Rattle.vg_plan_relations.proofs.Fitting.{found-fit}
 use Rattle.vg_plan_laws.specs.Made.{IsMade}
@@ -122,16 +122,16 @@ stay-once v a (suc b) u low one apart is =
 
 module _ (ds : List Description) (matches : List Match) (ssa : Ssa) (deps : List (ℕ × ℕ))
     (sound : IsSound ssa) (are : AreMatches ds ssa matches) where
-  packed-once : (plan : List Packed) → IsPlanFor ds matches ssa deps plan → (v : ℕ)
+  packed-once : (plan : List Packed) → IsFedPlanFor ds matches ssa deps plan → (v : ℕ)
       → count_of v (packed plan) ≤ one_if (is_unit ssa v)
   packed-once _ empty v = omega arith
   packed-once _ (more plan p is has) v =
-      let w = packing ds matches ssa deps in
+      let w = packing_by fed ds matches ssa deps in
       let k = from-filter (stays_plan w plan) p (tried w plan) has in
       let new =
       both-true (not (list_any (is_packed w plan) (units_of p)))
       (has_no_cycle w (plan ++ p ∷ [])) k.1 in
-      let single = tried-single ds matches ssa deps plan p k.0 in
+      let single = tried-single fed ds matches ssa deps plan p k.0 in
       let split = packed-push v plan p in
       let whole =
       stay-once v (count_of v (packed plan)) (count_of v (units_of p)) (is_unit ssa v)
@@ -139,7 +139,7 @@ module _ (ds : List Description) (matches : List Match) (ssa : Ssa) (deps : List
       (once-counted v (units_of p) single.once)
       (λ some. outside v plan (not-any (is_packed w plan) (units_of p) v (not-true _ new.0)
       (has-counted v (units_of p) some)))
-      (λ some. tried-inside ds matches ssa deps (match-units ds matches ssa sound are) plan p k.0 v
+      (λ some. tried-inside_by fed ds matches ssa deps (match-units ds matches ssa sound are) plan p k.0 v
       (has-counted v (units_of p) some))
       in
       omega arith
@@ -184,7 +184,7 @@ all-each P Q f (x ∷ xs) h = (f x h.0, all-each P Q f xs h.1)
 
 pub plan-packs : (ds : List Description) (matches : List Match) (ssa : Ssa) (deps : List (ℕ × ℕ))
     (plan : List Packed) → IsSound ssa → AreMatches ds ssa matches
-    → IsPlanFor ds matches ssa deps plan → ArePacks ssa plan
+    → IsFedPlanFor ds matches ssa deps plan → ArePacks ssa plan
 plan-packs ds matches ssa deps plan sound are is = record {
   once = packed-once ds matches ssa deps sound are plan is;
   calls =

@@ -6,10 +6,8 @@ use Rattle.std.specs.Option.{option_map_or}
 use Rattle.std.proofs.Math.Nat.{mod-add-div'}
 use Rattle.std.proofs.lemmas.Bool.{eqb-true, or_cases}
 use Rattle.std.proofs.lemmas.List.{get_or-map}
-use Rattle.vg_pseudo.specs.declared.header.Header.{Header}
 use Rattle.vg_shapes.specs.declared.match_table.Match.{Match}
 use Rattle.vg_shapes.specs.declared.operand.Operand.{Operand}
-use Rattle.vg_shapes.specs.declared.pack.Pack.{Pack as Packed}
 use Rattle.vg_shapes.specs.declared.pack.Pack.TheVariants.{Call}
 use Rattle.vg_shapes.specs.declared.ssa.Ssa.{Ssa}
 use Rattle.vg_shapes.specs.Description.{Description, IsLane}
@@ -17,7 +15,6 @@ use Rattle.vg_shapes.specs.Operands.{IsOperand}
 use Rattle.vg_shapes.specs.Pack.{match_at}
 use Rattle.vg_packing.specs.declared.recipe.Recipe.TheVariants as recipe
 use Rattle.vg_packing.specs.Held.{holds, lane_width_of, register_of}
-use Rattle.vg_packing.specs.Laws.{IsPlanFor}
 use Rattle.vg_packing.specs.Producers.{are_matched}
 use Rattle.vg_packing.specs.Shuffles.{is_shuffle}
 use Rattle.vg_packing.proofs.SameTests.{both-true}

@@ -26,6 +26,8 @@ use Rattle.vg_shapes.specs.Order.{Stands as In}
 use Rattle.vg_shapes.specs.RunUnits.{number_of, Reached, reached, run_units, start_of, unit_run}
 use Rattle.vg_shapes.specs.Sound.{environment, IsSound, term_at, TermsMean}
 use Rattle.vg_shapes.specs.Units.{is_unit}
+use Rattle.vg_packing.specs.Fed.{unfed}
+use Rattle.vg_packing.proofs.FedPlans.{may-be-fed}
 use Rattle.vg_packing.proofs.SameTests.{both-true}
 use Rattle.vg_emission.specs.Truth.{IsCallable}
 use Rattle.vg_plan_relations.specs.TwoSums.{argument, four_sums, sum_match, sum_matches, sum_plan, sum_tree, two_sums, word}
@@ -284,4 +286,6 @@ two-sums-lines t = refl
 pub two-sums-mean : TwoSumsMeanUnits
 two-sums-mean called t is true_of =
     programs-mean called (four_sums ∷ []) sum_matches (two_sums t) (dependences (two_sums t)) sum_plan
-    call_first (sums-known t is) (true_of, tt) (sums-grown t) (call-first t)
+    call_first (sums-known t is) (true_of, tt)
+    (may-be-fed (four_sums ∷ []) sum_matches (two_sums t) (dependences (two_sums t)) unfed sum_plan (sums-grown t))
+    (call-first t)

@@ -1,4 +1,5 @@
--- What plans of kernels promise of the programs that are emitted for them.
+-- What plans of kernels promise of the programs that are emitted for them. Load groups may feed
+-- operands in these plans; those of store groups and producers alone are among them.
 use Rattle.std.specs.Prelude.{◌≡◌, ℕ, ◌<◌, ◌≤◌, ◌^◌, List, length, Option, Some, slice_get, slice_index}
 use Rattle.std.specs.List.{AllByRecursion}
 use Rattle.vg_plans.specs.World.{plan_cost}
@@ -21,7 +22,8 @@ use Rattle.vg_shapes.specs.RunUnits.{Reached}
 use Rattle.vg_shapes.specs.Sound.{IsSound}
 use Rattle.vg_packing.specs.declared.recipe.Recipe.{Recipe}
 use Rattle.vg_packing.specs.declared.recipe.Recipe.TheVariants as recipe
-use Rattle.vg_packing.specs.Laws.{IsPlanFor}
+use Rattle.vg_packing.specs.Completed.{chosen_fed_of}
+use Rattle.vg_packing.specs.Fed.{IsFedPlanFor}
 use Rattle.vg_packing.specs.Packing.{chosen_of, packing}
 use Rattle.vg_emission.specs.Emission.{Job, takes_at}
 use Rattle.vg_emission.specs.Fit.{AreFit, CallsDescribed, HasHeader}
@@ -50,7 +52,7 @@ AreTrue called ds = AllByRecursion (IsTrueOf called) ds
 abbrev pub PlansAreMade : Type 0
 PlansAreMade =
     (ds : List Description) (matches : List Match) (ssa : Ssa) (deps : List (ℕ × ℕ))
-    (plan : List Packed) → IsPlanFor ds matches ssa deps plan →
+    (plan : List Packed) → IsFedPlanFor ds matches ssa deps plan →
     AllByRecursion (IsMade ds matches ssa) plan
 
 -- a matched call holds its pack, on registers that fill its operands, with the numbers of any run
@@ -68,7 +70,7 @@ CallsHold =
 abbrev pub OperandsAreSound : Type 0
 OperandsAreSound =
     (ds : List Description) (matches : List Match) (ssa : Ssa) (deps : List (ℕ × ℕ))
-    (plan : List Packed) → AreKnown ds matches ssa → IsPlanFor ds matches ssa deps plan →
+    (plan : List Packed) → AreKnown ds matches ssa → IsFedPlanFor ds matches ssa deps plan →
     AllByRecursion (IsOperand ssa) (operands_in ds matches ssa plan)
 
 -- a run of a sound kernel gives each value a number below 2 to its width
@@ -81,14 +83,14 @@ RunsStayInWidths =
 abbrev pub PacksAreRight : Type 0
 PacksAreRight =
     (ds : List Description) (matches : List Match) (ssa : Ssa) (deps : List (ℕ × ℕ))
-    (plan : List Packed) → AreKnown ds matches ssa → IsPlanFor ds matches ssa deps plan →
+    (plan : List Packed) → AreKnown ds matches ssa → IsFedPlanFor ds matches ssa deps plan →
     ArePacks ssa plan × AllByRecursion (IsPack ds ssa) plan
 
 -- lines can be emitted from a plan
 abbrev pub PlansArePlanned : Type 0
 PlansArePlanned =
     (ds : List Description) (matches : List Match) (ssa : Ssa) (deps : List (ℕ × ℕ))
-    (plan : List Packed) → AreKnown ds matches ssa → IsPlanFor ds matches ssa deps plan →
+    (plan : List Packed) → AreKnown ds matches ssa → IsFedPlanFor ds matches ssa deps plan →
     IsPlanned (planned_job ds matches ssa plan)
 
 -- ---- recipes
@@ -114,7 +116,7 @@ abbrev pub PlansKeepPromises : Type 0
 PlansKeepPromises =
     (called : Instructions) (ds : List Description) (matches : List Match) (ssa : Ssa)
     (deps : List (ℕ × ℕ)) (plan : List Packed) →
-    AreKnown ds matches ssa → AreTrue called ds → IsPlanFor ds matches ssa deps plan →
+    AreKnown ds matches ssa → AreTrue called ds → IsFedPlanFor ds matches ssa deps plan →
     AlwaysKeep (planned_job ds matches ssa plan) called
 
 -- recipes and calls fit the headers of instructions, where the descriptions are those of them
@@ -123,7 +125,7 @@ PlansAreFit =
     (headers : List Header) (ds : List Description) (matches : List Match) (ssa : Ssa)
     (deps : List (ℕ × ℕ)) (plan : List Packed) →
     AreKnown ds matches ssa → AllByRecursion (HasHeader headers) ds →
-    IsPlanFor ds matches ssa deps plan →
+    IsFedPlanFor ds matches ssa deps plan →
     AreFit (planned_job ds matches ssa plan) headers
 
 -- ---- programs
@@ -134,7 +136,7 @@ abbrev pub ProgramsMeanTheirUnits : Type 0
 ProgramsMeanTheirUnits =
     (called : Instructions) (ds : List Description) (matches : List Match) (ssa : Ssa)
     (deps : List (ℕ × ℕ)) (plan : List Packed) (order : List Node) →
-    AreKnown ds matches ssa → AreTrue called ds → IsPlanFor ds matches ssa deps plan →
+    AreKnown ds matches ssa → AreTrue called ds → IsFedPlanFor ds matches ssa deps plan →
     IsOrder ssa matches plan order →
     MeansUnits called (planned_program ds matches ssa plan order) ssa
 
@@ -143,7 +145,7 @@ abbrev pub ProgramsCostTheirPlans : Type 0
 ProgramsCostTheirPlans =
     (ds : List Description) (matches : List Match) (ssa : Ssa) (deps : List (ℕ × ℕ))
     (plan : List Packed) (order : List Node) →
-    AreKnown ds matches ssa → IsPlanFor ds matches ssa deps plan →
+    AreKnown ds matches ssa → IsFedPlanFor ds matches ssa deps plan →
     IsOrder ssa matches plan order →
     cost_of (planned_program ds matches ssa plan order)
     ≡ plan_cost (packing ds matches ssa deps) plan
@@ -155,7 +157,7 @@ ProgramsKeepTheRules =
     (headers : List Header) (ds : List Description) (matches : List Match) (ssa : Ssa)
     (deps : List (ℕ × ℕ)) (plan : List Packed) (order : List Node) →
     AreKnown ds matches ssa → AllByRecursion (HasHeader headers) ds →
-    IsPlanFor ds matches ssa deps plan → IsOrder ssa matches plan order →
+    IsFedPlanFor ds matches ssa deps plan → IsOrder ssa matches plan order →
     plan_cost (packing ds matches ssa deps) plan < 2 ^ 32 →
     KeepsRules headers (planned_program ds matches ssa plan order)
 
@@ -165,7 +167,7 @@ ProgramsCallDescribed =
     (headers : List Header) (ds : List Description) (matches : List Match) (ssa : Ssa)
     (deps : List (ℕ × ℕ)) (plan : List Packed) (order : List Node) →
     AreKnown ds matches ssa → AllByRecursion (HasHeader headers) ds →
-    IsPlanFor ds matches ssa deps plan → IsOrder ssa matches plan order →
+    IsFedPlanFor ds matches ssa deps plan → IsOrder ssa matches plan order →
     CallsDescribed ds (planned_program ds matches ssa plan order).lines
 
 -- ---- the chosen plan
@@ -191,3 +193,13 @@ ChosenProgramsAreRight =
     IsOrder ssa matches (chosen_of ds matches ssa deps width) order →
     IsChosenProgram called headers ssa
     (planned_program ds matches ssa (chosen_of ds matches ssa deps width) order)
+
+-- the same of the plan that is chosen where load groups may feed operands
+abbrev pub ChosenFedProgramsAreRight : Type 0
+ChosenFedProgramsAreRight =
+    (called : Instructions) (headers : List Header) (ds : List Description) (matches : List Match)
+    (ssa : Ssa) (deps : List (ℕ × ℕ)) (width : ℕ) (order : List Node) →
+    AreKnown ds matches ssa → AreTrue called ds → AllByRecursion (HasHeader headers) ds →
+    IsOrder ssa matches (chosen_fed_of ds matches ssa deps width) order →
+    IsChosenProgram called headers ssa
+    (planned_program ds matches ssa (chosen_fed_of ds matches ssa deps width) order)

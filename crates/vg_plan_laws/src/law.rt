@@ -1,6 +1,6 @@
 //! What plans of kernels promise of the programs that are emitted for them.
 
-ghost use Rattle.vg_plan_laws.specs.Laws.{CallsHold, ChosenProgramsAreRight, KernelsAreSmall, OperandsAreSound, PacksAreRight, PlansAreFit, PlansAreMade, PlansArePlanned, PlansKeepPromises, ProgramsCallDescribed, ProgramsCostTheirPlans, ProgramsKeepTheRules, ProgramsMeanTheirUnits, RecipesFill, RunsStayInWidths, ShufflesFill};
+ghost use Rattle.vg_plan_laws.specs.Laws.{CallsHold, ChosenFedProgramsAreRight, ChosenProgramsAreRight, KernelsAreSmall, OperandsAreSound, PacksAreRight, PlansAreFit, PlansAreMade, PlansArePlanned, PlansKeepPromises, ProgramsCallDescribed, ProgramsCostTheirPlans, ProgramsKeepTheRules, ProgramsMeanTheirUnits, RecipesFill, RunsStayInWidths, ShufflesFill};
 ghost use Rattle.vg_plan_laws.specs.TwoSumsProgram.{TwoSumsLines, TwoSumsMeanUnits};
 
 /// A law that costs nothing to call: each pack of a plan is a store group, loads that stand beside
@@ -102,4 +102,10 @@ pub fn kernels_are_small()
 /// the length of its text is.
 pub fn chosen_programs_are_right()
     ensures { ChosenProgramsAreRight }
+{}
+
+/// A law: the same of the plan that is chosen where load groups may feed operands and store groups are
+/// aligned.
+pub fn chosen_fed_programs_are_right()
+    ensures { ChosenFedProgramsAreRight }
 {}

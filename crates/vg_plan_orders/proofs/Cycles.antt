@@ -10,6 +10,7 @@ use Rattle.vg_plans.specs.Members.{Has}
 use Rattle.vg_plans.specs.World.{World, follows, has_no_cycle, is_empty, is_held_back, is_in, is_packed, left_after, needs, stays_plan, tried}
 use Rattle.vg_plans.proofs.Members.{Includes, any-found, any-is, from-filter, has-append, has-filter, has-flat}
 use Rattle.vg_plans.proofs.Reach.{has-in, in-has}
+use Rattle.vg_plans.proofs.Trying.{cycle-other}
 use Rattle.vg_shapes.specs.declared.match_table.Match.{Match}
 use Rattle.vg_shapes.specs.declared.match_table.Bound.{Bound}
 use Rattle.vg_shapes.specs.declared.order.Node.{Node}
@@ -25,6 +26,7 @@ use Rattle.vg_shapes.specs.Nodes as node
 use Rattle.vg_shapes.specs.Order.{numbers_from, Stands}
 use Rattle.vg_shapes.specs.Pack.{bounds_from, units_of}
 use Rattle.vg_shapes.specs.Units.{arguments, is_unit, is_value}
+use Rattle.vg_packing.specs.Fed.{fed, feeders_by, groups_by, packing_by}
 use Rattle.vg_packing.specs.Packing.{falling_units, needs_of, packing}
 use Rattle.vg_packing.specs.Wants.{value_of}
 use Rattle.vg_packing.proofs.Inside.{units-listed}
@@ -262,9 +264,11 @@ pub plans-have-no-cycle : PlansHaveNoCycle
 plans-have-no-cycle ds matches ssa deps plan [] names less is c = c
 plans-have-no-cycle ds matches ssa deps plan (n ∷ ns) names less is c = by plan is c
   where
-    by : (plan : List Packed) → IsPlan (follows (packing ds matches ssa deps)) plan → IsCycleBy deps ssa matches plan (n ∷ ns) → ⊥
+    by : (plan : List Packed) → IsPlan (follows (packing_by fed ds matches ssa deps)) plan → IsCycleBy deps ssa matches plan (n ∷ ns) → ⊥
     by _ empty c = let below = chain-lesser deps ssa matches n n ns less c.1 in omega arith
     by _ (more before p is h) c =
         let held = cycle-held ds matches ssa deps (before ++ p ∷ []) n ns names (nodes-of ssa (before ++ p ∷ []) (n ∷ ns) c.0) c.1 in
-        let free = no-cycle-more (packing ds matches ssa deps) before p h in
+        let free = no-cycle-more (packing_by fed ds matches ssa deps) before p h in
+        let same = cycle-other (packing ds matches ssa deps) (groups_by fed ssa) (feeders_by fed ssa) (before ++ p ∷ []) in
+        let none : has_no_cycle (packing ds matches ssa deps) (before ++ p ∷ []) ≡ true = sym same ∙ free in
         cc

@@ -5,14 +5,14 @@ use Rattle.vg_shapes.specs.declared.order.Node.{Node}
 use Rattle.vg_shapes.specs.declared.pack.Pack.{Pack as Packed}
 use Rattle.vg_shapes.specs.declared.ssa.Ssa.{Ssa}
 use Rattle.vg_shapes.specs.Description.{Description}
-use Rattle.vg_packing.specs.Laws.{IsPlanFor}
+use Rattle.vg_packing.specs.Fed.{IsFedPlanFor}
 use Rattle.vg_order.specs.ByList.{IsCycleBy, NameLesser, NameUnits}
 
--- The nodes of a plan have no cycle, by a list of dependences that names units, and for each unit
--- lesser ones alone.
+-- The nodes of a plan have no cycle, also where load groups feed operands, by a list of dependences
+-- that names units, and for each unit lesser ones alone.
 abbrev pub PlansHaveNoCycle : Type 0
 PlansHaveNoCycle =
     (ds : List Description) (matches : List Match) (ssa : Ssa) (deps : List (ℕ × ℕ))
     (plan : List Packed) (cycle : List Node) →
-    NameUnits ssa deps → NameLesser deps → IsPlanFor ds matches ssa deps plan →
+    NameUnits ssa deps → NameLesser deps → IsFedPlanFor ds matches ssa deps plan →
     IsCycleBy deps ssa matches plan cycle → ⊥

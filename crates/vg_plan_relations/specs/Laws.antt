@@ -10,11 +10,13 @@ use Rattle.vg_shapes.specs.Depends.{dependences}
 use Rattle.vg_shapes.specs.Description.{Description, IsPackable}
 use Rattle.vg_shapes.specs.Matches.{AreMatches}
 use Rattle.vg_shapes.specs.Operands.{IsOperand}
+use Rattle.vg_packing.specs.declared.choice.Choice.{Choice}
+use Rattle.vg_packing.specs.Fed.{IsPlanBy, unfed}
 use Rattle.vg_packing.specs.Held.{holds}
 use Rattle.vg_packing.specs.Laws.{IsPlanFor}
 use Rattle.vg_packing.specs.Producers.{producers}
 use Rattle.vg_packing.specs.SameAs.{same_pack}
-use Rattle.vg_plan_relations.specs.Plans.{IsPlanByNodes}
+use Rattle.vg_plan_relations.specs.Plans.{IsFedPlanByNodes, IsPlanByNodes, IsPlanByNodesBy}
 use Rattle.vg_plan_relations.specs.Produces.{AreRising, Holds, Produces}
 
 -- each of the list produces the operand, and each pack that does is in the list, once
@@ -49,3 +51,20 @@ PlansArePlansByNodes =
     (ds : List Description) (matches : List Match) (ssa : Ssa) (plan : List Packed) →
     AllByRecursion IsPackable ds → AreMatches ds ssa matches →
     IsPlanFor ds matches ssa (dependences ssa) plan ↔ IsPlanByNodes ds matches ssa plan
+
+-- The same by each choice of the packs that are tried: all store groups or the aligned ones alone,
+-- with the load groups that feed operands or without. So it is of fed plans.
+abbrev pub PlansByChoiceArePlansByNodes : Type 0
+PlansByChoiceArePlansByNodes =
+    (c : Choice) (ds : List Description) (matches : List Match) (ssa : Ssa) (plan : List Packed) →
+    AllByRecursion IsPackable ds → AreMatches ds ssa matches →
+    IsPlanBy c ds matches ssa (dependences ssa) plan ↔ IsPlanByNodesBy c ds matches ssa plan
+
+-- The plans without feeding are those by the choice of all store groups and no load groups; and by
+-- whatever choice, a plan is a fed plan. Of any descriptions and matches.
+pub record PlansByNodesMayBeFed : Type 0 where
+  pub not_fed : (ds : List Description) (matches : List Match) (ssa : Ssa) (plan : List Packed) →
+      IsPlanByNodes ds matches ssa plan ↔ IsPlanByNodesBy unfed ds matches ssa plan
+  pub may_be_fed : (c : Choice) (ds : List Description) (matches : List Match) (ssa : Ssa)
+      (plan : List Packed) →
+      IsPlanByNodesBy c ds matches ssa plan → IsFedPlanByNodes ds matches ssa plan

@@ -1,3 +1,4 @@
+pub mod Completed
 pub mod Disjoint
 pub mod Lists
 pub mod Members
@@ -5,6 +6,8 @@ pub mod Onto
 pub mod Optimal
 pub mod Plain
 pub mod Plans
+pub mod Prices
 pub mod Reach
 pub mod Running
 pub mod Sorting
+pub mod Trying

@@ -3,7 +3,7 @@ use Rattle.std.proofs.Common.{◌≡◌, ℕ, zero, suc, ◌<◌, ◌≤◌, Boo
 use Rattle.std.specs.Prelude.{nat_le, nat_lt, flat_map}
 use Rattle.std.proofs.lemmas.Bool.{cases_Bool}
 use Rattle.std.proofs.lemmas.Bool.Decides.{nat_tests}
-use Rattle.vg_plans.specs.Levels.{first_least, grown, candidates, level_of, met_after, met_within}
+use Rattle.vg_plans.specs.Levels.{chosen, first_least, grown, candidates, level_of, met_after, met_within}
 use Rattle.vg_plans.specs.Members.{Has, Every}
 use Rattle.vg_plans.specs.Crowded.{IsPlan, empty, more, IsPlanOf, Crowded, GoesByPacks, OptimalUnlessCrowded}
 use Rattle.vg_plans.proofs.Lists.{has-append_left, has-append_right, has-map, has-flat_map, every-map, every-flat_map, every-has, every-kept, every-distinct, stays, distinct-differ, least-below}
@@ -76,16 +76,22 @@ met-within follows same cost width d (suc n) plan lt h = elim (cases_Bool (nat_l
       has-append_right plan (met_within follows same cost width n) (met_after follows same cost width n) (subst (λ m. Has plan (met_after follows same cost width m)) e h)
 ]
 
-first_least-best : {X : Type 0} (key : X → ℕ) (best : X) (xs : List X) → key (first_least key best xs) ≤ key best
+pub first_least-best : {X : Type 0} (key : X → ℕ) (best : X) (xs : List X) → key (first_least key best xs) ≤ key best
 first_least-best key best [] = omega arith
 first_least-best key best (x ∷ xs) = elim (cases_Bool (nat_lt (key x) (key best))) [
   | inl t ↦ rw t (let h = first_least-best key x xs in grind (arith, nat_tests, h, t))
   | inr f ↦ rw f (first_least-best key best xs)
 ]
 
-pub optimal : {P : Type 0} (follows : List P → List P) (same : List P → List P → Bool) (cost : List P → ℕ) → OptimalUnlessCrowded follows same cost
-optimal follows same cost law width sizes plain _ empty le free = first_least-best cost [] (plain ∷ met_within follows same cost width sizes)
-optimal follows same cost law width sizes plain _ (more plan p is h) le free =
+-- a plan that costs no more than all that are met and the empty plan costs no more than each plan where no lesser
+-- size is crowded
+pub optimal-beside : {P : Type 0} (follows : List P → List P) (same : List P → List P → Bool) (cost : List P → ℕ) → GoesByPacks follows same cost →
+    (width sizes : ℕ) (least plan : List P) → cost least ≤ cost [] →
+    ((met : List P) → Has met (met_within follows same cost width sizes) → cost least ≤ cost met) →
+    IsPlan follows plan → length plan ≤ sizes → ((e : ℕ) → e < length plan → Crowded follows same width e → ⊥) →
+    cost least ≤ cost plan
+optimal-beside follows same cost law width sizes least _ none below empty le free = none
+optimal-beside follows same cost law width sizes least _ none below (more plan p is h) le free =
     let long = one_more plan p (length plan) refl in
     let before = level-reaches follows same cost law width plan is (λ e l. free e (omega (arith, long))) in
     let plans = level-plans follows same cost width (length plan) in
@@ -93,5 +99,12 @@ optimal follows same cost law width sizes plain _ (more plan p is h) le free =
     let other = (every-has (IsPlanOf follows (suc (length plan))) met.0 _ (candidates-plans follows same (length plan) _ plans) met.1).0 in
     let even : cost (plan ++ p ∷ []) ≡ cost met.0 = law.costs (plan ++ p ∷ []) met.0 (more plan p is h) other met.2 in
     let found = met-within follows same cost width (length plan) sizes met.0 (omega (arith, long)) met.1 in
-    let less = least-below cost [] met.0 (plain ∷ met_within follows same cost width sizes) (inr found) in
+    let less = below met.0 found in
     omega arith
+
+pub optimal : {P : Type 0} (follows : List P → List P) (same : List P → List P → Bool) (cost : List P → ℕ) → OptimalUnlessCrowded follows same cost
+optimal follows same cost law width sizes plain plan is le free =
+    optimal-beside follows same cost law width sizes (chosen follows same cost width sizes plain) plan
+    (first_least-best cost [] (plain ∷ met_within follows same cost width sizes))
+    (λ met h. least-below cost [] met (plain ∷ met_within follows same cost width sizes) (inr h))
+    is le free

@@ -5,7 +5,7 @@ use Rattle.std.proofs.lemmas.Bool.{cases_Bool}
 use Rattle.vg_plans.specs.Members.{Has, Every}
 use Rattle.vg_plans.specs.Crowded.{IsPlan, empty, more, IsPlanOf}
 use Rattle.vg_plans.specs.Levels.{first_least, met_within, chosen}
-use Rattle.vg_plans.specs.World.{World, stays_plan, tried, follows}
+use Rattle.vg_plans.specs.World.{World, stays_plan, tried, tried_for, follows}
 use Rattle.vg_plans.specs.PlainPlan.{with_groups, is_settled, first_producer, walk, plain_plan}
 use Rattle.vg_plans.proofs.Lists.{has-append_left, has-append_right, has-flat_map, every-append}
 use Rattle.vg_plans.proofs.Members.{has-filter, from-flat_map}
@@ -13,10 +13,10 @@ use Rattle.vg_plans.proofs.Optimal.{level-plans, candidates-plans}
 
 module _ {P O N : Type 0} (w : World P O N) where
   -- an operand of a pack of the plan
-  abbrev IsOpen : List P → O → Type 0
+  abbrev pub IsOpen : List P → O → Type 0
   IsOpen plan o = (p : P) × Has p plan × Has o (w.operands_of p)
 
-  may-follow : (plan : List P) (p : P) → Has p (tried w plan) → stays_plan w plan p ≡ true → Has p (follows w plan)
+  pub may-follow : (plan : List P) (p : P) → Has p (tried w plan) → stays_plan w plan p ≡ true → Has p (follows w plan)
   may-follow plan p h t = has-filter (stays_plan w plan) p (tried w plan) h t
 
   groups-plan : (plan gs : List P) → ((g : P) → Has g gs → Has g w.groups) → IsPlan (follows w) plan → IsPlan (follows w) (with_groups w plan gs)
@@ -26,11 +26,11 @@ module _ {P O N : Type 0} (w : World P O N) where
     | inr f ↦ rw f (groups-plan plan gs (λ q h. i q (inr h)) m)
   ]
 
-  open-more : (plan : List P) (p : P) (queue : List O) → Every (IsOpen plan) queue → Every (IsOpen (plan ++ p ∷ [])) queue
+  pub open-more : (plan : List P) (p : P) (queue : List O) → Every (IsOpen plan) queue → Every (IsOpen (plan ++ p ∷ [])) queue
   open-more plan p [] a = tt
   open-more plan p (o ∷ queue) a = ((a.0.0, has-append_left a.0.0 plan (p ∷ []) a.0.1, a.0.2), open-more plan p queue a.1)
 
-  open-all : (plan : List P) (os : List O) → ((o : O) → Has o os → IsOpen plan o) → Every (IsOpen plan) os
+  pub open-all : (plan : List P) (os : List O) → ((o : O) → Has o os → IsOpen plan o) → Every (IsOpen plan) os
   open-all plan [] f = tt
   open-all plan (o ∷ os) f = (f o (inl refl), open-all plan os (λ q h. f q (inr h)))
 
@@ -44,7 +44,7 @@ module _ {P O N : Type 0} (w : World P O N) where
       same-some : (a b : P) → Some a ≡ Some b → a ≡ b
       same-some a b e = cc
 
-  walk-plan : (turns : ℕ) (plan : List P) (queue : List O) → Every (IsOpen plan) queue → IsPlan (follows w) plan → IsPlan (follows w) (walk w turns plan queue)
+  pub walk-plan : (turns : ℕ) (plan : List P) (queue : List O) → Every (IsOpen plan) queue → IsPlan (follows w) plan → IsPlan (follows w) (walk w turns plan queue)
   unfolding walk
   walk-plan zero plan queue a m = m
   walk-plan (suc turns) plan [] a m = m
@@ -53,7 +53,7 @@ module _ {P O N : Type 0} (w : World P O N) where
     | inr f ↦ rw f (by_producer (λ q. walk-plan turns plan queue a.1 m) (λ p h t.
         walk-plan turns (plan ++ p ∷ []) (queue ++ w.operands_of p)
         (every-append (IsOpen (plan ++ p ∷ [])) queue (w.operands_of p) (open-more plan p queue a.1) (open-all (plan ++ p ∷ []) (w.operands_of p) (λ q k. (p, has-append_right p plan (p ∷ []) (inl refl), k))))
-        (more plan p m (may-follow plan p (has-append_right p w.groups _ (has-flat_map (λ q. flat_map w.producers (w.operands_of q)) a.0.0 p plan a.0.1 (has-flat_map w.producers o p (w.operands_of a.0.0) a.0.2 h))) t)))
+        (more plan p m (may-follow plan p (has-append_right p w.groups _ (has-flat_map (λ q. flat_map (tried_for w) (w.operands_of q)) a.0.0 p plan a.0.1 (has-flat_map (tried_for w) o p (w.operands_of a.0.0) a.0.2 (has-append_left p (w.producers o) (w.feeders o) h)))) t)))
         (first_producer w plan o) refl)
   ]
     where
@@ -72,7 +72,7 @@ module _ {P O N : Type 0} (w : World P O N) where
       (groups-plan [] w.groups (λ g h. h) empty)
 
 -- the chosen plan is one of those it is chosen from
-least-of : {X : Type 0} (P : X → Type 0) (key : X → ℕ) (best : X) (xs : List X) → P best → Every P xs → P (first_least key best xs)
+pub least-of : {X : Type 0} (P : X → Type 0) (key : X → ℕ) (best : X) (xs : List X) → P best → Every P xs → P (first_least key best xs)
 least-of P key best [] h a = h
 least-of {X = X} P key best (x ∷ xs) h a = elim (cases_Bool (nat_lt (key x) (key best))) [
   | inl t ↦ subst (λ q. P (first_least key q xs)) (sym (if-true (nat_lt (key x) (key best)) x best t)) (least-of P key x xs a.0 a.1)
@@ -85,11 +85,11 @@ least-of {X = X} P key best (x ∷ xs) h a = elim (cases_Bool (nat_lt (key x) (k
     if-false : (b : Bool) (x y : X) → b ≡ false → (if b then x else y) ≡ y
     if-false b x y f = rw f refl
 
-sized-plans : {P : Type 0} (follows : List P → List P) (d : ℕ) (plans : List (List P)) → Every (IsPlanOf follows d) plans → Every (IsPlan follows) plans
+pub sized-plans : {P : Type 0} (follows : List P → List P) (d : ℕ) (plans : List (List P)) → Every (IsPlanOf follows d) plans → Every (IsPlan follows) plans
 sized-plans follows d [] a = tt
 sized-plans follows d (p ∷ plans) a = (a.0.0, sized-plans follows d plans a.1)
 
-met-plans : {P : Type 0} (follows : List P → List P) (same : List P → List P → Bool) (cost : List P → ℕ) (width sizes : ℕ) → Every (IsPlan follows) (met_within follows same cost width sizes)
+pub met-plans : {P : Type 0} (follows : List P → List P) (same : List P → List P → Bool) (cost : List P → ℕ) (width sizes : ℕ) → Every (IsPlan follows) (met_within follows same cost width sizes)
 unfolding met_within
 met-plans follows same cost width zero = tt
 met-plans follows same cost width (suc d) =

@@ -7,7 +7,7 @@ use Rattle.std.proofs.lemmas.Bool.Decides.{nat_tests}
 use Rattle.vg_plans.specs.Levels.{distinct}
 use Rattle.vg_plans.specs.Members.{Has, Every, AllDiffer}
 use Rattle.vg_plans.specs.Crowded.{IsPlan, empty, more, GoesByPacks}
-use Rattle.vg_plans.specs.World.{World, IsWorld, is_in, has_pack, same_packs, is_packed, needs, is_held_back, left_after, is_empty, has_no_cycle, stays_plan, tried, follows, can_shuffle, least_shuffle, is_reused, recipe_cost, inserted, operands, scalar_lines, plan_cost}
+use Rattle.vg_plans.specs.World.{World, IsWorld, is_in, has_pack, same_packs, is_packed, needs, is_held_back, left_after, is_empty, has_no_cycle, stays_plan, tried, tried_for, follows, can_shuffle, least_shuffle, is_reused, recipe_cost, inserted, operands, scalar_lines, plan_cost}
 use Rattle.vg_plans.proofs.Lists.{has-append_left, has-append_right, has-flat_map, every-distinct, every-has, stays, distinct-differ}
 use Rattle.vg_plans.proofs.Members.{Includes, SameMembers, has-append, from-flat_map, any-found, any-is, any-same, any-agree, all-agree, filter-agree, sum-agree, flat_map-agree, has-filter, from-filter, Unique, unique-push, sum-same, flat_map-same, append-same}
 
@@ -66,10 +66,10 @@ module _ {P O N : Type 0} (w : World P O N) (is : IsWorld w) where
     cycle-same = ap (is_empty w) (left-same (length w.units) w.units)
 
     tried-same : (p : P) → Has p (tried w a) → Has p (tried w b)
-    tried-same p h = elim (has-append p w.groups (flat_map (λ q. flat_map w.producers (w.operands_of q)) a) h) [
-      | inl l ↦ has-append_left p w.groups (flat_map (λ q. flat_map w.producers (w.operands_of q)) b) l
-      | inr r ↦ let k = from-flat_map (λ q. flat_map w.producers (w.operands_of q)) p a r in
-          has-append_right p w.groups (flat_map (λ q. flat_map w.producers (w.operands_of q)) b) (has-flat_map (λ q. flat_map w.producers (w.operands_of q)) k.0 p b (s.there k.0 k.1) k.2)
+    tried-same p h = elim (has-append p w.groups (flat_map (λ q. flat_map (tried_for w) (w.operands_of q)) a) h) [
+      | inl l ↦ has-append_left p w.groups (flat_map (λ q. flat_map (tried_for w) (w.operands_of q)) b) l
+      | inr r ↦ let k = from-flat_map (λ q. flat_map (tried_for w) (w.operands_of q)) p a r in
+          has-append_right p w.groups (flat_map (λ q. flat_map (tried_for w) (w.operands_of q)) b) (has-flat_map (λ q. flat_map (tried_for w) (w.operands_of q)) k.0 p b (s.there k.0 k.1) k.2)
     ]
 
   stays-same : (a b : List P) → SameMembers a b → (p : P) → stays_plan w a p ≡ stays_plan w b p

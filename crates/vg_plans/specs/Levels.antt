@@ -60,6 +60,13 @@ met_within follows same cost width zero = []
 met_within follows same cost width (suc d) =
     met_within follows same cost width d ++ met_after follows same cost width d
 
+-- all plans that are kept, from one pack up to so many
+unfoldable pub kept_within : {P : Type 0}
+    → (List P → List P) → (List P → List P → Bool) → (List P → ℕ) → ℕ → ℕ → List (List P)
+kept_within follows same cost width zero = []
+kept_within follows same cost width (suc d) =
+    kept_within follows same cost width d ++ level_of follows same cost width (suc d)
+
 -- the first of least cost: the empty plan, the plan `plain`, and all that are met
 abbrev pub chosen : {P : Type 0}
     → (List P → List P) → (List P → List P → Bool) → (List P → ℕ) → ℕ → ℕ → List P → List P

@@ -1,3 +1,4 @@
+pub mod Completed
 pub mod Crowded
 pub mod Cycle
 pub mod Laws

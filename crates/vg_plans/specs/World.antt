@@ -14,6 +14,8 @@ pub record World (P O N : Type 0) : Type 0 where
   pub needs_of : P → List ℕ
   pub operands_of : P → List O
   pub producers : O → List P
+  -- packs that have some of an operand's values, and need not produce it
+  pub feeders : O → List P
   pub holds : P → O → Bool
   pub price : P → ℕ
   pub is_constant : O → Bool
@@ -28,6 +30,10 @@ pub record World (P O N : Type 0) : Type 0 where
   pub depends_of : ℕ → List ℕ
   pub uses_of : ℕ → List ℕ
   pub is_access : ℕ → Bool
+
+-- the same packs and operands, of which others are tried
+abbrev pub trying : {P O N : Type 0} → World P O N → List P → (O → List P) → World P O N
+trying w groups feeders = record w { groups = groups; feeders = feeders }
 
 abbrev pub is_in : ℕ → List ℕ → Bool
 is_in v vs = list_any (nat_eq v) vs
@@ -66,13 +72,17 @@ module _ {P O N : Type 0} (w : World P O N) where
   abbrev pub has_no_cycle : List P → Bool
   has_no_cycle plan = is_empty (left_after plan (length w.units) w.units)
 
-  -- the plan stays a plan with the pack after it, where the pack is a store group or produces an operand
+  -- the plan stays a plan with the pack after it, where the pack is tried
   abbrev pub stays_plan : List P → P → Bool
   stays_plan plan p = not (list_any (is_packed plan) (w.units_of p)) && has_no_cycle (plan ++ p ∷ [])
 
-  -- the packs that are tried: the store groups, then the producers of the operands of the packs
+  -- the packs that are tried for an operand: those that produce it, then those that feed it
+  abbrev pub tried_for : O → List P
+  tried_for o = w.producers o ++ w.feeders o
+
+  -- the packs that are tried: the store groups, then those for the operands of the packs
   abbrev pub tried : List P → List P
-  tried plan = w.groups ++ flat_map (λ p. flat_map w.producers (w.operands_of p)) plan
+  tried plan = w.groups ++ flat_map (λ p. flat_map tried_for (w.operands_of p)) plan
 
   abbrev pub follows : List P → List P
   follows plan = filter (stays_plan plan) (tried plan)

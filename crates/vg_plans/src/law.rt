@@ -1,6 +1,6 @@
 //! Laws on plans.
 
-ghost use Rattle.vg_plans.specs.Laws.{ArePlans, ChosenIsOptimal, LeavingOutIsOne, OthersAreNoCycles, PacksAreApart, PlansAreShort, PlansGoByPacks, RecipesStay, StableSortsAreOne, WaysBackAreCycles};
+ghost use Rattle.vg_plans.specs.Laws.{ArePlans, ChosenFedIsLeast, ChosenIsOptimal, CompletedArePlans, LeavingOutIsOne, OthersAreNoCycles, PacksAreApart, PlansAreShort, PlansGoByPacks, PlansStayPlans, RecipesStay, StableSortsAreOne, WaysBackAreCycles};
 
 /// Where no size below that of a plan is crowded, no plan of that size costs less than the chosen one.
 pub fn chosen_is_optimal()
@@ -15,6 +15,23 @@ pub fn plans_go_by_packs()
 /// The plain plan and the chosen plan are plans.
 pub fn plans_are_plans()
     ensures { ArePlans }
+{}
+
+/// A plan that is completed, the careful plan and the plan that is chosen beside them are plans.
+pub fn completed_are_plans()
+    ensures { CompletedArePlans }
+{}
+
+/// Where no size below that of a plan is crowded, the plan that is chosen beside completed ones costs
+/// at most as much; and it costs at most as much as the plain plan, the careful plan, and the completed
+/// plan of each that is kept.
+pub fn chosen_fed_is_least()
+    ensures { ChosenFedIsLeast }
+{}
+
+/// Whatever packs are tried, a plan costs the same; and where more are tried, plans stay plans.
+pub fn plans_stay_plans()
+    ensures { PlansStayPlans }
 {}
 
 /// A pack from which one of its own units is reached closes a cycle.

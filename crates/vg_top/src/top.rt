@@ -98,9 +98,9 @@ fn answer<S: Shelf>(
 /// `compile INSTRUCTIONS KERNEL` reads the two files from `shelf` and writes the text of a program
 /// to `out`: a program that means the kernel and costs no more than it. With `--with EXTENSION`,
 /// once or more, it calls entries of those extensions alone; `--width N` is the width of the
-/// search; with `--more` the program is that of the cheaper of two plans, the chosen plan and the
-/// chosen wide plan; with `--guard` the program has two sides and checks that choose between them,
-/// so that pointers need not be declared noalias.
+/// search; with `--more` the program is that of the first of the least cost of the chosen plan, the
+/// chosen wide plan and the chosen fed plan; with `--guard` the program has two sides and checks
+/// that choose between them, so that pointers need not be declared noalias.
 /// The kernel may be a counted loop, whose text is that of a program for a block of turns and of
 /// one for the turns left over; guards are for kernels alone.
 /// `explain INSTRUCTIONS KERNEL`, with the same options but `--guard`, writes the lines on the

@@ -1,8 +1,9 @@
 use Rattle.std.proofs.Common.{◌∙◌, ◌++◌, ◌∷◌, [], ap, subst, sym}
-use Rattle.vg_packing.specs.Laws.{IsPlanFor}
+use Rattle.vg_packing.proofs.FedPlans.{may-be-fed}
+use Rattle.vg_packing.specs.Fed.{IsPlanBy}
 use Rattle.vg_packing.specs.Taken.{IsShort}
 use Rattle.vg_plans.proofs.Lists.{every-has}
-use Rattle.vg_beam.specs.SearchSpace.{described}
+use Rattle.vg_beam.specs.SearchSpace.{choice_of, described}
 use Rattle.vg_beam.specs.Board.{pack_at}
 use Rattle.vg_beam.specs.Kept.{IsKept, plan_of}
 use Rattle.vg_beam.specs.Key.{with_number}
@@ -14,16 +15,17 @@ with-requires-clause-short c = subst IsShort (sym c.pack-pack.ensures) c.require
 
 pub with-requires-clause-stands : goal.with-requires-clause-stands
 with-requires-clause-stands c =
-    (every-has (IsKept (described c.args.space.now) c.args.space.now.table.now c.args.space.now.ssa.now c.args.board.now.packs.items) _ c.args.level.now c.requires.level c.kept_at-parent.ensures.member).stands
+    (every-has (IsKept (choice_of c.args.space.now) (described c.args.space.now) c.args.space.now.table.now c.args.space.now.ssa.now c.args.board.now.packs.items) _ c.args.level.now c.requires.level c.kept_at-parent.ensures.member).stands
 
 pub with-requires-clause-plan : goal.with-requires-clause-plan
 with-requires-clause-plan c =
     let plan = plan_of c.kept_at-parent.result.now in
     let p = pack_at c.args.board.now.packs.items c.args.candidate.now.pack in
-    let is = IsPlanFor (described c.args.space.now) c.args.space.now.table.now c.args.space.now.ssa.now c.requires.candidate.plan.0 in (
+    let is = IsPlanBy (choice_of c.args.space.now) (described c.args.space.now) c.args.space.now.table.now c.args.space.now.ssa.now c.requires.candidate.plan.0 in (
       c.requires.candidate.plan.0,
-      subst (λ q. is (plan ++ q ∷ [])) (sym c.pack-pack.ensures)
-          (subst is (ap (λ l. l ++ p ∷ []) (sym c.kept_at-parent.ensures.plan)) c.requires.candidate.plan.1),
+      may-be-fed (described c.args.space.now) c.args.space.now.table.now c.args.space.now.ssa.now c.requires.candidate.plan.0 (choice_of c.args.space.now) _
+          (subst (λ q. is (plan ++ q ∷ [])) (sym c.pack-pack.ensures)
+          (subst is (ap (λ l. l ++ p ∷ []) (sym c.kept_at-parent.ensures.plan)) c.requires.candidate.plan.1)),
     )
 
 pub returns : goal.returns
@@ -35,8 +37,8 @@ returns c =
     record {
       board = c.in_ok-open.ensures.board;
       grows = c.in_ok-open.ensures.grows;
-      kept = kept-grown (described c.args.space.now) c.args.space.now.table.now c.args.space.now.ssa.now c.args.board.now c.open.new.self parent _ c.args.candidate.now.pack c.requires.candidate.placed.pack
-          (every-has (IsKept (described c.args.space.now) c.args.space.now.table.now c.args.space.now.ssa.now c.args.board.now.packs.items) parent c.args.level.now c.requires.level c.kept_at-parent.ensures.member)
+      kept = kept-grown (choice_of c.args.space.now) (described c.args.space.now) c.args.space.now.table.now c.args.space.now.ssa.now c.args.board.now c.open.new.self parent _ c.args.candidate.now.pack c.requires.candidate.placed.pack
+          (every-has (IsKept (choice_of c.args.space.now) (described c.args.space.now) c.args.space.now.table.now c.args.space.now.ssa.now c.args.board.now.packs.items) parent c.args.level.now c.requires.level c.kept_at-parent.ensures.member)
           c.in_ok-open.ensures packs c.in_ok-running.ensures.stands
           (c.from_vec.ensures ∙ c.in_ok-key.ensures ∙ ap (with_number c.args.candidate.now.pack) c.as_slice.ensures)
           (c.in_ok-tried.ensures ∙ ap (λ l. l ++ c.produced-produced.result.now) c.as_slice-2.ensures

@@ -1,32 +1,28 @@
-use Rattle.std.proofs.Common.{◌∙◌, ◌<◌, ◌≤◌, ◌*◌, [], ap, arith, length, subst, sym}
+use Rattle.std.proofs.Common.{◌∙◌, ◌*◌, ◌∷◌, [], ap, length, subst, sym}
 use Rattle.std.specs.List.{AllByRecursion}
-use Rattle.vg_packing.specs.Laws.{cost_of}
-use Rattle.vg_packing.specs.Packing.{plain_of}
+use Rattle.vg_packing.specs.Packing.{packing, plain_of}
 use Rattle.vg_packing.specs.Taken.{IsShort}
 use Rattle.vg_plans.proofs.Plain.{plain-plan}
-use Rattle.vg_beam.specs.SearchSpace.{described, world_of}
-use Rattle.vg_beam.proofs.Growing.{lesser-first, lesser-second}
+use Rattle.vg_plans.specs.Levels.{first_least}
+use Rattle.vg_beam.specs.SearchSpace.{cost_in, described}
+use Rattle.vg_beam.proofs.Completion.{lesser-is}
 use Rattle.vg_beam.proofs.priced_plan.first_plan.Goals as goal
 
-pub plan_cost-requires-clause-short : goal.plan_cost-requires-clause-short
-plan_cost-requires-clause-short c =
-    subst (AllByRecursion IsShort) (sym (c.in_ok-plain.ensures.plain))
-    (c.requires.short (plain_of (described c.args.space.now) c.args.space.now.table.now c.args.space.now.ssa.now c.args.space.now.deps.now) (plain-plan (world_of c.args.space.now) (2 * length c.args.space.now.ssa.now.units)))
+pub price-requires-clause-short : goal.price-requires-clause-short
+price-requires-clause-short c =
+    let s = c.args.space.now in
+    subst (AllByRecursion IsShort) (sym c.in_ok-plain.ensures.plain)
+    (c.requires.short (plain_of (described s) s.table.now s.ssa.now s.deps.now)
+    (plain-plan (packing (described s) s.table.now s.ssa.now s.deps.now) (2 * length s.ssa.now.units)))
 
-pub returns-then-plain_cost-empty_cost-clause-plan : goal.returns-then-plain_cost-empty_cost-clause-plan
-returns-then-plain_cost-empty_cost-clause-plan c =
-    let e = c.in_ok-plain.ensures.plain in
-    let f = c.from_vec-empty.ensures ∙ c.new.ensures.items in
-    let p = c.in_ok-plain_cost.ensures.cost c.args.space.now.deps.now ∙ ap (cost_of (described c.args.space.now) c.args.space.now.table.now c.args.space.now.ssa.now c.args.space.now.deps.now) e in
-    let q = c.in_ok-empty_cost.ensures.cost c.args.space.now.deps.now ∙ ap (cost_of (described c.args.space.now) c.args.space.now.table.now c.args.space.now.ssa.now c.args.space.now.deps.now) f in
-    let l : cost_of (described c.args.space.now) c.args.space.now.table.now c.args.space.now.ssa.now c.args.space.now.deps.now (plain_of (described c.args.space.now) c.args.space.now.table.now c.args.space.now.ssa.now c.args.space.now.deps.now) < cost_of (described c.args.space.now) c.args.space.now.table.now c.args.space.now.ssa.now c.args.space.now.deps.now [] = omega (arith, p, q, c.if-plain_cost-empty_cost.true) in
-    e ∙ lesser-second (cost_of (described c.args.space.now) c.args.space.now.table.now c.args.space.now.ssa.now c.args.space.now.deps.now) [] (plain_of (described c.args.space.now) c.args.space.now.table.now c.args.space.now.ssa.now c.args.space.now.deps.now) l
+pub returns-clause-plan : goal.returns-clause-plan
+returns-clause-plan c =
+    let cost = cost_in c.args.space.now in
+    (lesser-is cost c.in_ok-empty.empty c.in_ok-priced.priced c.lesser_plan.result c.in_ok-empty.ensures.cost c.in_ok-priced.ensures.cost c.lesser_plan.ensures).0
+    ∙ ap (λ p. first_least cost p (c.in_ok-priced.priced.plan ∷ [])) c.in_ok-empty.ensures.plan
+    ∙ ap (λ p. first_least cost [] (p ∷ [])) (c.in_ok-priced.ensures.plan ∙ c.in_ok-plain.ensures.plain)
 
-pub returns-else-plain_cost-empty_cost-clause-plan : goal.returns-else-plain_cost-empty_cost-clause-plan
-returns-else-plain_cost-empty_cost-clause-plan c =
-    let e = c.in_ok-plain.ensures.plain in
-    let f = c.from_vec-empty.ensures ∙ c.new.ensures.items in
-    let p = c.in_ok-plain_cost.ensures.cost c.args.space.now.deps.now ∙ ap (cost_of (described c.args.space.now) c.args.space.now.table.now c.args.space.now.ssa.now c.args.space.now.deps.now) e in
-    let q = c.in_ok-empty_cost.ensures.cost c.args.space.now.deps.now ∙ ap (cost_of (described c.args.space.now) c.args.space.now.table.now c.args.space.now.ssa.now c.args.space.now.deps.now) f in
-    let l : cost_of (described c.args.space.now) c.args.space.now.table.now c.args.space.now.ssa.now c.args.space.now.deps.now [] ≤ cost_of (described c.args.space.now) c.args.space.now.table.now c.args.space.now.ssa.now c.args.space.now.deps.now (plain_of (described c.args.space.now) c.args.space.now.table.now c.args.space.now.ssa.now c.args.space.now.deps.now) = omega (arith, p, q, c.if-plain_cost-empty_cost.false) in
-    f ∙ lesser-first (cost_of (described c.args.space.now) c.args.space.now.table.now c.args.space.now.ssa.now c.args.space.now.deps.now) [] (plain_of (described c.args.space.now) c.args.space.now.table.now c.args.space.now.ssa.now c.args.space.now.deps.now) l
+pub returns-clause-cost : goal.returns-clause-cost
+returns-clause-cost c =
+    let cost = cost_in c.args.space.now in
+    (lesser-is cost c.in_ok-empty.empty c.in_ok-priced.priced c.lesser_plan.result c.in_ok-empty.ensures.cost c.in_ok-priced.ensures.cost c.lesser_plan.ensures).1

@@ -1,6 +1,8 @@
 use Rattle.std.proofs.Common.{◌∙◌, ◌++◌, ◌∷◌, [], ap, refl, subst, sym}
 use Rattle.std.specs.List.{list_any}
-use Rattle.vg_packing.specs.Laws.{IsPlanFor, cost_of}
+use Rattle.vg_packing.proofs.FedPlans.{may-be-fed}
+use Rattle.vg_packing.specs.Fed.{IsPlanBy}
+use Rattle.vg_packing.specs.Laws.{cost_of}
 use Rattle.vg_packing.specs.Packing.{packing}
 use Rattle.vg_packing.specs.Taken.{IsShort}
 use Rattle.vg_cost.specs.Room.{IsRoomFor}
@@ -9,7 +11,7 @@ use Rattle.vg_packs.specs.Walk.{IsFree, is_in_plan}
 use Rattle.vg_plans.proofs.Lists.{every-has}
 use Rattle.vg_plans.specs.World.{stays_plan}
 use Rattle.vg_shapes.specs.Pack.{units_of}
-use Rattle.vg_beam.specs.SearchSpace.{described}
+use Rattle.vg_beam.specs.SearchSpace.{choice_of, described}
 use Rattle.vg_beam.specs.Board.{no_pack, pack_at}
 use Rattle.vg_beam.specs.Kept.{IsKept, plan_at, plan_of}
 use Rattle.vg_beam.specs.Key.{IsKey, with_number}
@@ -26,8 +28,8 @@ returns-then-overlap c =
     ∙ ap (λ l. list_any (is_in_plan l) (units_of c.pack-last.result.now)) (sym (c.packs-packs.ensures ∙ c.kept_at-kept.ensures.plan))
     ∙ sym c.overlaps-overlap.ensures ∙ c.if-overlap.true in record {
       room = refl;
-      met = meets-refused (described c.args.space.now) c.args.space.now.table.now c.args.space.now.ssa.now c.args.space.now.deps.now c.args.board.now.packs.items c.args.level.now plan p c.args.met.now c.requires.met
-          (overlap-stays (described c.args.space.now) c.args.space.now.table.now c.args.space.now.ssa.now c.args.space.now.deps.now plan p t);
+      met = meets-refused (choice_of c.args.space.now) (described c.args.space.now) c.args.space.now.table.now c.args.space.now.ssa.now c.args.space.now.deps.now c.args.board.now.packs.items c.args.level.now plan p c.args.met.now c.requires.met
+          (overlap-stays (choice_of c.args.space.now) (described c.args.space.now) c.args.space.now.table.now c.args.space.now.ssa.now c.args.space.now.deps.now plan p t);
     }
 
 pub stays_plan-requires-clause-marks : goal.stays_plan-requires-clause-marks
@@ -37,7 +39,7 @@ stays_plan-requires-clause-marks c =
 pub stays_plan-requires-clause-free : goal.stays_plan-requires-clause-free
 stays_plan-requires-clause-free c =
     subst (IsFree c.args.space.now.table.now c.args.space.now.ssa.now c.args.space.now.deps.now) (sym (c.packs-packs.ensures ∙ c.kept_at-kept.ensures.plan))
-    (plan-free (described c.args.space.now) c.args.space.now.table.now c.args.space.now.ssa.now c.args.space.now.deps.now c.requires.earlier (plan_at c.args.level.now c.args.parent) c.requires.plan)
+    (plan-free (choice_of c.args.space.now) (described c.args.space.now) c.args.space.now.table.now c.args.space.now.ssa.now c.args.space.now.deps.now c.requires.earlier (plan_at c.args.level.now c.args.parent) c.requires.plan)
 
 pub cost_with-requires-clause-short : goal.cost_with-requires-clause-short
 cost_with-requires-clause-short c =
@@ -47,7 +49,7 @@ cost_with-requires-clause-short c =
     let t = ap (stays_plan bare plan) (sym c.pack-last.ensures) ∙ ap (λ l. stays_plan bare l c.pack-last.result.now) (sym (c.packs-packs.ensures ∙ c.kept_at-kept.ensures.plan))
     ∙ sym c.in_ok-stays.ensures ∙ c.if-not-stays.false in
     subst IsShort (sym c.pack-last.ensures)
-    (last-short (described c.args.space.now) c.args.space.now.table.now c.args.space.now.ssa.now c.args.space.now.deps.now c.requires.short plan p (longer-plan (described c.args.space.now) c.args.space.now.table.now c.args.space.now.ssa.now c.args.space.now.deps.now plan p c.requires.plan c.requires.tried t))
+    (last-short (choice_of c.args.space.now) (described c.args.space.now) c.args.space.now.table.now c.args.space.now.ssa.now c.args.space.now.deps.now c.requires.short plan p (longer-plan (choice_of c.args.space.now) (described c.args.space.now) c.args.space.now.table.now c.args.space.now.ssa.now c.args.space.now.deps.now plan p c.requires.plan c.requires.tried t))
 
 pub cost_with-requires-clause-room : goal.cost_with-requires-clause-room
 cost_with-requires-clause-room c =
@@ -55,7 +57,7 @@ cost_with-requires-clause-room c =
 
 pub cost_with-requires-clause-stands : goal.cost_with-requires-clause-stands
 cost_with-requires-clause-stands c =
-    (every-has (IsKept (described c.args.space.now) c.args.space.now.table.now c.args.space.now.ssa.now c.args.board.now.packs.items) _ c.args.level.now c.requires.level c.kept_at-kept.ensures.member).stands
+    (every-has (IsKept (choice_of c.args.space.now) (described c.args.space.now) c.args.space.now.table.now c.args.space.now.ssa.now c.args.board.now.packs.items) _ c.args.level.now c.requires.level c.kept_at-kept.ensures.member).stands
 
 pub cost_with-requires-clause-plan : goal.cost_with-requires-clause-plan
 cost_with-requires-clause-plan c =
@@ -64,11 +66,12 @@ cost_with-requires-clause-plan c =
     let p = pack_at c.args.board.now.packs.items c.args.pack in
     let t = ap (stays_plan bare plan) (sym c.pack-last.ensures) ∙ ap (λ l. stays_plan bare l c.pack-last.result.now) (sym (c.packs-packs.ensures ∙ c.kept_at-kept.ensures.plan))
     ∙ sym c.in_ok-stays.ensures ∙ c.if-not-stays.false in
-    let is = IsPlanFor (described c.args.space.now) c.args.space.now.table.now c.args.space.now.ssa.now c.args.space.now.deps.now in (
+    let is = IsPlanBy (choice_of c.args.space.now) (described c.args.space.now) c.args.space.now.table.now c.args.space.now.ssa.now c.args.space.now.deps.now in (
       c.args.space.now.deps.now,
-      subst (λ q. is (plan_of c.kept_at-kept.result.now ++ q ∷ [])) (sym c.pack-last.ensures)
+      may-be-fed (described c.args.space.now) c.args.space.now.table.now c.args.space.now.ssa.now c.args.space.now.deps.now (choice_of c.args.space.now) _
+          (subst (λ q. is (plan_of c.kept_at-kept.result.now ++ q ∷ [])) (sym c.pack-last.ensures)
           (subst (λ l. is (l ++ p ∷ [])) (sym c.kept_at-kept.ensures.plan)
-          (longer-plan (described c.args.space.now) c.args.space.now.table.now c.args.space.now.ssa.now c.args.space.now.deps.now plan p c.requires.plan c.requires.tried t)),
+          (longer-plan (choice_of c.args.space.now) (described c.args.space.now) c.args.space.now.table.now c.args.space.now.ssa.now c.args.space.now.deps.now plan p c.requires.plan c.requires.tried t))),
     )
 
 pub returns-then-known : goal.returns-then-known
@@ -78,9 +81,9 @@ returns-then-known c =
     let p = pack_at packs c.args.pack in
     let k = subst (λ q. IsKey no_pack packs q (plan ++ p ∷ [])) (sym (c.in_ok-key.ensures ∙ ap (with_number c.args.pack) c.as_slice.ensures))
     (key-longer no_pack packs c.kept_at-kept.result.now.key plan c.args.pack (subst (IsKey no_pack packs c.kept_at-kept.result.now.key) c.kept_at-kept.ensures.plan
-    (every-has (IsKept (described c.args.space.now) c.args.space.now.table.now c.args.space.now.ssa.now packs) _ c.args.level.now c.requires.level c.kept_at-kept.ensures.member).key) c.requires.pack) in record {
+    (every-has (IsKept (choice_of c.args.space.now) (described c.args.space.now) c.args.space.now.table.now c.args.space.now.ssa.now packs) _ c.args.level.now c.requires.level c.kept_at-kept.ensures.member).key) c.requires.pack) in record {
       room = refl;
-      met = meets-known (described c.args.space.now) c.args.space.now.table.now c.args.space.now.ssa.now c.args.space.now.deps.now packs c.args.level.now plan p c.args.met.now c.in_ok-key.key.items c.requires.met k
+      met = meets-known (choice_of c.args.space.now) (described c.args.space.now) c.args.space.now.table.now c.args.space.now.ssa.now c.args.space.now.deps.now packs c.args.level.now plan p c.args.met.now c.in_ok-key.key.items c.requires.met k
           (ap (is_known c.args.met.now) (sym c.as_slice-2.ensures.value) ∙ sym c.has-known.ensures ∙ c.if-known.true);
     }
 
@@ -92,7 +95,7 @@ returns-then-not-stays c =
     let f = ap (stays_plan bare plan) (sym c.pack-last.ensures) ∙ ap (λ l. stays_plan bare l c.pack-last.result.now) (sym (c.packs-packs.ensures ∙ c.kept_at-kept.ensures.plan))
     ∙ sym c.in_ok-stays.ensures ∙ c.if-not-stays.true in record {
       room = refl;
-      met = meets-refused (described c.args.space.now) c.args.space.now.table.now c.args.space.now.ssa.now c.args.space.now.deps.now c.args.board.now.packs.items c.args.level.now plan p c.args.met.now c.requires.met f;
+      met = meets-refused (choice_of c.args.space.now) (described c.args.space.now) c.args.space.now.table.now c.args.space.now.ssa.now c.args.space.now.deps.now c.args.board.now.packs.items c.args.level.now plan p c.args.met.now c.requires.met f;
     }
 
 pub returns : goal.returns
@@ -103,16 +106,16 @@ returns c =
     let p = pack_at packs c.args.pack in
     let k = subst (λ q. IsKey no_pack packs q (plan ++ p ∷ [])) (sym (c.in_ok-key.ensures ∙ ap (with_number c.args.pack) c.as_slice.ensures))
     (key-longer no_pack packs c.kept_at-kept.result.now.key plan c.args.pack (subst (IsKey no_pack packs c.kept_at-kept.result.now.key) c.kept_at-kept.ensures.plan
-    (every-has (IsKept (described c.args.space.now) c.args.space.now.table.now c.args.space.now.ssa.now packs) _ c.args.level.now c.requires.level c.kept_at-kept.ensures.member).key) c.requires.pack) in
+    (every-has (IsKept (choice_of c.args.space.now) (described c.args.space.now) c.args.space.now.table.now c.args.space.now.ssa.now packs) _ c.args.level.now c.requires.level c.kept_at-kept.ensures.member).key) c.requires.pack) in
     let f = ap (is_known c.args.met.now) (sym c.as_slice-2.ensures.value) ∙ sym c.has-known.ensures ∙ c.if-known.false in
     let t = ap (stays_plan bare plan) (sym c.pack-last.ensures) ∙ ap (λ l. stays_plan bare l c.pack-last.result.now) (sym (c.packs-packs.ensures ∙ c.kept_at-kept.ensures.plan))
     ∙ sym c.in_ok-stays.ensures ∙ c.if-not-stays.false in
     let price = cost_of (described c.args.space.now) c.args.space.now.table.now c.args.space.now.ssa.now c.args.space.now.deps.now in
-    let is = longer-plan (described c.args.space.now) c.args.space.now.table.now c.args.space.now.ssa.now c.args.space.now.deps.now plan p c.requires.plan c.requires.tried t in record {
+    let is = longer-plan (choice_of c.args.space.now) (described c.args.space.now) c.args.space.now.table.now c.args.space.now.ssa.now c.args.space.now.deps.now plan p c.requires.plan c.requires.tried t in record {
       room = c.in_ok-cost.ensures.room;
-      met = meets-new (described c.args.space.now) c.args.space.now.table.now c.args.space.now.ssa.now c.args.space.now.deps.now packs c.args.level.now plan p c.args.met.now _ c.in_ok-key.key.items _ c.requires.board.apart c.requires.met k f t
+      met = meets-new (choice_of c.args.space.now) (described c.args.space.now) c.args.space.now.table.now c.args.space.now.ssa.now c.args.space.now.deps.now packs c.args.level.now plan p c.args.met.now _ c.in_ok-key.key.items _ c.requires.board.apart c.requires.met k f t
           c.in_ok-add.ensures.candidates c.in_ok-add.ensures.known refl
-          (is-candidate (described c.args.space.now) c.args.space.now.table.now c.args.space.now.ssa.now c.args.space.now.deps.now packs c.args.level.now c.args.parent c.args.pack c.in_ok-cost.cost
+          (is-candidate (choice_of c.args.space.now) (described c.args.space.now) c.args.space.now.table.now c.args.space.now.ssa.now c.args.space.now.deps.now packs c.args.level.now c.args.parent c.args.pack c.in_ok-cost.cost
           c.requires.parent c.requires.pack is
           (c.in_ok-cost.ensures.cost c.args.space.now.deps.now ∙ ap (λ q. price (plan_of c.kept_at-kept.result.now ++ q ∷ [])) c.pack-last.ensures
           ∙ ap (λ l. price (l ++ p ∷ [])) c.kept_at-kept.ensures.plan));

@@ -4,7 +4,7 @@ use Rattle.std.proofs.lemmas.Result.{IfOk-weaker}
 use Rattle.vg_catalog.specs.Catalogs.{entries_in}
 use Rattle.vg_catalog.specs.Extensions.{bits_in}
 use Rattle.vg_kernel.specs.Tree.{tree_of}
-use Rattle.vg_shapes.specs.Description.{Description, description_of}
+use Rattle.vg_shapes.specs.Description.{description_of}
 use Rattle.vg_emission.specs.Truth.{IsCallable}
 use Rattle.vg_instances.proofs.Proper.{catalog-proper}
 use Rattle.vg_compile.proofs.MorePrograms.{more-known, more-grows, more-compiled}

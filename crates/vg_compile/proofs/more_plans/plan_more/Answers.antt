@@ -1,9 +1,22 @@
-use Rattle.std.proofs.Common.{map}
+use Rattle.std.proofs.Common.{◌∙◌, ap, map, subst, sym}
 use Rattle.vg_kernel.specs.Tree.{tree_of}
 use Rattle.vg_shapes.specs.Description.{description_of}
-use Rattle.vg_compile.specs.Chosen.{AreWhole, AreWide}
+use Rattle.vg_shapes.specs.Depends.{dependences}
+use Rattle.vg_shapes.specs.Sound.{IsSound}
+use Rattle.vg_compile.specs.Chosen.{AreWhole, AreWide, IsTableOf}
 use Rattle.vg_compile.proofs.More.{more-is, valued}
 use Rattle.vg_compile.proofs.more_plans.plan_more.Goals as goal
+
+pub plan_fed-requires-clause-sound : goal.plan_fed-requires-clause-sound
+plan_fed-requires-clause-sound c = subst IsSound (sym c.in_ok-wide.ensures.ssa) c.in_ok-wide_values.ensures.sound
+
+pub plan_fed-requires-clause-table : goal.plan_fed-requires-clause-table
+plan_fed-requires-clause-table c =
+    let ds = map description_of c.args.descriptions.now in
+    subst (λ s. IsTableOf ds s c.in_ok-wide.wide.planned.chosen.table) (sym c.in_ok-wide.ensures.ssa) c.in_ok-wide.ensures.planned.chosen.table
+
+pub plan_fed-requires-clause-deps : goal.plan_fed-requires-clause-deps
+plan_fed-requires-clause-deps c = c.in_ok-wide.ensures.deps ∙ ap dependences (sym c.in_ok-wide.ensures.ssa)
 
 pub returns : goal.returns
 returns c =
@@ -11,9 +24,10 @@ returns c =
     let k = tree_of c.args.kernel.now in
     let whole = c.in_ok-whole_values.ensures in
     let wide = c.in_ok-wide_values.ensures in
-    more-is ds k c.args.width c.in_ok-whole.whole c.in_ok-wide.wide c.cheaper-values.result
+    more-is ds k c.args.width c.in_ok-whole.whole c.in_ok-wide.wide c.in_ok-fed.fed
     (valued AreWhole ds k c.args.width c.in_ok-whole_values.whole_values c.in_ok-whole.whole (whole.exact, whole.uncut) whole.exact whole.sound whole.stands_for
     c.in_ok-whole.ensures.ssa c.in_ok-whole.ensures.planned c.in_ok-whole.ensures.deps)
     (valued AreWide ds k c.args.width c.in_ok-wide_values.wide_values c.in_ok-wide.wide (wide.exact, wide.cuts) wide.exact wide.sound wide.stands_for
     c.in_ok-wide.ensures.ssa c.in_ok-wide.ensures.planned c.in_ok-wide.ensures.deps)
-    c.cheaper-values.ensures
+    (record { chosen = c.in_ok-fed.ensures.chosen; cost = c.in_ok-fed.ensures.cost })
+    c.cheapest-values.result c.cheapest-values.ensures

@@ -1,7 +1,7 @@
 use Rattle.std.proofs.Common.{map}
 use Rattle.std.proofs.lemmas.Result.{IfOk-weaker}
 use Rattle.vg_shapes.specs.Description.{description_of}
-use Rattle.vg_compile.proofs.Carried.{emitted-is, plan-grows}
+use Rattle.vg_compile.proofs.Carried.{emitted-for, plan-grows}
 use Rattle.vg_compile.proofs.Ordered.{known}
 use Rattle.vg_compile.proofs.units.compile_units.Goals as goal
 
@@ -25,5 +25,5 @@ returns c =
     let chosen = c.in_ok-chosen.ensures.plan in
     let all = known ds c.in_ok-chosen.chosen.table c.args.ssa.now c.requires.sound c.requires.callable chosen.table.matched in
     IfOk-weaker c.emit_plan.result _ _
-    (λ p is. emitted-is ds c.in_ok-chosen.chosen.table c.args.ssa.now c.args.width c.in_ok-chosen.chosen.plan p all chosen is)
+    (λ p is. emitted-for ds c.in_ok-chosen.chosen.table c.args.ssa.now c.args.width c.in_ok-chosen.chosen.plan p all chosen is)
     c.emit_plan.ensures

@@ -2,6 +2,8 @@ use Rattle.std.proofs.Common.{◌≡◌, ◌∙◌, ◌++◌, ◌∷◌, [], sub
 use Rattle.std.specs.Prelude.{IsTrue}
 use Rattle.vg_plans.specs.Members.{Has}
 use Rattle.vg_plans.specs.World.{follows}
+use Rattle.vg_packing.proofs.FedPlans.{may-be-fed}
+use Rattle.vg_packing.specs.Fed.{unfed}
 use Rattle.vg_packing.specs.Laws.{IsPlanFor}
 use Rattle.vg_packing.specs.Packing.{packing}
 use Rattle.vg_packs.specs.Walk.{IsFree}
@@ -14,8 +16,11 @@ with-requires-clause-plan c =
     let is : IsTrue c.in_ok-may_follow.may_follow = c.if-not-may_follow.false in
     let has : Has c.in_ok-pack.pack (follows w c.args.plan.now.packs.items) =
     subst (λ q. Has c.in_ok-pack.pack (follows w q)) c.packs.ensures (c.in_ok-may_follow.ensures.member.0 is)
-    in
-    (c.args.deps.now, plan-more c.args.table.now c.args.ssa.now c.args.deps.now c.args.plan.now.packs.items c.in_ok-pack.pack has c.requires.plan)
+    in (
+      c.args.deps.now,
+      may-be-fed [] c.args.table.now c.args.ssa.now c.args.deps.now unfed _
+          (plan-more c.args.table.now c.args.ssa.now c.args.deps.now c.args.plan.now.packs.items c.in_ok-pack.pack has c.requires.plan),
+    )
 
 pub returns-clause-free : goal.returns-clause-free
 returns-clause-free c =

@@ -1,4 +1,4 @@
-use Rattle.std.proofs.Common.{◌∙◌, rules}
+use Rattle.std.proofs.Common.{rules}
 use Rattle.std.proofs.lemmas.List.Sorted.{answers_always, IsNonDecreasingBy-from_sort}
 use Rattle.vg_plans.proofs.Sorting.{stable-one}
 use Rattle.vg_packing.proofs.taken.by_low.Goals as goal

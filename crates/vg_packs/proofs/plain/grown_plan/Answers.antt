@@ -1,26 +1,12 @@
 use Rattle.std.proofs.Common.{map}
-use Rattle.vg_packing.specs.Packing.{plain_of}
+use Rattle.vg_packing.specs.Completed.{turns_of}
+use Rattle.vg_packing.specs.Fed.{unfed}
 use Rattle.vg_shapes.specs.Description.{description_of}
-use Rattle.vg_packs.proofs.Turns.{walk-ends, walk-goes, walk-stops}
+use Rattle.vg_packs.proofs.Completion.{among}
 use Rattle.vg_packs.proofs.plain.grown_plan.Goals as goal
-
-pub returns-in-None-clause-plain : goal.returns-in-None-clause-plain
-returns-in-None-clause-plain c =
-    walk-ends (map description_of c.args.descriptions.now) c.args.table.now c.args.ssa.now c.args.deps.now c.turns.turns c.turns.plan.packs.items
-    (plain_of (map description_of c.args.descriptions.now) c.args.table.now c.args.ssa.now c.args.deps.now) c.turns.queue.items c.pop_front.new.self.items c.in-None.ensures.items c.in-None.ensures.rest
-    c.turns.invariant.plan
-
-pub turns-preserved : goal.turns-preserved
-turns-preserved c = record {
-  plan =
-      walk-goes (map description_of c.args.descriptions.now) c.args.table.now c.args.ssa.now c.args.deps.now c.turns.turns c.turns.plan.packs.items
-      c.turn.new.plan.packs.items (plain_of (map description_of c.args.descriptions.now) c.args.table.now c.args.ssa.now c.args.deps.now) c.in-Some.operand c.turns.queue.items c.pop_front.new.self.items
-      c.turn.new.queue.items c.turns-test.true c.in-Some.ensures.items c.in_ok-turn-in-Some.ensures.turn
-      c.turns.invariant.plan;
-  grown = c.in_ok-turn-in-Some.ensures.grown;
-}
 
 pub returns-clause-plain : goal.returns-clause-plain
 returns-clause-plain c =
-    walk-stops (map description_of c.args.descriptions.now) c.args.table.now c.args.ssa.now c.args.deps.now c.turns.turns c.turns.plan.packs.items
-    (plain_of (map description_of c.args.descriptions.now) c.args.table.now c.args.ssa.now c.args.deps.now) c.turns.queue.items c.turns-test.false c.turns.invariant.plan
+    among unfed (map description_of c.args.descriptions.now) c.args.table.now c.args.ssa.now c.args.deps.now (turns_of c.args.ssa.now)
+    c.args.groups.items c.in_ok-plan.plan.packs.items c.push_each.new.plan.packs.items c.in_ok-grown.grown.packs.items
+    c.in_ok-plan.ensures.packs c.in_ok-push_each.ensures.plan c.in_ok-grown.ensures.plan

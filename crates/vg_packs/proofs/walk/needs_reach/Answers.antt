@@ -1,4 +1,4 @@
-use Rattle.std.proofs.Common.{ℕ, ◌<◌, ◌∙◌, All, length, sym, subst}
+use Rattle.std.proofs.Common.{◌<◌, ◌∙◌, All, length, sym, subst}
 use Rattle.vg_packing.specs.Packing.{needs_of}
 use Rattle.vg_packs.proofs.Cycles.{all-from}
 use Rattle.vg_packs.proofs.NodeUnits.{pack-units}

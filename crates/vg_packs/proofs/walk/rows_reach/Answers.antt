@@ -1,7 +1,7 @@
-use Rattle.std.proofs.Common.{ℕ, Bool, ◌≡◌, ◌<◌, ◌∙◌, All, arith, false, get_or, length, refl, subst, sym}
+use Rattle.std.proofs.Common.{ℕ, Bool, ◌<◌, ◌∙◌, All, arith, false, get_or, length, refl, subst, sym}
 use Rattle.vg_shapes.specs.DepList.{row_of}
 use Rattle.vg_packs.specs.Marks.{AreMarks}
-use Rattle.vg_packs.specs.Walk.{HasWay, IsApart, IsSettled, is_in_plan, node_needs}
+use Rattle.vg_packs.specs.Walk.{HasWay, IsApart, is_in_plan, node_needs}
 use Rattle.vg_packs.proofs.Cycles.{all-from}
 use Rattle.vg_packs.proofs.NodeUnits.{row-units}
 use Rattle.vg_packs.proofs.Rows.{rows-all, rows-more, rows-none, rows-settled, rows-way}

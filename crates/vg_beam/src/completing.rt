@@ -1,0 +1,170 @@
+//! Plans that are completed.
+
+ghost use Rattle.std.specs.Prelude.{◌≡◌, ◌∷◌, [], IfOk, map};
+ghost use Rattle.vg_packing.specs.Completed.{turns_of};
+ghost use Rattle.vg_packing.specs.Fed.{IsPlanBy, groups_by};
+ghost use Rattle.vg_packing.specs.Taken.{MatchesNear};
+ghost use Rattle.vg_packs.specs.Walk.{NameEarlierUnits};
+ghost use Rattle.vg_plans.specs.Completed.{careful_with, careful_with_all, completed};
+ghost use Rattle.vg_plans.specs.Levels.{first_least};
+ghost use Rattle.vg_plans.specs.Members.{Every, Has};
+ghost use Rattle.vg_plans.specs.PlainPlan.{plain_plan};
+ghost use Rattle.vg_beam.specs.Chosen.{HaveShortPacksBy};
+ghost use Rattle.vg_beam.specs.Kept.{plans_of};
+ghost use Rattle.vg_beam.specs.SearchSpace.{HasGroups, choice_of, cost_in, described, world_of};
+
+use crate::kept::{Kept, kept_at};
+use crate::priced_plan::{PricedPlan, empty_priced, lesser_plan, price};
+use crate::search_space::SearchSpace;
+use std::alloc::{AllocError, Global};
+use vg_packs::{completed_plan, completed_with, groups_by, plain_plan_by};
+use vg_shapes::Pack;
+
+/// The completed plan of a plan that was kept.
+fn complete(alloc: Global, plan: &[Pack], space: &SearchSpace) -> Result<PricedPlan, AllocError>
+    requires near { MatchesNear space.now.table.now }
+    requires earlier { NameEarlierUnits space.now.ssa.now space.now.deps.now }
+    requires groups { HasGroups space.now }
+    requires short { HaveShortPacksBy (choice_of space.now) (described space.now)
+        space.now.table.now space.now.ssa.now space.now.deps.now }
+    requires plan { IsPlanBy (choice_of space.now) (described space.now) space.now.table.now
+        space.now.ssa.now space.now.deps.now plan.now }
+    ensures plan { IfOk result (λ whole. whole.plan ≡ completed (world_of space.now) (turns_of
+        space.now.ssa.now) plan.now) }
+    ensures cost { IfOk result (λ whole. whole.cost ≡ cost_in space.now whole.plan) }
+{
+    let whole = completed_plan(
+        alloc,
+        space.descriptions,
+        space.table,
+        space.ssa,
+        space.deps,
+        space.groups,
+        plan,
+    )?;
+    let priced = price(alloc, whole, space)?;
+    Ok(priced)
+}
+
+/// The first of the least cost, in a list of a plan and the completed plans of a level.
+pub(crate) fn lesser_completed(
+    alloc: Global,
+    best: PricedPlan,
+    level: &[Kept],
+    space: &SearchSpace,
+) -> Result<PricedPlan, AllocError>
+    requires near { MatchesNear space.now.table.now }
+    requires earlier { NameEarlierUnits space.now.ssa.now space.now.deps.now }
+    requires groups { HasGroups space.now }
+    requires short { HaveShortPacksBy (choice_of space.now) (described space.now)
+        space.now.table.now space.now.ssa.now space.now.deps.now }
+    requires plans { Every (IsPlanBy (choice_of space.now) (described space.now) space.now.table.now
+        space.now.ssa.now space.now.deps.now) (plans_of level.now) }
+    requires cost { best.cost ≡ cost_in space.now best.plan }
+    ensures plan { IfOk result (λ better. better.plan ≡ first_least (cost_in space.now) best.plan
+        (map (completed (world_of space.now) (turns_of space.now.ssa.now)) (plans_of level.now))) }
+    ensures cost { IfOk result (λ better. better.cost ≡ cost_in space.now better.plan) }
+{
+    let mut least = best;
+    'plans: for place in 0..level.len() {
+        let kept = kept_at(level, place);
+        let whole = complete(alloc, kept.running.packs(), space)?;
+        least = lesser_plan(least, whole);
+    }
+    Ok(least)
+}
+
+/// The completed plan with a store group in place of a plan that stays one with it, where it costs less;
+/// else the plan.
+fn careful_with(
+    alloc: Global,
+    best: PricedPlan,
+    group: &Pack,
+    space: &SearchSpace,
+) -> Result<PricedPlan, AllocError>
+    requires near { MatchesNear space.now.table.now }
+    requires earlier { NameEarlierUnits space.now.ssa.now space.now.deps.now }
+    requires groups { HasGroups space.now }
+    requires short { HaveShortPacksBy (choice_of space.now) (described space.now)
+        space.now.table.now space.now.ssa.now space.now.deps.now }
+    requires group { Has group.now (groups_by (choice_of space.now) space.now.ssa.now) }
+    requires plan { IsPlanBy (choice_of space.now) (described space.now) space.now.table.now
+        space.now.ssa.now space.now.deps.now best.plan }
+    requires cost { best.cost ≡ cost_in space.now best.plan }
+    ensures plan { IfOk result (λ better. better.plan ≡ careful_with (world_of space.now) (turns_of
+        space.now.ssa.now) best.plan group.now) }
+    ensures cost { IfOk result (λ better. better.cost ≡ cost_in space.now better.plan) }
+{
+    let whole = completed_with(
+        alloc,
+        space.descriptions,
+        space.table,
+        space.ssa,
+        space.deps,
+        space.groups,
+        best.plan.as_slice(),
+        group,
+    )?;
+    match whole {
+        None => Ok(best),
+        Some(plan) => {
+            let priced = price(alloc, plan, space)?;
+            Ok(lesser_plan(best, priced))
+        }
+    }
+}
+
+/// The careful plain plan: each store group that is tried is taken, and what the plan then takes is
+/// completed, only where that costs less.
+fn careful_plan(
+    alloc: Global,
+    groups: &[Pack],
+    space: &SearchSpace,
+) -> Result<PricedPlan, AllocError>
+    requires near { MatchesNear space.now.table.now }
+    requires earlier { NameEarlierUnits space.now.ssa.now space.now.deps.now }
+    requires load_groups { HasGroups space.now }
+    requires short { HaveShortPacksBy (choice_of space.now) (described space.now)
+        space.now.table.now space.now.ssa.now space.now.deps.now }
+    requires groups { groups.now ≡ groups_by (choice_of space.now) space.now.ssa.now }
+    ensures plan { IfOk result (λ careful. careful.plan ≡ careful_with_all (world_of space.now)
+        (turns_of space.now.ssa.now) [] groups.now) }
+    ensures cost { IfOk result (λ careful. careful.cost ≡ cost_in space.now careful.plan) }
+{
+    let mut best = empty_priced(alloc, space)?;
+    'groups: for group in groups {
+        let better = careful_with(alloc, best, group, space)?;
+        best = better;
+    }
+    Ok(best)
+}
+
+/// The first of the least cost, in a list of the empty plan, the plain plan of the store groups that are
+/// tried, and the careful plain plan.
+pub(crate) fn first_fed(alloc: Global, space: &SearchSpace) -> Result<PricedPlan, AllocError>
+    requires near { MatchesNear space.now.table.now }
+    requires earlier { NameEarlierUnits space.now.ssa.now space.now.deps.now }
+    requires groups { HasGroups space.now }
+    requires short { HaveShortPacksBy (choice_of space.now) (described space.now)
+        space.now.table.now space.now.ssa.now space.now.deps.now }
+    ensures plan { IfOk result (λ first. first.plan ≡ first_least (cost_in space.now) [] (plain_plan
+        (world_of space.now) (turns_of space.now.ssa.now) ∷ careful_with_all (world_of space.now)
+        (turns_of space.now.ssa.now) [] (groups_by (choice_of space.now) space.now.ssa.now) ∷ [])) }
+    ensures cost { IfOk result (λ first. first.cost ≡ cost_in space.now first.plan) }
+{
+    let choice = space.groups.choice;
+    let plain = plain_plan_by(
+        alloc,
+        space.descriptions,
+        space.table,
+        space.ssa,
+        space.deps,
+        choice,
+    )?;
+    let groups = groups_by(alloc, choice, space.ssa)?;
+    let careful = careful_plan(alloc, groups.as_slice(), space)?;
+    let empty = empty_priced(alloc, space)?;
+    let priced = price(alloc, plain, space)?;
+    let first = lesser_plan(empty, priced);
+    Ok(lesser_plan(first, careful))
+}
