@@ -1,6 +1,6 @@
 -- When the term of a lane fits the term of a value, as it is tried: from left to right, with what the
 -- leaves so far are bound to.
-use Rattle.std.specs.Prelude.{ℕ, ◌&&◌, List, [], ◌∷◌, ◌++◌, Option, Some, None, nat_eq, nat_lt, if◌then◌else◌}
+use Rattle.std.specs.Prelude.{ℕ, Bool, false, ◌&&◌, List, [], ◌∷◌, ◌++◌, Option, Some, None, nat_eq, nat_lt, if◌then◌else◌}
 use Rattle.std.specs.Option.{option_and_then}
 use Rattle.vg_base.specs.Trap.{◌>>=◌}
 use Rattle.vg_terms.specs.declared.term.LeafKey.{LeafKey}
@@ -33,6 +33,14 @@ bind w k x bound =
     else if same_wanted (wanted_for bound w k) Nothing
     then Some (bound ++ record { key = k; width = w; wanted = x } ∷ [])
     else if same_wanted (wanted_for bound w k) x then Some bound else None
+
+-- whether two terms have one operation at their roots, at one width and by as many places; a leaf and a
+-- constant have none
+unfoldable pub same_root : Tree → Tree → Bool
+same_root (one op w k x) (one o u j y) = nat_eq (one_tag op) (one_tag o) && (nat_eq w u && nat_eq k j)
+same_root (two op w x y) (two o u p q) = nat_eq (two_tag op) (two_tag o) && nat_eq w u
+same_root (sel w c x y) (sel u d p q) = nat_eq w u
+same_root _ _ = false
 
 -- the term of a lane against that of a value
 unfoldable pub fit : List Tree → ℕ → Tree → Tree → List Bound → Option (List Bound)

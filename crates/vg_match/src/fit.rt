@@ -1,8 +1,8 @@
 //! Whether the term of a lane fits the term of a value.
 
-ghost use Rattle.std.specs.Prelude.{◌≡◌, ◌<◌, ◌^◌, IfOk, map};
+ghost use Rattle.std.specs.Prelude.{◌≡◌, ◌<◌, ◌^◌, IfOk, false, map};
 ghost use Rattle.std.specs.Option.{option_map};
-ghost use Rattle.vg_match.specs.Fit.{bind, fit, fit_turned, standing};
+ghost use Rattle.vg_match.specs.Fit.{bind, fit, fit_turned, same_root, standing};
 ghost use Rattle.vg_match.specs.Least.{AreByTerm};
 ghost use Rattle.vg_shapes.specs.Fits.{wanted_for};
 ghost use Rattle.vg_terms.specs.Term.{tree};
@@ -75,9 +75,81 @@ fn bind(
     }
 }
 
+// Whether two terms have one operation at their roots, at one width and by as many places.
+#[tactic(auto, unfolding(crate::specs::Fit::same_root))]
+fn is_same_root(lane: &Term, t: &Term) -> bool
+    ensures { result ≡ same_root (tree lane.now) (tree t.now) }
+{
+    match (lane, t) {
+        (
+            Term::One {
+                op,
+                width,
+                amount,
+                ..
+            },
+            Term::One {
+                op: o,
+                width: u,
+                amount: j,
+                ..
+            },
+        ) => op.tag() == o.tag() && *width == *u && *amount == *j,
+        (
+            Term::Two { op, width, .. },
+            Term::Two {
+                op: o,
+                width: u,
+                ..
+            },
+        ) => op.tag() == o.tag() && *width == *u,
+        (Term::Sel { width, .. }, Term::Sel { width: u, .. }) => *width == *u,
+        (Term::Leaf { .. }, _) => false,
+        (Term::Const { .. }, _) => false,
+        (Term::One { .. }, _) => false,
+        (Term::Two { .. }, _) => false,
+        (Term::Sel { .. }, _) => false,
+    }
+}
+
+// The term of a lane against that of a value where their roots are not of one operation: a leaf is
+// bound, and a constant fits itself.
+#[tactic(auto, unfolding(crate::specs::Fit::fit, crate::specs::Fit::same_root))]
+fn fit_end(
+    least: &LeastValues<'_>,
+    value: u32,
+    lane: &Term,
+    t: &Term,
+    bound: Vec<Bound>,
+) -> Result<Option<Vec<Bound>>, AllocError>
+    requires by_term { AreByTerm least.now }
+    requires differ { same_root (tree lane.now) (tree t.now) ≡ false }
+    ensures { IfOk result
+        (λ found. option_map (λ b. b.items) found
+        ≡ fit (map tree least.now.terms.now) value (tree lane.now) (tree t.now) bound.items) }
+{
+    match lane {
+        Term::Leaf { width, key } => {
+            if t.width() == *width {
+                bind(*width, *key, standing(least, value, t), bound)
+            } else {
+                Ok(None)
+            }
+        }
+        Term::Const { .. } => {
+            if lane.is_same(t) {
+                Ok(Some(bound))
+            } else {
+                Ok(None)
+            }
+        }
+        _ => Ok(None),
+    }
+}
+
 /// The leaves of the term of a lane, bound after others to what stands for the parts of the term of
 /// a value, where the two fit.
-#[tactic(auto, unfolding(crate::specs::Fit::fit))]
+#[tactic(auto, unfolding(crate::specs::Fit::fit, crate::specs::Fit::same_root))]
 pub(crate) fn fit(
     least: &LeastValues<'_>,
     value: u32,
@@ -90,83 +162,35 @@ pub(crate) fn fit(
         (λ found. option_map (λ b. b.items) found
         ≡ fit (map tree least.now.terms.now) value (tree lane.now) (tree t.now) bound.items) }
 {
+    if !is_same_root(lane, t) {
+        return fit_end(least, value, lane, t, bound);
+    }
     match (lane, t) {
-        (
-            Term::One {
-                op,
-                width,
-                amount,
-                x,
-            },
-            Term::One {
-                op: o,
-                width: u,
-                amount: j,
-                x: y,
-            },
-        ) => {
-            if op.tag() == o.tag() && *width == *u && *amount == *j {
-                fit(least, value, x, y, bound)
-            } else {
-                Ok(None)
+        (Term::One { x, .. }, Term::One { x: y, .. }) => fit(least, value, x, y, bound),
+        (Term::Two { x, y, .. }, Term::Two { x: p, y: q, .. }) => {
+            match fit(least, value, x, p, bound)? {
+                Some(more) => fit(least, value, y, q, more),
+                None => Ok(None),
             }
         }
         (
-            Term::Two { op, width, x, y },
-            Term::Two {
-                op: o,
-                width: u,
-                x: p,
-                y: q,
-            },
-        ) => {
-            if op.tag() == o.tag() && *width == *u {
-                match fit(least, value, x, p, bound)? {
-                    Some(more) => fit(least, value, y, q, more),
-                    None => Ok(None),
-                }
-            } else {
-                Ok(None)
-            }
-        }
-        (
-            Term::Sel { width, c, x, y },
+            Term::Sel { c, x, y, .. },
             Term::Sel {
-                width: u,
                 c: d,
                 x: p,
                 y: q,
+                ..
             },
         ) => {
-            if *width == *u {
-                match fit(least, value, c, d, bound)? {
-                    Some(more) => match fit(least, value, x, p, more)? {
-                        Some(most) => fit(least, value, y, q, most),
-                        None => Ok(None),
-                    },
+            match fit(least, value, c, d, bound)? {
+                Some(more) => match fit(least, value, x, p, more)? {
+                    Some(most) => fit(least, value, y, q, most),
                     None => Ok(None),
-                }
-            } else {
-                Ok(None)
+                },
+                None => Ok(None),
             }
         }
-        (Term::Leaf { width, key }, _) => {
-            if t.width() == *width {
-                bind(*width, *key, standing(least, value, t), bound)
-            } else {
-                Ok(None)
-            }
-        }
-        (Term::Const { .. }, _) => {
-            if lane.is_same(t) {
-                Ok(Some(bound))
-            } else {
-                Ok(None)
-            }
-        }
-        (Term::One { .. }, _) => Ok(None),
-        (Term::Two { .. }, _) => Ok(None),
-        (Term::Sel { .. }, _) => Ok(None),
+        _ => Ok(None),
     }
 }
 
