@@ -1,14 +1,14 @@
 -- Completed plans, the careful plan and the plan that is chosen beside them are plans, and the last costs no more
 -- than those among which it is chosen.
-use Rattle.std.proofs.Common.{◌≡◌, ℕ, zero, suc, ◌<◌, ◌≤◌, Bool, true, false, List, [], ◌∷◌, ◌++◌, length, refl, sym, ◌∙◌, ap, subst, inl, inr, arith}
-use Rattle.std.specs.Prelude.{if◌then◌else◌, flat_map, map}
+use Rattle.std.proofs.Common.{ℕ, zero, suc, ◌<◌, ◌≤◌, List, [], ◌∷◌, ◌++◌, length, refl, inl, inr}
+use Rattle.std.specs.Prelude.{flat_map}
 use Rattle.std.proofs.lemmas.Bool.{cases_Bool}
 use Rattle.vg_plans.specs.Members.{Has, Every}
-use Rattle.vg_plans.specs.Crowded.{Crowded, GoesByPacks, IsPlan, empty, more, IsPlanOf}
-use Rattle.vg_plans.specs.Levels.{chosen, first_least, kept_within, level_of, met_within}
+use Rattle.vg_plans.specs.Crowded.{Crowded, IsPlan, empty, more}
+use Rattle.vg_plans.specs.Levels.{kept_within, met_within}
 use Rattle.vg_plans.specs.World.{IsWorld, World, follows, plan_cost, same_packs, stays_plan, tried, tried_for}
-use Rattle.vg_plans.specs.PlainPlan.{is_settled, plain_plan, walk, with_groups}
-use Rattle.vg_plans.specs.Completed.{careful_plan, careful_with, careful_with_all, chosen_fed, completed, fed, fed_for, fed_for_all, lesser, produced, searched}
+use Rattle.vg_plans.specs.PlainPlan.{is_settled, plain_plan, with_groups}
+use Rattle.vg_plans.specs.Completed.{careful_plan, careful_with_all, chosen_fed, completed, fed_for_all, lesser, produced, searched}
 use Rattle.vg_plans.proofs.Lists.{every-append, every-has, every-map, has-append_left, has-append_right, has-flat_map, has-map, least-below}
 use Rattle.vg_plans.proofs.Members.{from-flat_map}
 use Rattle.vg_plans.proofs.Optimal.{first_least-best, level-plans, optimal-beside}

@@ -1,11 +1,12 @@
 -- What sorting, leaving out and choosing keep.
 use Rattle.std.proofs.Common.{◌≡◌, ℕ, zero, suc, ◌≤◌, ◌⊎◌, Bool, true, false, List, [], ◌∷◌, ◌++◌, map, length, take, refl, sym, ◌∙◌, ap, subst, inl, inr, arith}
-use Rattle.std.specs.Prelude.{nat_le, nat_lt, if◌then◌else◌, flat_map}
+use Rattle.std.specs.Prelude.{nat_le, nat_lt, if◌then◌else◌, filter, flat_map}
 use Rattle.std.specs.List.{list_any}
 use Rattle.std.proofs.lemmas.Bool.{cases_Bool}
 use Rattle.std.proofs.lemmas.Bool.Decides.{nat_tests}
 use Rattle.vg_plans.specs.Levels.{distinct_from, insert_by, sort_by, kept_of, first_least}
 use Rattle.vg_plans.specs.Members.{Has, Every, AllDiffer}
+use Rattle.vg_plans.proofs.Members.{any-found}
 
 -- members
 pub has-append_left : {X : Type 0} (x : X) (xs ys : List X) → Has x xs → Has x (xs ++ ys)
@@ -44,6 +45,13 @@ pub every-take : {X : Type 0} (P : X → Type 0) (n : ℕ) (xs : List X) → Eve
 every-take P zero xs a = tt
 every-take P (suc n) [] a = tt
 every-take P (suc n) (x ∷ xs) a = (a.0, every-take P n xs a.1)
+
+pub every-filter : {X : Type 0} (P : X → Type 0) (test : X → Bool) (xs : List X) → Every P xs → Every P (filter test xs)
+every-filter P test [] a = tt
+every-filter P test (x ∷ xs) a = elim (cases_Bool (test x)) [
+  | inl t ↦ rw t (a.0, every-filter P test xs a.1)
+  | inr f ↦ rw f (every-filter P test xs a.1)
+]
 
 pub every-has : {X : Type 0} (P : X → Type 0) (x : X) (xs : List X) → Every P xs → Has x xs → P x
 every-has P x [] a h = absurd h
@@ -106,13 +114,6 @@ every-distinct P same seen (x ∷ xs) a = elim (cases_Bool (list_any (same x) se
   | inr f ↦ rw f (a.0, every-distinct P same (x ∷ seen) xs a.1)
 ]
 
-any-found : {X : Type 0} (test : X → Bool) (xs : List X) → list_any test xs ≡ true → (y : X) × Has y xs × (test y ≡ true)
-any-found test [] t = absurd (cc)
-any-found test (x ∷ xs) t = elim (cases_Bool (test x)) [
-  | inl h ↦ (x, inl refl, h)
-  | inr f ↦ let k = any-found test xs (rw f at t) in (k.0, inr k.1, k.2)
-]
-
 pub none-found : {X : Type 0} (test : X → Bool) (xs : List X) → list_any test xs ≡ false → Every (λ y. test y ≡ false) xs
 none-found test [] t = tt
 none-found test (x ∷ xs) t = elim (cases_Bool (test x)) [
@@ -143,7 +144,7 @@ differ-from_seen same x seen (z ∷ xs) h = elim (cases_Bool (list_any (same z) 
   | inr f ↦ rw f (every-has (λ y. same z y ≡ false) x seen (none-found (same z) seen f) h, differ-from_seen same x (z ∷ seen) xs (inr h))
 ]
 
-every-implies : {X : Type 0} (P Q : X → Type 0) → ((x : X) → P x → Q x) → (xs : List X) → Every P xs → Every Q xs
+pub every-implies : {X : Type 0} (P Q : X → Type 0) → ((x : X) → P x → Q x) → (xs : List X) → Every P xs → Every Q xs
 every-implies P Q f [] a = tt
 every-implies P Q f (x ∷ xs) a = (f x a.0, every-implies P Q f xs a.1)
 

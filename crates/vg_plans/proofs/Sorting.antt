@@ -5,6 +5,7 @@ use Rattle.std.specs.Ordering.{is_lt, nat_cmp}
 use Rattle.std.specs.List.Sorted.{IsNonDecreasingBy, IsStableByKey, ties}
 use Rattle.std.proofs.lemmas.Bool.{cases_Bool}
 use Rattle.std.proofs.lemmas.Bool.Decides.{nat_tests}
+use Rattle.vg_plans.proofs.Lists.{every-implies}
 use Rattle.vg_plans.proofs.Members.{filter-agree}
 use Rattle.vg_plans.specs.Levels.{insert_by, sort_by}
 use Rattle.vg_plans.specs.Members.{Every}
@@ -21,10 +22,6 @@ of_key key k xs = filter (λ y. nat_eq k (key y)) xs
 eq-refl : (k : ℕ) → nat_eq k k ≡ true
 eq-refl k = grind (arith, nat_tests)
 
-every-more : {X : Type 0} (P Q : X → Type 0) → ((x : X) → P x → Q x) → (xs : List X) → Every P xs → Every Q xs
-every-more P Q f [] a = tt
-every-more P Q f (x ∷ xs) a = (f x a.0, every-more P Q f xs a.1)
-
 -- none has a lesser key than the first
 none-below : {X : Type 0} (key : X → ℕ) (k : ℕ) (xs : List X) → Every (λ y. k < key y) xs → of_key key k xs ≡ []
 none-below key k [] a = refl
@@ -34,7 +31,7 @@ insert-rises : {X : Type 0} (key : X → ℕ) (x : X) (ys : List X) → Rises ke
 insert-rises key x [] r = (tt, tt)
 insert-rises key x (y ∷ ys) r = elim (cases_Bool (nat_le (key x) (key y))) [
   | inl t ↦ rw t (let le : key x ≤ key y = grind (arith, nat_tests, t) in
-      ((le, every-more (λ z. key y ≤ key z) (λ z. key x ≤ key z) (λ z h. omega arith) ys r.0), r))
+      ((le, every-implies (λ z. key y ≤ key z) (λ z. key x ≤ key z) (λ z h. omega arith) ys r.0), r))
   | inr f ↦ rw f (let le : key y ≤ key x = grind (arith, nat_tests, f) in
       (every-insert (λ z. key y ≤ key z) key x ys le r.0, insert-rises key x ys r.1))
 ]
@@ -88,8 +85,8 @@ rising-one key (x ∷ xs) [] r s e = absurd (let h : x ∷ of_key key (key x) xs
 rising-one {X = X} key (x ∷ xs) (y ∷ ys) r s e =
     let at_x : x ∷ of_key key (key x) xs ≡ of_key key (key x) (y ∷ ys) = (rw (eq-refl (key x)) refl) ∙ e x in
     let at_y : of_key key (key y) (x ∷ xs) ≡ y ∷ of_key key (key y) ys = e y ∙ (rw (eq-refl (key y)) refl) in
-    let up : key y ≤ key x = not_below (key x) (key y) (λ lt. let none : of_key key (key x) (y ∷ ys) ≡ [] = none-below key (key x) (y ∷ ys) (lt, every-more (λ z. key y ≤ key z) (λ z. key x < key z) (λ z h. omega arith) ys s.0) in (let h : x ∷ of_key key (key x) xs ≡ [] = at_x ∙ none in cc)) in
-    let down : key x ≤ key y = not_below (key y) (key x) (λ lt. let none : of_key key (key y) (x ∷ xs) ≡ [] = none-below key (key y) (x ∷ xs) (lt, every-more (λ z. key x ≤ key z) (λ z. key y < key z) (λ z h. omega arith) xs r.0) in (let h : [] ≡ y ∷ of_key key (key y) ys = sym none ∙ at_y in cc)) in
+    let up : key y ≤ key x = not_below (key x) (key y) (λ lt. let none : of_key key (key x) (y ∷ ys) ≡ [] = none-below key (key x) (y ∷ ys) (lt, every-implies (λ z. key y ≤ key z) (λ z. key x < key z) (λ z h. omega arith) ys s.0) in (let h : x ∷ of_key key (key x) xs ≡ [] = at_x ∙ none in cc)) in
+    let down : key x ≤ key y = not_below (key y) (key x) (λ lt. let none : of_key key (key y) (x ∷ xs) ≡ [] = none-below key (key y) (x ∷ xs) (lt, every-implies (λ z. key x ≤ key z) (λ z. key y < key z) (λ z h. omega arith) xs r.0) in (let h : [] ≡ y ∷ of_key key (key y) ys = sym none ∙ at_y in cc)) in
     let level : key x ≡ key y = omega arith in
     let both : x ∷ of_key key (key x) xs ≡ y ∷ of_key key (key x) ys = at_x ∙ (let t : nat_eq (key x) (key y) ≡ true = grind (arith, nat_tests, level) in rw t refl) in
     let first : x ≡ y = cc in

@@ -1,14 +1,14 @@
 -- Worlds in which other packs are tried: whether a plan stays one, and what it costs, are the same.
-use Rattle.std.proofs.Common.{◌≡◌, ℕ, zero, suc, ◌+◌, Bool, true, false, List, [], ◌∷◌, ◌++◌, length, refl, sym, ◌∙◌, ap, subst, inl, inr}
-use Rattle.std.specs.Prelude.{not, ◌&&◌, ◌||◌, find, filter, sum_by, min, if◌then◌else◌, flat_map, Option, Some, None}
-use Rattle.std.specs.List.{list_any, list_all}
+use Rattle.std.proofs.Common.{◌≡◌, ℕ, zero, suc, ◌+◌, List, [], ◌∷◌, ◌++◌, length, refl, ◌∙◌, ap, inl, inr}
+use Rattle.std.specs.Prelude.{not, ◌&&◌, find, filter, sum_by, min, if◌then◌else◌, flat_map, Option, Some, None}
+use Rattle.std.specs.List.{list_any}
 use Rattle.std.proofs.lemmas.Bool.{cases_Bool}
 use Rattle.vg_plans.specs.Members.{Has}
 use Rattle.vg_plans.specs.Crowded.{IsPlan, empty, more}
 use Rattle.vg_plans.specs.PlainPlan.{first_producer, is_settled, walk, with_groups}
-use Rattle.vg_plans.specs.World.{IsWorld, World, can_shuffle, follows, has_no_cycle, inserted, is_emitted, is_empty, is_held_back, is_in, is_packed, is_shuffled, least_shuffle, left_after, operands, plan_cost, recipe_cost, same_packs, scalar_lines, stays_plan, tried, tried_for, trying}
+use Rattle.vg_plans.specs.World.{World, can_shuffle, follows, has_no_cycle, inserted, is_empty, is_held_back, is_packed, least_shuffle, left_after, operands, plan_cost, recipe_cost, scalar_lines, stays_plan, tried, tried_for, trying}
 use Rattle.vg_plans.proofs.Lists.{has-append_left, has-append_right, has-flat_map}
-use Rattle.vg_plans.proofs.Members.{from-filter, from-flat_map, has-append, has-filter, sum-agree, flat_map-agree}
+use Rattle.vg_plans.proofs.Members.{from-filter, from-flat_map, has-append, has-filter, sum-agree}
 
 module _ {P O N : Type 0} (w : World P O N) (groups : List P) (feeders : O → List P) where
   abbrev other : World P O N

@@ -1,6 +1,6 @@
 -- Plans that are completed: what their packs take is produced, else fed. The careful plan, which takes
 -- a store group only where the completed plan costs less, and the plan that is chosen beside them.
-use Rattle.std.specs.Prelude.{ℕ, zero, suc, List, [], ◌∷◌, ◌++◌, map, if◌then◌else◌, flat_map}
+use Rattle.std.specs.Prelude.{ℕ, List, [], ◌∷◌, ◌++◌, map, if◌then◌else◌, flat_map}
 use Rattle.vg_plans.specs.Levels.{first_least, kept_within, met_within}
 use Rattle.vg_plans.specs.PlainPlan.{is_settled, plain_plan, walk, with_groups}
 use Rattle.vg_plans.specs.World.{World, follows, plan_cost, same_packs, stays_plan}
