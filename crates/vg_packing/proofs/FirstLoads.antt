@@ -10,7 +10,7 @@ use Rattle.vg_shapes.specs.Units.{arguments, unit_at}
 use Rattle.vg_packing.specs.declared.first_loads.PlacedLoad.{PlacedLoad}
 use Rattle.vg_packing.specs.LoadGroups.{all_loads, first_loads, placed_load, same_place}
 
-numbers-more : (f n : ℕ) → numbers_from f (suc n) ≡ numbers_from f n ++ (f + n) ∷ []
+pub numbers-more : (f n : ℕ) → numbers_from f (suc n) ≡ numbers_from f n ++ (f + n) ∷ []
 numbers-more f zero = let e : f ≡ f + 0 = omega arith in ap (λ x. x ∷ []) e
 numbers-more f (suc n) =
     let e : f + 1 + n ≡ f + suc n = omega arith in

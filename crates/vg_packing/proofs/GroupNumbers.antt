@@ -11,6 +11,7 @@ use Rattle.vg_shapes.specs.declared.pack.Pack.{Pack as Packed}
 use Rattle.vg_shapes.specs.Order.{numbers_from}
 use Rattle.vg_shapes.specs.Pack.{units_of}
 use Rattle.vg_packing.specs.LoadTable.{HaveUnitsBelow, IsLeast, IsTable, group_at, has_unit, having, is_below, is_lane, is_wanted_from, least_onto, no_group, numbers_of}
+use Rattle.vg_packing.proofs.FirstLoads.{numbers-more}
 use Rattle.vg_packing.proofs.SameTests.{both-true, eq-itself}
 
 -- a lane has a value where it is among those of the lanes
@@ -338,12 +339,6 @@ table-there groups slice n table e t below =
     subst (IsTable groups) (sym (t ∙ ap (λ gs. map (numbers_of gs) (numbers_from 0 n)) e)) (table-made groups n below)
 
 -- ---- one after the other
-
-numbers-more : (f n : ℕ) → numbers_from f (suc n) ≡ numbers_from f n ++ (f + n) ∷ []
-numbers-more f zero = let e : f ≡ f + 0 = omega arith in ap (λ x. x ∷ []) e
-numbers-more f (suc n) =
-    let e : f + 1 + n ≡ f + suc n = omega arith in
-    ap (λ xs. f ∷ xs) (numbers-more (f + 1) n ∙ ap (λ x. numbers_from (f + 1) n ++ x ∷ []) e)
 
 up-to : (n : ℕ) → numbers_from 0 (n + 1) ≡ numbers_from 0 n ++ n ∷ []
 up-to n =

@@ -10,8 +10,9 @@ use Rattle.vg_base.specs.declared.address.Address.{Address}
 use Rattle.vg_base.specs.declared.width.Width.{Width}
 use Rattle.vg_base.specs.declared.width.Width.TheVariants.{W8, W16, W32, W64}
 use Rattle.vg_base.specs.Width.{bits_of, size_of}
+use Rattle.vg_base.proofs.SameWidth.{width-tested}
 use Rattle.vg_plans.specs.Members.{Every, Has}
-use Rattle.vg_plans.proofs.Lists.{every-distinct, every-flat_map, every-has, every-sort}
+use Rattle.vg_plans.proofs.Lists.{every-distinct, every-filter, every-flat_map, every-has, every-sort}
 use Rattle.vg_plans.proofs.Members.{from-filter, from-flat_map}
 use Rattle.vg_shapes.specs.declared.pack.Pack.{Pack as Packed}
 use Rattle.vg_shapes.specs.declared.pack.Pack.TheVariants.{Loads}
@@ -38,24 +39,6 @@ found-is {X = X} test (y ∷ xs) x e = elim (cases_Bool (test y)) [
     same-some : (a b : X) → Some a ≡ Some b → a ≡ b
     same-some a b e = cc
 
-width-same : (w v : Width) → nat_eq (bits_of w) (bits_of v) ≡ true → w ≡ v
-width-same W8 W8 h = refl
-width-same W16 W16 h = refl
-width-same W32 W32 h = refl
-width-same W64 W64 h = refl
-width-same W8 W16 h = absurd (cc)
-width-same W8 W32 h = absurd (cc)
-width-same W8 W64 h = absurd (cc)
-width-same W16 W8 h = absurd (cc)
-width-same W16 W32 h = absurd (cc)
-width-same W16 W64 h = absurd (cc)
-width-same W32 W8 h = absurd (cc)
-width-same W32 W16 h = absurd (cc)
-width-same W32 W64 h = absurd (cc)
-width-same W64 W8 h = absurd (cc)
-width-same W64 W16 h = absurd (cc)
-width-same W64 W32 h = absurd (cc)
-
 abbrev made : ℕ → ℤ → Address
 made p x = record { pointer = p; offset = x }
 
@@ -70,7 +53,7 @@ pub at-place : (a : Address) (w : Width) (l : PlacedLoad) → loads_at a w l ≡
 at-place a w l t =
     let k = both-true (nat_eq l.address.pointer a.pointer) (int_eq l.address.offset a.offset && nat_eq (bits_of l.width) (bits_of w)) t in
     let m = both-true (int_eq l.address.offset a.offset) (nat_eq (bits_of l.width) (bits_of w)) k.1 in
-    (address-same l.address a k.0 m.0, width-same l.width w m.1)
+    (address-same l.address a k.0 m.0, width-tested l.width w m.1)
 
 -- ---- the loads of a kernel
 
@@ -92,13 +75,6 @@ first-placed ssa =
     every-distinct (IsPlaced ssa) same_place [] (all_loads ssa)
     (every-flat_map (λ v. Unit {0}) (IsPlaced ssa) (λ v. placed_load v (unit_at ssa v)) (unit_numbers ssa)
     (λ v h. placed-one ssa v (unit_at ssa v) refl) (every-true (unit_numbers ssa)))
-
-every-filter : {X : Type 0} (P : X → Type 0) (test : X → Bool) (xs : List X) → Every P xs → Every P (filter test xs)
-every-filter P test [] a = tt
-every-filter P test (x ∷ xs) a = elim (cases_Bool (test x)) [
-  | inl t ↦ rw t (a.0, every-filter P test xs a.1)
-  | inr f ↦ rw f (every-filter P test xs a.1)
-]
 
 pub begins-placed : (ssa : Ssa) (loads : List PlacedLoad) → Every (IsPlaced ssa) loads → Every (IsPlaced ssa) (run_begins loads)
 begins-placed ssa loads a =

@@ -141,7 +141,7 @@ pub part-128 : (register : ℕ) (w : Width) (left : ℕ) → register ≡ 128
     → find (is_part w left) (sizes_in register) ≡ part_or w left 16 (part_or w left 8 (part_or w left 4 None))
 part-128 register w left e = rw e refl
 
-flipped : (a b : ℕ) → nat_eq a b ≡ false → nat_eq b a ≡ false
+pub flipped : (a b : ℕ) → nat_eq a b ≡ false → nat_eq b a ≡ false
 flipped a b t = grind (arith, nat_tests, t)
 
 pub part-none : (register : ℕ) (w : Width) (left : ℕ) → nat_eq register 512 ≡ false → nat_eq register 256 ≡ false → nat_eq register 128 ≡ false

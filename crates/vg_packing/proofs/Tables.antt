@@ -20,7 +20,7 @@ use Rattle.vg_packing.specs.LoadTable.{AreLoadGroups, HaveUnitsBelow, feeders_in
 use Rattle.vg_packing.specs.Wants.{wanted_values}
 use Rattle.vg_packing.proofs.Inside.{are-inside, unit-number}
 use Rattle.vg_packing.proofs.LoadPacks.{load-group}
-use Rattle.vg_packing.proofs.Parts.{none-cut}
+use Rattle.vg_packing.proofs.Parts.{flipped, none-cut}
 
 -- units of load groups are units of the kernel
 pub groups-below : (ssa : Ssa) (register n : ℕ) → n ≡ arguments ssa + length ssa.units → HaveUnitsBelow (load_groups ssa register) n
@@ -49,9 +49,6 @@ no-part register w n us e = none-cut register w n us (ap (find (is_part w (lengt
 no-groups : (register : ℕ) (loads begins : List PlacedLoad) → sizes_in register ≡ [] → flat_map (groups_in register loads) begins ≡ []
 no-groups register loads [] e = refl
 no-groups register loads (l ∷ begins) e = rw (no-part register l.width (length (run_of loads l)) (run_of loads l) e) (no-groups register loads begins e)
-
-flipped : (a b : ℕ) → nat_eq a b ≡ false → nat_eq b a ≡ false
-flipped a b t = grind (arith, nat_tests, t)
 
 pub other-register : (ssa : Ssa) (register : ℕ) → nat_eq register 512 ≡ false → nat_eq register 256 ≡ false → nat_eq register 128 ≡ false
     → load_groups ssa register ≡ []
