@@ -5,43 +5,43 @@ use Rattle.std.proofs.lemmas.Bool.{cases_Bool}
 use Rattle.std.proofs.lemmas.Bool.Decides.{nat_tests}
 use Rattle.std.proofs.lemmas.List.{get_or_append_left, length-set, take_more}
 use Rattle.std.proofs.Math.Seq.{get_or-append_seam}
-use Rattle.vg_packing.proofs.SameTests.{pack-is, pack-itself}
-use Rattle.vg_packing.specs.SameAs.{same_pack}
+use Rattle.vg_kernel_plans.proofs.SameTests.{pack-is, pack-itself}
+use Rattle.vg_kernel_plans.specs.SameAs.{same_pack}
 use Rattle.vg_plans.proofs.Lists.{take-whole}
-use Rattle.vg_packing.specs.declared.choice.Choice.{Choice}
+use Rattle.vg_kernel_plans.specs.declared.choice.Choice.{Choice}
 use Rattle.vg_shapes.specs.declared.match_table.Match.{Match}
-use Rattle.vg_shapes.specs.declared.pack.Pack.{Pack as Packed}
+use Rattle.vg_shapes.specs.declared.pack.Pack.{Pack}
 use Rattle.vg_shapes.specs.declared.ssa.Ssa.{Ssa}
 use Rattle.vg_shapes.specs.Description.{Description}
-use Rattle.vg_beam.specs.declared.board.Board.{Board}
-use Rattle.vg_beam.specs.Board.{AreNumbered, AreProduced, Grows, IsBoard, IsNumbered, IsOpened, no_pack, numbers_in, pack_at, produced_at, produced_by}
+use Rattle.vg_beam.specs.declared.pack_table.PackTable.{PackTable}
+use Rattle.vg_beam.specs.PackTable.{AreNumbered, AreProduced, Grows, IsPackTable, IsNumbered, IsOpened, no_pack, numbers_in, pack_at, produced_at, produced_by}
 use Rattle.vg_beam.specs.Key.{AreApart, Names, first_place}
 use Rattle.vg_beam.proofs.Numbers.{apart-push, at-left, names-grow, names-none, names-push, place-end, place-none, place-passes}
 
-pub grows-same : (packs : List Packed) → Grows packs packs
+pub grows-same : (packs : List Pack) → Grows packs packs
 grows-same packs = ([], sym (append-nil packs))
 
-pub grows-join : (a b d : List Packed) → Grows a b → Grows b d → Grows a d
+pub grows-join : (a b d : List Pack) → Grows a b → Grows b d → Grows a d
 grows-join a b d g h = (g.0 ++ h.0, h.1 ∙ ap (λ l. l ++ h.0) g.1 ∙ append_assoc a g.0 h.0)
 
-pub names-along : (packs longer : List Packed) (ns : List ℕ) (named : List Packed) → Grows packs longer
+pub names-along : (packs longer : List Pack) (ns : List ℕ) (named : List Pack) → Grows packs longer
     → Names no_pack packs ns named → Names no_pack longer ns named
 names-along packs longer ns named g a =
     subst (λ l. Names no_pack l ns named) (sym g.1) (names-grow no_pack packs g.0 ns named a)
 
-pub at-along : (packs longer : List Packed) (n : ℕ) → Grows packs longer → n < length packs → pack_at longer n ≡ pack_at packs n
+pub at-along : (packs longer : List Pack) (n : ℕ) → Grows packs longer → n < length packs → pack_at longer n ≡ pack_at packs n
 at-along packs longer n g l = ap (λ q. pack_at q n) g.1 ∙ at-left no_pack packs g.0 n l
 
-pub inside-along : (packs longer : List Packed) (n : ℕ) → Grows packs longer → n < length packs → n < length longer
+pub inside-along : (packs longer : List Pack) (n : ℕ) → Grows packs longer → n < length packs → n < length longer
 inside-along packs longer n g l = let e = ap length g.1 in omega (arith, l, e, length-append packs g.0)
 
 module _ (ch : Choice) (ds : List Description) (matches : List Match) (ssa : Ssa) where
-  produced-along : (packs longer : List Packed) (p : Packed) (o : Option (List ℕ)) → Grows packs longer
+  produced-along : (packs longer : List Pack) (p : Pack) (o : Option (List ℕ)) → Grows packs longer
       → AreProduced ch ds matches ssa packs p o → AreProduced ch ds matches ssa longer p o
   produced-along packs longer p None g a = tt
   produced-along packs longer p (Some numbers) g a = names-along packs longer numbers (produced_by ch ds matches ssa p) g a
 
-  produced-push : (packs : List Packed) (produced : List (Option (List ℕ))) (p : Packed) → length produced ≡ length packs
+  produced-push : (packs : List Pack) (produced : List (Option (List ℕ))) (p : Pack) → length produced ≡ length packs
       → ((n : ℕ) → n < length packs → AreProduced ch ds matches ssa packs (pack_at packs n) (get_or produced n None))
       → (n : ℕ) → n < length (packs ++ p ∷ [])
       → AreProduced ch ds matches ssa (packs ++ p ∷ []) (pack_at (packs ++ p ∷ []) n) (get_or (produced ++ None ∷ []) n None)
@@ -60,10 +60,10 @@ module _ (ch : Choice) (ds : List Description) (matches : List Match) (ssa : Ssa
         subst (AreProduced ch ds matches ssa (packs ++ p ∷ []) (pack_at (packs ++ p ∷ []) n)) (sym none) tt
   ]
 
-  pub number-there : (b : Board) (p : Packed) (place : ℕ) → place ≡ first_place (same_pack p) b.packs.items → place < length b.packs.items
-      → IsBoard ch ds matches ssa b → IsNumbered ch ds matches ssa b b p place
+  pub number-there : (b : PackTable) (p : Pack) (place : ℕ) → place ≡ first_place (same_pack p) b.packs.items → place < length b.packs.items
+      → IsPackTable ch ds matches ssa b → IsNumbered ch ds matches ssa b b p place
   number-there b p place e l is = record {
-    board = is;
+    pack_table = is;
     grows = grows-same b.packs.items;
     inside = l;
     pack =
@@ -72,14 +72,14 @@ module _ (ch : Choice) (ds : List Description) (matches : List Match) (ssa : Ssa
         ap (pack_at b.packs.items) e ∙ sym (pack-is p (pack_at b.packs.items (first_place (same_pack p) b.packs.items)) t);
   }
 
-  pub number-new : (old new : Board) (p : Packed) (place : ℕ) → place ≡ first_place (same_pack p) old.packs.items → length old.packs.items ≤ place
-      → IsBoard ch ds matches ssa old → new.packs.items ≡ old.packs.items ++ p ∷ [] → new.produced.items ≡ old.produced.items ++ None ∷ []
+  pub number-new : (old new : PackTable) (p : Pack) (place : ℕ) → place ≡ first_place (same_pack p) old.packs.items → length old.packs.items ≤ place
+      → IsPackTable ch ds matches ssa old → new.packs.items ≡ old.packs.items ++ p ∷ [] → new.produced.items ≡ old.produced.items ++ None ∷ []
       → IsNumbered ch ds matches ssa old new p place
   number-new old new p place e l is packs produced =
       let k : length old.packs.items ≤ first_place (same_pack p) old.packs.items = subst (λ n. length old.packs.items ≤ n) e l in
       let at_end : place ≡ length old.packs.items = e ∙ place-end (same_pack p) old.packs.items k in
       record {
-        board = record {
+        pack_table = record {
           apart = subst (AreApart no_pack) (sym packs)
               (apart-push no_pack same_pack pack-itself old.packs.items p (place-none (same_pack p) old.packs.items no_pack k) is.apart);
           long =
@@ -96,24 +96,24 @@ module _ (ch : Choice) (ds : List Description) (matches : List Match) (ssa : Ssa
       }
 
   -- one pack more of many
-  pub all-step : (first mid new : Board) (ns : List ℕ) (done : List Packed) (p : Packed) (n : ℕ) → Grows first.packs.items mid.packs.items
+  pub all-step : (first mid new : PackTable) (ns : List ℕ) (done : List Pack) (p : Pack) (n : ℕ) → Grows first.packs.items mid.packs.items
       → Names no_pack mid.packs.items ns done → IsNumbered ch ds matches ssa mid new p n
       → AreNumbered ch ds matches ssa first new (done ++ p ∷ []) (ns ++ n ∷ [])
   all-step first mid new ns done p n g a is = record {
-    board = is.board;
+    pack_table = is.pack_table;
     grows = grows-join first.packs.items mid.packs.items new.packs.items g is.grows;
     names = names-push no_pack new.packs.items ns done n p (names-along mid.packs.items new.packs.items ns done is.grows a) is.inside is.pack;
   }
 
   -- many packs, one after the other
-  pub all-first : (b : Board) (ns : List ℕ) → ns ≡ [] → IsBoard ch ds matches ssa b → AreNumbered ch ds matches ssa b b [] ns
+  pub all-first : (b : PackTable) (ns : List ℕ) → ns ≡ [] → IsPackTable ch ds matches ssa b → AreNumbered ch ds matches ssa b b [] ns
   all-first b ns e is = record {
-    board = is;
+    pack_table = is;
     grows = grows-same b.packs.items;
     names = subst (λ l. Names no_pack b.packs.items l []) (sym e) (names-none no_pack b.packs.items);
   }
 
-  pub all-next : (first mid new : Board) (ns next : List ℕ) (ps : List Packed) (i : ℕ) (p : Packed) (n : ℕ) → i < length ps → p ≡ get_or ps i p
+  pub all-next : (first mid new : PackTable) (ns next : List ℕ) (ps : List Pack) (i : ℕ) (p : Pack) (n : ℕ) → i < length ps → p ≡ get_or ps i p
       → AreNumbered ch ds matches ssa first mid (take i ps) ns → IsNumbered ch ds matches ssa mid new p n → next ≡ ns ++ n ∷ []
       → AreNumbered ch ds matches ssa first new (take (i + 1) ps) next
   all-next first mid new ns next ps i p n l e a is f =
@@ -121,38 +121,38 @@ module _ (ch : Choice) (ds : List Description) (matches : List Match) (ssa : Ssa
       subst (λ q. AreNumbered ch ds matches ssa first new q next) (sym more)
       (subst (AreNumbered ch ds matches ssa first new (take i ps ++ p ∷ [])) (sym f) (all-step first mid new ns (take i ps) p n a.grows a.names is))
 
-  pub all-end : (first new : Board) (ns : List ℕ) (ps : List Packed) (i : ℕ) → length ps ≤ i
+  pub all-end : (first new : PackTable) (ns : List ℕ) (ps : List Pack) (i : ℕ) → length ps ≤ i
       → AreNumbered ch ds matches ssa first new (take i ps) ns → AreNumbered ch ds matches ssa first new ps ns
   all-end first new ns ps i l a = subst (λ q. AreNumbered ch ds matches ssa first new q ns) (take-whole i ps l) a
 
-  opened : (packs : List Packed) (p : Packed) (o : Option (List ℕ)) → is_some o ≡ true → AreProduced ch ds matches ssa packs p o
+  opened : (packs : List Pack) (p : Pack) (o : Option (List ℕ)) → is_some o ≡ true → AreProduced ch ds matches ssa packs p o
       → Names no_pack packs (numbers_in o) (produced_by ch ds matches ssa p)
   opened packs p None t a = absurd (cc)
   opened packs p (Some numbers) t a = a
 
-  pub open-there : (b : Board) (n : ℕ) → IsBoard ch ds matches ssa b → n < length b.packs.items → is_some (get_or b.produced.items n None) ≡ true
+  pub open-there : (b : PackTable) (n : ℕ) → IsPackTable ch ds matches ssa b → n < length b.packs.items → is_some (get_or b.produced.items n None) ≡ true
       → IsOpened ch ds matches ssa b b n
   open-there b n is l t = record {
-    board = is;
+    pack_table = is;
     grows = grows-same b.packs.items;
     produced = opened b.packs.items (pack_at b.packs.items n) (get_or b.produced.items n None) t (is.produced n l);
   }
 
-  pub open-new : (old mid new : Board) (n : ℕ) (packs : List Packed) (numbers : List ℕ) → n < length old.packs.items
+  pub open-new : (old mid new : PackTable) (n : ℕ) (packs : List Pack) (numbers : List ℕ) → n < length old.packs.items
       → AreNumbered ch ds matches ssa old mid packs numbers → packs ≡ produced_by ch ds matches ssa (pack_at old.packs.items n)
       → new.packs.items ≡ mid.packs.items → new.produced.items ≡ set mid.produced.items n (Some numbers)
       → IsOpened ch ds matches ssa old new n
   open-new old mid new n packs numbers l are e same produced =
       let inside = inside-along old.packs.items mid.packs.items n are.grows l in
-      let there : n < length mid.produced.items = omega (arith, inside, are.board.long) in
+      let there : n < length mid.produced.items = omega (arith, inside, are.pack_table.long) in
       let names : Names no_pack mid.packs.items numbers (produced_by ch ds matches ssa (pack_at old.packs.items n)) =
       subst (Names no_pack mid.packs.items numbers) e are.names in
       let noted : get_or new.produced.items n None ≡ Some numbers =
       ap (λ o. get_or o n None) produced ∙ get_or-set_same mid.produced.items n (Some numbers) None there in
       record {
-        board = record {
-          apart = subst (AreApart no_pack) (sym same) are.board.apart;
-          long = ap length produced ∙ length-set mid.produced.items n (Some numbers) ∙ are.board.long ∙ ap length (sym same);
+        pack_table = record {
+          apart = subst (AreApart no_pack) (sym same) are.pack_table.apart;
+          long = ap length produced ∙ length-set mid.produced.items n (Some numbers) ∙ are.pack_table.long ∙ ap length (sym same);
           produced = λ m i. subst (λ q. AreProduced ch ds matches ssa q (pack_at q m) (get_or new.produced.items m None)) (sym same)
               (each m (subst (λ q. m < length q) same i) names noted);
         };
@@ -174,5 +174,5 @@ module _ (ch : Choice) (ds : List Description) (matches : List Match) (ssa : Ssa
             let ne : m ≡ n → ⊥ = λ k. grind (arith, nat_tests, f, k) in
             let other : get_or new.produced.items m None ≡ get_or mid.produced.items m None =
             ap (λ o. get_or o m None) produced ∙ get_or-set_other mid.produced.items n m (Some numbers) None ne in
-            subst (AreProduced ch ds matches ssa mid.packs.items (pack_at mid.packs.items m)) (sym other) (are.board.produced m i)
+            subst (AreProduced ch ds matches ssa mid.packs.items (pack_at mid.packs.items m)) (sym other) (are.pack_table.produced m i)
       ]

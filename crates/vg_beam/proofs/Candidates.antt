@@ -4,11 +4,11 @@ use Rattle.std.specs.Prelude.{◌||◌, bytes_eq, flat_map}
 use Rattle.std.specs.List.{AllByRecursion, list_any}
 use Rattle.std.proofs.lemmas.List.{map-append, take_more}
 use Rattle.vg_cost.specs.Running.{StandsFor}
-use Rattle.vg_packing.proofs.Tried.{is-packing_by}
-use Rattle.vg_packing.specs.Fed.{IsPlanBy, groups_by, packing_by}
-use Rattle.vg_packing.specs.Laws.{cost_of}
-use Rattle.vg_packing.specs.Packing.{packing}
-use Rattle.vg_packing.specs.Taken.{IsShort}
+use Rattle.vg_kernel_plans.proofs.Tried.{is-packing_by}
+use Rattle.vg_kernel_plans.specs.Fed.{IsPlanBy, groups_by, packing_by}
+use Rattle.vg_kernel_plans.specs.Laws.{cost_of}
+use Rattle.vg_kernel_plans.specs.Packing.{packing}
+use Rattle.vg_kernel_plans.specs.Taken.{IsShort}
 use Rattle.vg_packs.proofs.Free.{free-first}
 use Rattle.vg_packs.proofs.Completion.{stays-by}
 use Rattle.vg_packs.proofs.Turns.{stays-free}
@@ -18,31 +18,31 @@ use Rattle.vg_plans.proofs.Members.{from-filter, has-filter}
 use Rattle.vg_plans.specs.Crowded.{empty, more}
 use Rattle.vg_plans.specs.Members.{Every, Has}
 use Rattle.vg_plans.specs.World.{World, same_packs, stays_plan, tried}
-use Rattle.vg_packing.specs.declared.choice.Choice.{Choice}
+use Rattle.vg_kernel_plans.specs.declared.choice.Choice.{Choice}
 use Rattle.vg_shapes.specs.declared.match_table.Match.{Match}
 use Rattle.vg_shapes.specs.declared.operand.Operand.{Operand}
-use Rattle.vg_shapes.specs.declared.pack.Pack.{Pack as Packed}
+use Rattle.vg_shapes.specs.declared.pack.Pack.{Pack}
 use Rattle.vg_shapes.specs.declared.ssa.Ssa.{Ssa}
 use Rattle.vg_shapes.specs.Description.{Description}
 use Rattle.vg_shapes.specs.Pack.{units_of}
-use Rattle.vg_beam.specs.declared.board.Board.{Board}
+use Rattle.vg_beam.specs.declared.pack_table.PackTable.{PackTable}
 use Rattle.vg_beam.specs.declared.candidate.Candidate.{Candidate}
-use Rattle.vg_beam.specs.declared.kept.Kept.{Kept}
-use Rattle.vg_beam.specs.declared.met.Met.{Met}
+use Rattle.vg_beam.specs.declared.beam_plan.BeamPlan.{BeamPlan}
+use Rattle.vg_beam.specs.declared.met_plans.MetPlans.{MetPlans}
 use Rattle.vg_beam.specs.declared.priced_plan.PricedPlan.{PricedPlan}
-use Rattle.vg_beam.specs.Board.{Grows, IsBoard, IsOpened, no_pack, pack_at, produced_at, produced_by}
+use Rattle.vg_beam.specs.PackTable.{Grows, IsPackTable, IsOpened, no_pack, pack_at, produced_at, produced_by}
 use Rattle.vg_beam.specs.Candidate.{AreGrown, CanGrow, IsCandidate, IsGrown, IsPlaced, grown_plan, grown_plans}
 use Rattle.vg_beam.specs.Chosen.{HaveShortPacksBy}
-use Rattle.vg_beam.specs.Kept.{IsKept, plan_at, plan_of, plans_of}
+use Rattle.vg_beam.specs.BeamPlan.{IsKept, plan_at, plan_of, plans_of}
 use Rattle.vg_beam.specs.Key.{AreApart, IsKey, Names, has_key, with_number}
-use Rattle.vg_beam.specs.Met.{IsMet, Meets, is_known}
+use Rattle.vg_beam.specs.MetPlans.{IsMet, Meets, is_known}
 use Rattle.vg_beam.specs.Priced.{priced, priced_plans}
 use Rattle.vg_beam.proofs.Boards.{at-along, grows-join, grows-same, inside-along, names-along}
 use Rattle.vg_beam.proofs.Growing.{HasPrice, flat-snoc, grown-known, grown-new, grown-refused, grown-step}
 use Rattle.vg_beam.proofs.Keys.{key-longer, same-key}
 use Rattle.vg_beam.proofs.Numbers.{every-any, every-at, has-at, key-grow, key-none, names-join, zero-at}
 
-all-last : (plan : List Packed) (p : Packed) → AllByRecursion IsShort (plan ++ p ∷ []) → IsShort p
+all-last : (plan : List Pack) (p : Pack) → AllByRecursion IsShort (plan ++ p ∷ []) → IsShort p
 all-last [] p a = a.0
 all-last (q ∷ plan) p a = all-last plan p a.1
 
@@ -56,35 +56,35 @@ any-snoc test (y ∷ xs) x = ap (λ b. test y || b) (any-snoc test xs x) ∙ tur
     turn false b c = refl
 
 module _ (ch : Choice) (ds : List Description) (matches : List Match) (ssa : Ssa) (deps : List (ℕ × ℕ)) where
-  abbrev world : World Packed Operand Operand
+  abbrev world : World Pack Operand Operand
   world = packing_by ch ds matches ssa deps
 
-  pub plan-free : NameEarlierUnits ssa deps → (plan : List Packed) → IsPlanBy ch ds matches ssa deps plan → IsFree matches ssa deps plan
+  pub plan-free : NameEarlierUnits ssa deps → (plan : List Pack) → IsPlanBy ch ds matches ssa deps plan → IsFree matches ssa deps plan
   plan-free earlier _ empty = free-first matches ssa deps earlier.earlier
   plan-free earlier _ (more plan p is h) =
       let t = (from-filter (stays_plan world plan) p (tried world plan) h).1 in
       stays-free ds matches ssa deps plan p (sym (sym t ∙ stays-by ch ds matches ssa deps plan p))
 
-  pub longer-plan : (plan : List Packed) (p : Packed) → IsPlanBy ch ds matches ssa deps plan → Has p (tried world plan)
+  pub longer-plan : (plan : List Pack) (p : Pack) → IsPlanBy ch ds matches ssa deps plan → Has p (tried world plan)
       → stays_plan (packing [] matches ssa deps) plan p ≡ true → IsPlanBy ch ds matches ssa deps (plan ++ p ∷ [])
   longer-plan plan p is h t =
       more plan p is (has-filter (stays_plan world plan) p (tried world plan) h (stays-by ch ds matches ssa deps plan p ∙ t))
 
-  pub overlap-stays : (plan : List Packed) (p : Packed) → list_any (is_in_plan plan) (units_of p) ≡ true
+  pub overlap-stays : (plan : List Pack) (p : Pack) → list_any (is_in_plan plan) (units_of p) ≡ true
       → stays_plan (packing [] matches ssa deps) plan p ≡ false
   overlap-stays plan p t = rw t refl
 
-  pub last-short : HaveShortPacksBy ch ds matches ssa deps → (plan : List Packed) (p : Packed) → IsPlanBy ch ds matches ssa deps (plan ++ p ∷ []) → IsShort p
+  pub last-short : HaveShortPacksBy ch ds matches ssa deps → (plan : List Pack) (p : Pack) → IsPlanBy ch ds matches ssa deps (plan ++ p ∷ []) → IsShort p
   last-short short plan p is = all-last plan p (short (plan ++ p ∷ []) is)
 
   -- ---- meeting
 
-  module _ (packs : List Packed) (level : List Kept) where
-    pub meets-none : (plan : List Packed) (m : Met) → IsMet ch ds matches ssa deps packs level m
+  module _ (packs : List Pack) (level : List BeamPlan) where
+    pub meets-none : (plan : List Pack) (m : MetPlans) → IsMet ch ds matches ssa deps packs level m
         → Meets ch ds matches ssa deps packs level plan [] m m
     meets-none plan m is = record { met = is; plans = refl }
 
-    pub meets-known : (plan : List Packed) (p : Packed) (m : Met) (key : List ℕ) → IsMet ch ds matches ssa deps packs level m
+    pub meets-known : (plan : List Pack) (p : Pack) (m : MetPlans) (key : List ℕ) → IsMet ch ds matches ssa deps packs level m
         → IsKey no_pack packs key (plan ++ p ∷ []) → is_known m key ≡ true
         → Meets ch ds matches ssa deps packs level plan (p ∷ []) m m
     meets-known plan p m key is k t = record {
@@ -93,7 +93,7 @@ module _ (ch : Choice) (ds : List Description) (matches : List Match) (ssa : Ssa
           (sym (is.known key (plan ++ p ∷ []) k) ∙ t);
     }
 
-    pub meets-refused : (plan : List Packed) (p : Packed) (m : Met) → IsMet ch ds matches ssa deps packs level m
+    pub meets-refused : (plan : List Pack) (p : Pack) (m : MetPlans) → IsMet ch ds matches ssa deps packs level m
         → stays_plan (packing [] matches ssa deps) plan p ≡ false
         → Meets ch ds matches ssa deps packs level plan (p ∷ []) m m
     meets-refused plan p m is f = record {
@@ -102,7 +102,7 @@ module _ (ch : Choice) (ds : List Description) (matches : List Match) (ssa : Ssa
           (stays-by ch ds matches ssa deps plan p ∙ f);
     }
 
-    pub meets-new : (plan : List Packed) (p : Packed) (old new : Met) (key : List ℕ) (c : Candidate) → AreApart no_pack packs
+    pub meets-new : (plan : List Pack) (p : Pack) (old new : MetPlans) (key : List ℕ) (c : Candidate) → AreApart no_pack packs
         → IsMet ch ds matches ssa deps packs level old
         → IsKey no_pack packs key (plan ++ p ∷ []) → is_known old key ≡ false
         → stays_plan (packing [] matches ssa deps) plan p ≡ true
@@ -130,7 +130,7 @@ module _ (ch : Choice) (ds : List Description) (matches : List Match) (ssa : Ssa
               (stays-by ch ds matches ssa deps plan p ∙ t) (sym (is.known key (plan ++ p ∷ []) k) ∙ f);
         }
 
-    pub met-first : (m : Met) → m.candidates.items ≡ [] → m.keys.keys ≡ [] → IsMet ch ds matches ssa deps packs level m
+    pub met-first : (m : MetPlans) → m.candidates.items ≡ [] → m.keys.keys ≡ [] → IsMet ch ds matches ssa deps packs level m
     met-first m none keys = record {
       candidates = subst (Every (IsCandidate ch ds matches ssa deps packs level)) (sym none) tt;
       known = λ q other j.
@@ -138,7 +138,7 @@ module _ (ch : Choice) (ds : List Description) (matches : List Match) (ssa : Ssa
           ∙ sym (ap (λ cs. list_any (same_packs world other) (grown_plans packs level cs)) none);
     }
 
-    pub meets-step : (plan : List Packed) (numbers : List ℕ) (i n : ℕ) (old mid new : Met) → i < length numbers → n ≡ get_or numbers i n
+    pub meets-step : (plan : List Pack) (numbers : List ℕ) (i n : ℕ) (old mid new : MetPlans) → i < length numbers → n ≡ get_or numbers i n
         → Meets ch ds matches ssa deps packs level plan (map (pack_at packs) (take i numbers)) old mid
         → Meets ch ds matches ssa deps packs level plan (pack_at packs n ∷ []) mid new
         → Meets ch ds matches ssa deps packs level plan (map (pack_at packs) (take (i + 1) numbers)) old new
@@ -149,7 +149,7 @@ module _ (ch : Choice) (ds : List Description) (matches : List Match) (ssa : Ssa
           l is a.plans b.plans;
     }
 
-    pub meets-end : (plan : List Packed) (numbers : List ℕ) (i : ℕ) (old new : Met) → length numbers ≤ i
+    pub meets-end : (plan : List Pack) (numbers : List ℕ) (i : ℕ) (old new : MetPlans) → length numbers ≤ i
         → Names no_pack packs numbers (tried world plan)
         → Meets ch ds matches ssa deps packs level plan (map (pack_at packs) (take i numbers)) old new
         → Meets ch ds matches ssa deps packs level plan (tried world plan) old new
@@ -157,7 +157,7 @@ module _ (ch : Choice) (ds : List Description) (matches : List Match) (ssa : Ssa
         subst (λ ps. Meets ch ds matches ssa deps packs level plan ps old new) (ap (map (pack_at packs)) (take-whole i numbers l) ∙ names.names) a
 
     -- a number that is tried
-    pub number-tried : (plan : List Packed) (numbers : List ℕ) (i : ℕ) → i < length numbers → Names no_pack packs numbers (tried world plan)
+    pub number-tried : (plan : List Pack) (numbers : List ℕ) (i : ℕ) → i < length numbers → Names no_pack packs numbers (tried world plan)
         → (get_or numbers i 0 < length packs) × Has (pack_at packs (get_or numbers i 0)) (tried world plan)
     number-tried plan numbers i l names = (
       every-at (λ n. n < length packs) numbers i (get_or numbers i 0) names.inside l (zero-at numbers i l),
@@ -210,12 +210,12 @@ module _ (ch : Choice) (ds : List Description) (matches : List Match) (ssa : Ssa
 
 -- ---- the least of candidates
 
-pub own-prices : (packs : List Packed) (level : List Kept) (cs : List Candidate)
+pub own-prices : (packs : List Pack) (level : List BeamPlan) (cs : List Candidate)
     → Every (HasPrice (priced packs level) (λ (c : Candidate). c.cost) (λ (p : PricedPlan). p.cost)) cs
 own-prices packs level [] = tt
 own-prices packs level (c ∷ cs) = (refl, own-prices packs level cs)
 
-pub plans-priced : (packs : List Packed) (level : List Kept) (cs : List Candidate)
+pub plans-priced : (packs : List Pack) (level : List BeamPlan) (cs : List Candidate)
     → map (λ (p : PricedPlan). p.plan) (priced_plans packs level cs) ≡ grown_plans packs level cs
 plans-priced packs level [] = refl
 plans-priced packs level (c ∷ cs) = ap (λ l. grown_plan packs level c ∷ l) (plans-priced packs level cs)
@@ -223,26 +223,26 @@ plans-priced packs level (c ∷ cs) = ap (λ l. grown_plan packs level c ∷ l) 
 -- ---- growing
 
 module _ (ch : Choice) (ds : List Description) (matches : List Match) (ssa : Ssa) where
-  abbrev independent : World Packed Operand Operand
+  abbrev independent : World Pack Operand Operand
   independent = packing_by ch ds matches ssa []
 
-  pub kept-along : (packs longer : List Packed) (k : Kept) → Grows packs longer → IsKept ch ds matches ssa packs k → IsKept ch ds matches ssa longer k
+  pub kept-along : (packs longer : List Pack) (k : BeamPlan) → Grows packs longer → IsKept ch ds matches ssa packs k → IsKept ch ds matches ssa longer k
   kept-along packs longer k g is = record {
     stands = is.stands;
     key = subst (λ l. IsKey no_pack l k.key (plan_of k)) (sym g.1) (key-grow no_pack packs g.0 k.key (plan_of k) is.key);
     tried = names-along packs longer k.tried (tried independent (plan_of k)) g is.tried;
   }
 
-  pub all-along : (packs longer : List Packed) (ks : List Kept) → Grows packs longer → Every (IsKept ch ds matches ssa packs) ks
+  pub all-along : (packs longer : List Pack) (ks : List BeamPlan) → Grows packs longer → Every (IsKept ch ds matches ssa packs) ks
       → Every (IsKept ch ds matches ssa longer) ks
   all-along packs longer [] g a = tt
   all-along packs longer (k ∷ ks) g a = (kept-along packs longer k g a.0, all-along packs longer ks g a.1)
 
-  pub grown-along : (packs longer : List Packed) (level : List Kept) (c : Candidate) → Grows packs longer → c.pack < length packs
+  pub grown-along : (packs longer : List Pack) (level : List BeamPlan) (c : Candidate) → Grows packs longer → c.pack < length packs
       → grown_plan longer level c ≡ grown_plan packs level c
   grown-along packs longer level c g l = ap (λ p. plan_at level c.parent ++ p ∷ []) (at-along packs longer c.pack g l)
 
-  pub candidate-along : (packs longer : List Packed) (level : List Kept) (c : Candidate) → Grows packs longer
+  pub candidate-along : (packs longer : List Pack) (level : List BeamPlan) (c : Candidate) → Grows packs longer
       → CanGrow ch ds matches ssa packs level c → CanGrow ch ds matches ssa longer level c
   candidate-along packs longer level c g is = record {
     placed = record { parent = is.placed.parent; pack = inside-along packs longer c.pack g is.placed.pack };
@@ -250,7 +250,7 @@ module _ (ch : Choice) (ds : List Description) (matches : List Match) (ssa : Ssa
     plan = (is.plan.0, subst (IsPlanBy ch ds matches ssa is.plan.0) (sym (grown-along packs longer level c g is.placed.pack)) is.plan.1);
   }
 
-  pub kept-grown : (old new : Board) (k next : Kept) (n : ℕ) → n < length old.packs.items → IsKept ch ds matches ssa old.packs.items k
+  pub kept-grown : (old new : PackTable) (k next : BeamPlan) (n : ℕ) → n < length old.packs.items → IsKept ch ds matches ssa old.packs.items k
       → IsOpened ch ds matches ssa old new n
       → plan_of next ≡ plan_of k ++ pack_at old.packs.items n ∷ [] → StandsFor ds matches ssa next.running
       → next.key ≡ with_number n k.key → next.tried ≡ k.tried ++ produced_at new n
@@ -274,7 +274,7 @@ module _ (ch : Choice) (ds : List Description) (matches : List Match) (ssa : Ssa
             (names-join no_pack new.packs.items k.tried (produced_at new n) (tried independent (plan_of k)) (produced_by ch ds matches ssa p) there.tried o.produced)));
       }
 
-  pub kept-first : (packs : List Packed) (k : Kept) (groups : List Packed) → plan_of k ≡ [] → StandsFor ds matches ssa k.running
+  pub kept-first : (packs : List Pack) (k : BeamPlan) (groups : List Pack) → plan_of k ≡ [] → StandsFor ds matches ssa k.running
       → k.key ≡ [] → Names no_pack packs k.tried groups → groups ≡ groups_by ch ssa → IsKept ch ds matches ssa packs k
   kept-first packs k groups e stands key names g = record {
     stands = stands;
@@ -283,16 +283,16 @@ module _ (ch : Choice) (ds : List Description) (matches : List Match) (ssa : Ssa
         (subst (Names no_pack packs k.tried) (g ∙ sym (append-nil (groups_by ch ssa))) names);
   }
 
-  pub grown-first : (b : Board) (level : List Kept) (ks : List Kept) → ks ≡ [] → IsBoard ch ds matches ssa b
+  pub grown-first : (b : PackTable) (level : List BeamPlan) (ks : List BeamPlan) → ks ≡ [] → IsPackTable ch ds matches ssa b
       → AreGrown ch ds matches ssa b b level [] ks
   grown-first b level ks e is = record {
-    board = is;
+    pack_table = is;
     grows = grows-same b.packs.items;
     kept = subst (Every (IsKept ch ds matches ssa b.packs.items)) (sym e) tt;
     plans = ap plans_of e;
   }
 
-  pub grown-more : (first mid new : Board) (level : List Kept) (cs : List Candidate) (i : ℕ) (d : Candidate) (ks next : List Kept) (k : Kept)
+  pub grown-more : (first mid new : PackTable) (level : List BeamPlan) (cs : List Candidate) (i : ℕ) (d : Candidate) (ks next : List BeamPlan) (k : BeamPlan)
       → i < length cs → AreGrown ch ds matches ssa first mid level (take i cs) ks
       → IsGrown ch ds matches ssa mid new level (get_or cs i d) k → Every (CanGrow ch ds matches ssa first.packs.items level) cs → next ≡ ks ++ k ∷ []
       → AreGrown ch ds matches ssa first new level (take (i + 1) cs) next
@@ -303,7 +303,7 @@ module _ (ch : Choice) (ds : List Description) (matches : List Match) (ssa : Ssa
       let plan : plan_of k ≡ grown_plan first.packs.items level c =
       b.plan ∙ grown-along first.packs.items mid.packs.items level c a.grows candidate.placed.pack in
       record {
-        board = b.board;
+        pack_table = b.pack_table;
         grows = grows-join first.packs.items mid.packs.items new.packs.items a.grows b.grows;
         kept = subst (Every (IsKept ch ds matches ssa new.packs.items)) (sym e)
             (every-append (IsKept ch ds matches ssa new.packs.items) ks (k ∷ [])
@@ -314,6 +314,6 @@ module _ (ch : Choice) (ds : List Description) (matches : List Match) (ssa : Ssa
             ∙ sym (ap (grown_plans first.packs.items level) more ∙ map-append (grown_plan first.packs.items level) (take i cs) (c ∷ []));
       }
 
-  pub grown-all : (old new : Board) (level : List Kept) (cs : List Candidate) (i : ℕ) (ks : List Kept) → length cs ≤ i
+  pub grown-all : (old new : PackTable) (level : List BeamPlan) (cs : List Candidate) (i : ℕ) (ks : List BeamPlan) → length cs ≤ i
       → AreGrown ch ds matches ssa old new level (take i cs) ks → AreGrown ch ds matches ssa old new level cs ks
   grown-all old new level cs i ks l a = subst (λ q. AreGrown ch ds matches ssa old new level q ks) (take-whole i cs l) a

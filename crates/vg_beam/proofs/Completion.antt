@@ -2,10 +2,10 @@
 use Rattle.std.proofs.Common.{◌≡◌, ℕ, zero, suc, ◌+◌, ◌<◌, ◌≤◌, true, false, List, [], ◌∷◌, ◌++◌, length, map, take, drop, get_or, refl, sym, ◌∙◌, ap, subst, inl, inr, arith}
 use Rattle.std.specs.Prelude.{Option, Some, None}
 use Rattle.std.proofs.lemmas.List.{drop_more, map-append, take_more}
-use Rattle.vg_packing.proofs.FedPlans.{same-cost}
-use Rattle.vg_packing.specs.declared.choice.Choice.{Choice}
-use Rattle.vg_packing.specs.Fed.{IsPlanBy, groups_by, packing_by}
-use Rattle.vg_packing.specs.Laws.{cost_of}
+use Rattle.vg_kernel_plans.proofs.FedPlans.{same-cost}
+use Rattle.vg_kernel_plans.specs.declared.choice.Choice.{Choice}
+use Rattle.vg_kernel_plans.specs.Fed.{IsPlanBy, groups_by, packing_by}
+use Rattle.vg_kernel_plans.specs.Laws.{cost_of}
 use Rattle.vg_packs.specs.Completing.{IsCompletedWith}
 use Rattle.vg_plans.specs.Completed.{careful_with, careful_with_all, completed}
 use Rattle.vg_plans.specs.Crowded.{more}
@@ -18,7 +18,7 @@ use Rattle.vg_plans.proofs.Plain.{may-follow}
 use Rattle.vg_plans.proofs.Prices.{least-append, least-same}
 use Rattle.vg_shapes.specs.declared.match_table.Match.{Match}
 use Rattle.vg_shapes.specs.declared.operand.Operand.{Operand}
-use Rattle.vg_shapes.specs.declared.pack.Pack.{Pack as Packed}
+use Rattle.vg_shapes.specs.declared.pack.Pack.{Pack}
 use Rattle.vg_shapes.specs.declared.ssa.Ssa.{Ssa}
 use Rattle.vg_shapes.specs.Description.{Description}
 use Rattle.vg_beam.specs.declared.priced_plan.PricedPlan.{PricedPlan}
@@ -31,11 +31,11 @@ any-at (x ∷ xs) zero d l = inl refl
 any-at (x ∷ xs) (suc i) d l = inr (any-at xs i d (omega (arith, l)))
 
 -- a plan with its cost
-abbrev pub IsPriced : (List Packed → ℕ) → PricedPlan → Type 0
+abbrev pub IsPriced : (List Pack → ℕ) → PricedPlan → Type 0
 IsPriced cost p = p.cost ≡ cost p.plan
 
 -- the lesser of two
-pub lesser-is : (cost : List Packed → ℕ) (first second new : PricedPlan) → IsPriced cost first → IsPriced cost second
+pub lesser-is : (cost : List Pack → ℕ) (first second new : PricedPlan) → IsPriced cost first → IsPriced cost second
     → new ≡ first_least (λ (p : PricedPlan). p.cost) first (second ∷ [])
     → (new.plan ≡ first_least cost first.plan (second.plan ∷ [])) × IsPriced cost new
 lesser-is cost first second new f s e =
@@ -43,8 +43,8 @@ lesser-is cost first second new f s e =
     (ap (λ (p : PricedPlan). p.plan) e ∙ least.0, subst (IsPriced cost) (sym e) least.1)
 
 -- one completed plan more
-pub completed-more : (cost : List Packed → ℕ) (whole : List Packed → List Packed) (start : List Packed) (plans : List (List Packed)) (i : ℕ)
-    (plan : List Packed) (least other new : PricedPlan) → i < length plans → plan ≡ get_or plans i []
+pub completed-more : (cost : List Pack → ℕ) (whole : List Pack → List Pack) (start : List Pack) (plans : List (List Pack)) (i : ℕ)
+    (plan : List Pack) (least other new : PricedPlan) → i < length plans → plan ≡ get_or plans i []
     → least.plan ≡ first_least cost start (map whole (take i plans)) → IsPriced cost least
     → other.plan ≡ whole plan → IsPriced cost other → new ≡ first_least (λ (p : PricedPlan). p.cost) least (other ∷ [])
     → (new.plan ≡ first_least cost start (map whole (take (i + 1) plans))) × IsPriced cost new
@@ -57,38 +57,38 @@ completed-more cost whole start plans i plan least other new l p e c o d n =
       k.1,
     )
 
-pub completed-end : (cost : List Packed → ℕ) (whole : List Packed → List Packed) (start least : List Packed) (plans : List (List Packed)) (i : ℕ)
+pub completed-end : (cost : List Pack → ℕ) (whole : List Pack → List Pack) (start least : List Pack) (plans : List (List Pack)) (i : ℕ)
     → length plans ≤ i → least ≡ first_least cost start (map whole (take i plans)) → least ≡ first_least cost start (map whole plans)
 completed-end cost whole start least plans i l e = e ∙ ap (λ ps. first_least cost start (map whole ps)) (take-whole i plans l)
 
 -- what came of a plan with a pack
-pub some-completed : (w : World Packed Operand Operand) (turns : ℕ) (plan seen : List Packed) (p : Packed) (found : Option (List Packed)) (whole : List Packed)
+pub some-completed : (w : World Pack Operand Operand) (turns : ℕ) (plan seen : List Pack) (p : Pack) (found : Option (List Pack)) (whole : List Pack)
     → seen ≡ plan → IsCompletedWith w turns seen p found → found ≡ Some whole
     → (stays_plan w plan p ≡ true) × (whole ≡ completed w turns (plan ++ p ∷ []))
 some-completed w turns plan seen p found whole s h e =
     let k : IsCompletedWith w turns seen p (Some whole) = subst (IsCompletedWith w turns seen p) e h in
     subst (λ q. (stays_plan w q p ≡ true) × (whole ≡ completed w turns (q ++ p ∷ []))) s k
 
-pub none-completed : (w : World Packed Operand Operand) (turns : ℕ) (plan seen : List Packed) (p : Packed) (found : Option (List Packed))
+pub none-completed : (w : World Pack Operand Operand) (turns : ℕ) (plan seen : List Pack) (p : Pack) (found : Option (List Pack))
     → seen ≡ plan → IsCompletedWith w turns seen p found → found ≡ None → stays_plan w plan p ≡ false
 none-completed w turns plan seen p found s h e =
     let k : IsCompletedWith w turns seen p None = subst (IsCompletedWith w turns seen p) e h in
     subst (λ q. stays_plan w q p ≡ false) s k
 
 module _ (ch : Choice) (ds : List Description) (matches : List Match) (ssa : Ssa) (deps : List (ℕ × ℕ)) (turns : ℕ) where
-  abbrev world : World Packed Operand Operand
+  abbrev world : World Pack Operand Operand
   world = packing_by ch ds matches ssa deps
 
   -- the completed plan with a store group is a plan
-  pub group-plan : (plan : List Packed) (g : Packed) → IsPlanBy ch ds matches ssa deps plan → Has g (groups_by ch ssa)
+  pub group-plan : (plan : List Pack) (g : Pack) → IsPlanBy ch ds matches ssa deps plan → Has g (groups_by ch ssa)
       → stays_plan world plan g ≡ true → IsPlanBy ch ds matches ssa deps (completed world turns (plan ++ g ∷ []))
   group-plan plan g m h t =
       completed-plan world turns (plan ++ g ∷ []) (more plan g m (may-follow world plan g (has-append_left g (groups_by ch ssa) _ h) t))
 
-  pub careful-none : (best : List Packed) (g : Packed) → stays_plan world best g ≡ false → best ≡ careful_with world turns best g
+  pub careful-none : (best : List Pack) (g : Pack) → stays_plan world best g ≡ false → best ≡ careful_with world turns best g
   careful-none best g f = rw f refl
 
-  pub careful-some : (best whole new : List Packed) (g : Packed) → stays_plan world best g ≡ true → whole ≡ completed world turns (best ++ g ∷ [])
+  pub careful-some : (best whole new : List Pack) (g : Pack) → stays_plan world best g ≡ true → whole ≡ completed world turns (best ++ g ∷ [])
       → new ≡ first_least (cost_of ds matches ssa deps) best (whole ∷ []) → new ≡ careful_with world turns best g
   careful-some best whole new g t w n =
       let e : new ≡ first_least (plan_cost world) best (completed world turns (best ++ g ∷ []) ∷ []) =
@@ -98,11 +98,11 @@ module _ (ch : Choice) (ds : List Description) (matches : List Match) (ssa : Ssa
       rw t e
 
   -- the careful plan with one group more is a plan
-  pub careful-one : (best : List Packed) (g : Packed) → IsPlanBy ch ds matches ssa deps best → Has g (groups_by ch ssa)
+  pub careful-one : (best : List Pack) (g : Pack) → IsPlanBy ch ds matches ssa deps best → Has g (groups_by ch ssa)
       → IsPlanBy ch ds matches ssa deps (careful_with world turns best g)
   careful-one best g m h = careful-all world turns best (g ∷ []) (λ q k. elim k [ inl e ↦ subst (λ x. Has x (groups_by ch ssa)) e h | inr n ↦ absurd n ]) m
 
-  pub careful-more : (groups : List Packed) (i : ℕ) (g : Packed) (best new whole : List Packed) → i < length groups → g ≡ get_or groups i g
+  pub careful-more : (groups : List Pack) (i : ℕ) (g : Pack) (best new whole : List Pack) → i < length groups → g ≡ get_or groups i g
       → new ≡ careful_with world turns best g → careful_with_all world turns best (drop i groups) ≡ whole
       → careful_with_all world turns new (drop (i + 1) groups) ≡ whole
   careful-more groups i g best new whole l e n h =

@@ -1,28 +1,28 @@
 -- What the search promises of the plan that it chooses.
 use Rattle.std.specs.Prelude.{◌≤◌, ◌<◌, ℕ, List, [], length}
 use Rattle.std.specs.List.{AllByRecursion}
-use Rattle.vg_packing.specs.declared.choice.Choice.{Choice}
-use Rattle.vg_packing.specs.Completed.{aligned_plain_of, careful_of}
-use Rattle.vg_packing.specs.Fed.{IsPlanBy, fed_aligned, packing_by}
-use Rattle.vg_packing.specs.Laws.{IsPlanFor, MatchUnits, cost_of}
-use Rattle.vg_packing.specs.Packing.{packing, plain_of}
-use Rattle.vg_packing.specs.Taken.{IsShort}
+use Rattle.vg_kernel_plans.specs.declared.choice.Choice.{Choice}
+use Rattle.vg_kernel_plans.specs.Completed.{aligned_plain_of, careful_of}
+use Rattle.vg_kernel_plans.specs.Fed.{IsPlanBy, fed_aligned, packing_by}
+use Rattle.vg_kernel_plans.specs.Laws.{IsPlanFor, MatchUnits, cost_of}
+use Rattle.vg_kernel_plans.specs.Packing.{packing, plain_of}
+use Rattle.vg_kernel_plans.specs.Taken.{IsShort}
 use Rattle.vg_plans.specs.Crowded.{Crowded}
 use Rattle.vg_plans.specs.World.{follows, same_packs}
 use Rattle.vg_shapes.specs.declared.match_table.Match.{Match}
-use Rattle.vg_shapes.specs.declared.pack.Pack.{Pack as Packed}
+use Rattle.vg_shapes.specs.declared.pack.Pack.{Pack}
 use Rattle.vg_shapes.specs.declared.ssa.Ssa.{Ssa}
 use Rattle.vg_shapes.specs.Description.{Description}
 
 -- the packs of plans for a kernel have few lanes
 abbrev pub HaveShortPacks : List Description → List Match → Ssa → List (ℕ × ℕ) → Type 0
 HaveShortPacks ds matches ssa deps =
-    (plan : List Packed) → IsPlanFor ds matches ssa deps plan → AllByRecursion IsShort plan
+    (plan : List Pack) → IsPlanFor ds matches ssa deps plan → AllByRecursion IsShort plan
 
 -- the same of plans of what is tried
 abbrev pub HaveShortPacksBy : Choice → List Description → List Match → Ssa → List (ℕ × ℕ) → Type 0
 HaveShortPacksBy ch ds matches ssa deps =
-    (plan : List Packed) → IsPlanBy ch ds matches ssa deps plan → AllByRecursion IsShort plan
+    (plan : List Pack) → IsPlanBy ch ds matches ssa deps plan → AllByRecursion IsShort plan
 
 -- more than so many plans of this number of packs, no two of the same packs
 abbrev pub IsCrowded : List Description → List Match → Ssa → List (ℕ × ℕ) → ℕ → ℕ → Type 0
@@ -33,7 +33,7 @@ IsCrowded ds matches ssa deps =
 -- it costs at most as much as each plan where no lesser number of packs is crowded.
 pub record IsChosen
     (ds : List Description) (matches : List Match) (ssa : Ssa) (deps : List (ℕ × ℕ)) (width : ℕ)
-    (chosen : List Packed)
+    (chosen : List Pack)
     : Type 0 where
   pub plan : IsPlanFor ds matches ssa deps chosen
   pub below_plain :
@@ -42,7 +42,7 @@ pub record IsChosen
   pub below_scalar : cost_of ds matches ssa deps chosen ≤ cost_of ds matches ssa deps []
   pub optimal :
       MatchUnits ssa matches → length ssa.units ≤ 256 →
-      (plan : List Packed) → IsPlanFor ds matches ssa deps plan →
+      (plan : List Pack) → IsPlanFor ds matches ssa deps plan →
       ((size : ℕ) → size < length plan → IsCrowded ds matches ssa deps width size → ⊥) →
       cost_of ds matches ssa deps chosen ≤ cost_of ds matches ssa deps plan
 
@@ -57,7 +57,7 @@ IsCrowdedFed ds matches ssa deps =
 -- groups that may be fed, where no lesser number of packs is crowded.
 pub record IsChosenFed
     (ds : List Description) (matches : List Match) (ssa : Ssa) (deps : List (ℕ × ℕ)) (width : ℕ)
-    (chosen : List Packed)
+    (chosen : List Pack)
     : Type 0 where
   pub plan : IsPlanBy fed_aligned ds matches ssa deps chosen
   pub below_scalar : cost_of ds matches ssa deps chosen ≤ cost_of ds matches ssa deps []
@@ -69,6 +69,6 @@ pub record IsChosenFed
       ≤ cost_of ds matches ssa deps (careful_of ds matches ssa deps)
   pub optimal :
       MatchUnits ssa matches → length ssa.units ≤ 256 →
-      (plan : List Packed) → IsPlanBy fed_aligned ds matches ssa deps plan →
+      (plan : List Pack) → IsPlanBy fed_aligned ds matches ssa deps plan →
       ((size : ℕ) → size < length plan → IsCrowdedFed ds matches ssa deps width size → ⊥) →
       cost_of ds matches ssa deps chosen ≤ cost_of ds matches ssa deps plan

@@ -1,10 +1,10 @@
-pub mod Board
+pub mod PackTable
 pub mod Candidate
 pub mod Chosen
 pub mod Grown
-pub mod Kept
+pub mod BeamPlan
 pub mod Key
-pub mod Met
+pub mod MetPlans
 pub mod Priced
 pub mod SearchSpace
 pub mod Turn

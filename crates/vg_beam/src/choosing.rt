@@ -1,8 +1,8 @@
 //! The chosen plan.
 
 ghost use Rattle.std.specs.Prelude.{◌≡◌, IfOk, map};
-ghost use Rattle.vg_packing.specs.Packing.{chosen_of, sizes_of};
-ghost use Rattle.vg_packing.specs.Taken.{MatchesNear};
+ghost use Rattle.vg_kernel_plans.specs.Packing.{chosen_of, sizes_of};
+ghost use Rattle.vg_kernel_plans.specs.Taken.{MatchesNear};
 ghost use Rattle.vg_packs.specs.Walk.{NameEarlierUnits};
 ghost use Rattle.vg_plans.specs.Levels.{first_least, met_within};
 ghost use Rattle.vg_plans.specs.World.{follows, same_packs};
@@ -10,13 +10,13 @@ ghost use Rattle.vg_shapes.specs.Description.{description_of};
 ghost use Rattle.vg_beam.specs.Chosen.{HaveShortPacks, HaveShortPacksBy, IsChosen};
 ghost use Rattle.vg_beam.specs.SearchSpace.{HasGroups, choice_of, cost_in, described, world_of};
 
-use crate::board::Board;
-use crate::kept::empty_plan;
+use crate::beam_plan::empty_plan;
+use crate::pack_table::PackTable;
 use crate::priced_plan::{PricedPlan, first_plan};
 use crate::search_space::SearchSpace;
 use crate::turn::turn;
 use std::alloc::{AllocError, Global};
-use vg_packing::{
+use vg_kernel_plans::{
     Choice, LoadGroups, chosen_plans_are_optimal, chosen_plans_fit, kernel_plans_are_short,
 };
 use vg_shapes::{DepList, Description, MatchTable, Plan, Ssa};
@@ -47,13 +47,13 @@ fn search(
     if none {
         return Ok(first.plan);
     }
-    let mut board = Board::new(alloc);
-    let empty = empty_plan(alloc, &mut board, space)?;
+    let mut pack_table = PackTable::new(alloc);
+    let empty = empty_plan(alloc, &mut pack_table, space)?;
     let mut level = Vec::new(alloc);
     level.push(empty)?;
     let mut best = first;
     'sizes: for _size in 0..sizes {
-        let turned = turn(alloc, &mut board, level.as_slice(), best, space, width)?;
+        let turned = turn(alloc, &mut pack_table, level.as_slice(), best, space, width)?;
         level = turned.next;
         best = turned.better;
     }

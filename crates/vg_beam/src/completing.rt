@@ -1,19 +1,19 @@
 //! Plans that are completed.
 
 ghost use Rattle.std.specs.Prelude.{◌≡◌, ◌∷◌, [], IfOk, map};
-ghost use Rattle.vg_packing.specs.Completed.{turns_of};
-ghost use Rattle.vg_packing.specs.Fed.{IsPlanBy, groups_by};
-ghost use Rattle.vg_packing.specs.Taken.{MatchesNear};
+ghost use Rattle.vg_kernel_plans.specs.Completed.{turns_of};
+ghost use Rattle.vg_kernel_plans.specs.Fed.{IsPlanBy, groups_by};
+ghost use Rattle.vg_kernel_plans.specs.Taken.{MatchesNear};
 ghost use Rattle.vg_packs.specs.Walk.{NameEarlierUnits};
 ghost use Rattle.vg_plans.specs.Completed.{careful_with, careful_with_all, completed};
 ghost use Rattle.vg_plans.specs.Levels.{first_least};
 ghost use Rattle.vg_plans.specs.Members.{Every, Has};
 ghost use Rattle.vg_plans.specs.PlainPlan.{plain_plan};
 ghost use Rattle.vg_beam.specs.Chosen.{HaveShortPacksBy};
-ghost use Rattle.vg_beam.specs.Kept.{plans_of};
+ghost use Rattle.vg_beam.specs.BeamPlan.{plans_of};
 ghost use Rattle.vg_beam.specs.SearchSpace.{HasGroups, choice_of, cost_in, described, world_of};
 
-use crate::kept::{Kept, kept_at};
+use crate::beam_plan::{BeamPlan, kept_at};
 use crate::priced_plan::{PricedPlan, empty_priced, lesser_plan, price};
 use crate::search_space::SearchSpace;
 use std::alloc::{AllocError, Global};
@@ -50,7 +50,7 @@ fn complete(alloc: Global, plan: &[Pack], space: &SearchSpace) -> Result<PricedP
 pub(crate) fn lesser_completed(
     alloc: Global,
     best: PricedPlan,
-    level: &[Kept],
+    level: &[BeamPlan],
     space: &SearchSpace,
 ) -> Result<PricedPlan, AllocError>
     requires near { MatchesNear space.now.table.now }

@@ -1,9 +1,9 @@
 //! The plan that is chosen where load groups may feed operands.
 
 ghost use Rattle.std.specs.Prelude.{◌≡◌, ◌≤◌, ◌++◌, [], IfOk, map};
-ghost use Rattle.vg_packing.specs.Completed.{chosen_fed_of, turns_of};
-ghost use Rattle.vg_packing.specs.Fed.{fed_aligned};
-ghost use Rattle.vg_packing.specs.Taken.{MatchesNear};
+ghost use Rattle.vg_kernel_plans.specs.Completed.{chosen_fed_of, turns_of};
+ghost use Rattle.vg_kernel_plans.specs.Fed.{fed_aligned};
+ghost use Rattle.vg_kernel_plans.specs.Taken.{MatchesNear};
 ghost use Rattle.vg_packs.specs.Walk.{NameEarlierUnits};
 ghost use Rattle.vg_plans.specs.Completed.{completed};
 ghost use Rattle.vg_plans.specs.Levels.{first_least, kept_within, met_within};
@@ -12,15 +12,15 @@ ghost use Rattle.vg_shapes.specs.Description.{description_of};
 ghost use Rattle.vg_beam.specs.Chosen.{HaveShortPacksBy, IsChosenFed};
 ghost use Rattle.vg_beam.specs.SearchSpace.{HasGroups, choice_of, cost_in, described, world_of};
 
-use crate::board::Board;
+use crate::beam_plan::empty_plan;
 use crate::choosing::sizes_of;
 use crate::completing::{first_fed, lesser_completed};
-use crate::kept::empty_plan;
+use crate::pack_table::PackTable;
 use crate::priced_plan::{PricedPlan, empty_priced, lesser_plan};
 use crate::search_space::SearchSpace;
 use crate::turn::turn;
 use std::alloc::{AllocError, Global};
-use vg_packing::{
+use vg_kernel_plans::{
     Choice, LoadGroups, chosen_fed_plans_are_optimal, chosen_fed_plans_fit, plans_hold_by_choice,
 };
 use vg_shapes::{DepList, Description, MatchTable, Plan, Ssa};
@@ -51,14 +51,14 @@ fn search_completed(
     if none {
         return Ok(first.plan);
     }
-    let mut board = Board::new(alloc);
-    let empty = empty_plan(alloc, &mut board, space)?;
+    let mut pack_table = PackTable::new(alloc);
+    let empty = empty_plan(alloc, &mut pack_table, space)?;
     let mut level = Vec::new(alloc);
     level.push(empty)?;
     let mut best = first;
     let mut whole = empty_priced(alloc, space)?;
     'sizes: for _size in 0..sizes {
-        let turned = turn(alloc, &mut board, level.as_slice(), best, space, width)?;
+        let turned = turn(alloc, &mut pack_table, level.as_slice(), best, space, width)?;
         level = turned.next;
         best = turned.better;
         let more = lesser_completed(alloc, whole, level.as_slice(), space)?;

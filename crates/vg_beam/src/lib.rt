@@ -2,17 +2,17 @@
 //! many of each size are kept, and the first of the least cost is chosen.
 //!
 //! `specs/Chosen.antt` says what is promised of the chosen plan. The plan itself is defined in
-//! `vg_packing`; `specs/Board.antt`, `specs/Kept.antt` and `specs/Met.antt` say what the search keeps.
+//! `vg_kernel_plans`; `specs/PackTable.antt`, `specs/BeamPlan.antt` and `specs/MetPlans.antt` say what the search keeps.
 #![tactic(auto)]
 
-mod board;
+mod beam_plan;
 mod candidate;
 mod choosing;
 mod completing;
 mod fed;
-mod kept;
 mod key;
-mod met;
+mod met_plans;
+mod pack_table;
 mod priced_plan;
 mod search;
 mod search_space;

@@ -1,8 +1,8 @@
 //! A plan and its cost.
 
 ghost use Rattle.std.specs.Prelude.{◌≡◌, ◌<◌, ◌∷◌, [], IfOk, length, map};
-ghost use Rattle.vg_packing.specs.Packing.{plain_of};
-ghost use Rattle.vg_packing.specs.Taken.{IsShort, MatchesNear};
+ghost use Rattle.vg_kernel_plans.specs.Packing.{plain_of};
+ghost use Rattle.vg_kernel_plans.specs.Taken.{IsShort, MatchesNear};
 ghost use Rattle.std.specs.List.{AllByRecursion};
 ghost use Rattle.vg_packs.specs.Walk.{NameEarlierUnits};
 ghost use Rattle.vg_plans.specs.Levels.{first_least};
@@ -12,13 +12,13 @@ ghost use Rattle.vg_beam.specs.Chosen.{HaveShortPacks};
 ghost use Rattle.vg_beam.specs.Priced.{priced_plans};
 ghost use Rattle.vg_beam.specs.SearchSpace.{cost_in, described};
 
-use crate::board::Board;
+use crate::beam_plan::{BeamPlan, kept_at};
 use crate::candidate::{Candidate, least_below};
-use crate::kept::{Kept, kept_at};
+use crate::pack_table::PackTable;
 use crate::search_space::SearchSpace;
 use std::alloc::{AllocError, Global};
 use vg_cost::plan_cost;
-use vg_packing::copies::{copy_pack, copy_packs};
+use vg_kernel_plans::copies::{copy_pack, copy_packs};
 use vg_packs::plain_plan;
 use vg_shapes::Plan;
 
@@ -90,17 +90,18 @@ pub(crate) fn first_plan(alloc: Global, space: &SearchSpace) -> Result<PricedPla
 /// The plan of a candidate of a level.
 fn plan_of(
     alloc: Global,
-    board: &Board,
-    level: &[Kept],
+    pack_table: &PackTable,
+    level: &[BeamPlan],
     candidate: Candidate,
 ) -> Result<Plan, AllocError>
     requires parent { candidate.parent < length level.now }
-    requires pack { candidate.pack < length board.now.packs.items }
-    ensures { IfOk result (λ plan. plan ≡ grown_plan board.now.packs.items level.now candidate) }
+    requires pack { candidate.pack < length pack_table.now.packs.items }
+    ensures { IfOk result (λ plan. plan ≡ grown_plan pack_table.now.packs.items level.now
+        candidate) }
 {
     let parent = kept_at(level, candidate.parent);
     let mut packs = copy_packs(alloc, parent.running.packs())?;
-    let last = copy_pack(alloc, board.pack(candidate.pack))?;
+    let last = copy_pack(alloc, pack_table.pack(candidate.pack))?;
     packs.push(last)?;
     Ok(Plan::from_vec(packs))
 }
@@ -109,18 +110,18 @@ fn plan_of(
 pub(crate) fn lesser(
     alloc: Global,
     best: PricedPlan,
-    board: &Board,
-    level: &[Kept],
+    pack_table: &PackTable,
+    level: &[BeamPlan],
     met: &[Candidate],
 ) -> Result<PricedPlan, AllocError>
-    requires { Every (IsPlaced board.now.packs.items level.now) met.now }
+    requires { Every (IsPlaced pack_table.now.packs.items level.now) met.now }
     ensures { IfOk result (λ better. better ≡ first_least (λ p. p.cost) best
-        (priced_plans board.now.packs.items level.now met.now)) }
+        (priced_plans pack_table.now.packs.items level.now met.now)) }
 {
     match least_below(met, best.cost) {
         None => Ok(best),
         Some(candidate) => {
-            let plan = plan_of(alloc, board, level, candidate)?;
+            let plan = plan_of(alloc, pack_table, level, candidate)?;
             Ok(PricedPlan {
                 plan,
                 cost: candidate.cost,

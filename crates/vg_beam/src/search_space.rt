@@ -1,6 +1,6 @@
 //! What plans are searched over.
 
-use vg_packing::LoadGroups;
+use vg_kernel_plans::LoadGroups;
 use vg_shapes::{DepList, Description, MatchTable, Ssa};
 
 /// What plans are searched over: descriptions, the places where they match, a kernel, which of its units

@@ -1,19 +1,19 @@
 //! Turns of the search.
 
 ghost use Rattle.std.specs.Prelude.{◌≡◌, IfOk};
-ghost use Rattle.vg_packing.specs.Fed.{IsPlanBy};
-ghost use Rattle.vg_packing.specs.Taken.{MatchesNear};
+ghost use Rattle.vg_kernel_plans.specs.Fed.{IsPlanBy};
+ghost use Rattle.vg_kernel_plans.specs.Taken.{MatchesNear};
 ghost use Rattle.vg_packs.specs.Walk.{NameEarlierUnits};
 ghost use Rattle.vg_plans.specs.Members.{Every};
-ghost use Rattle.vg_beam.specs.Board.{IsBoard};
+ghost use Rattle.vg_beam.specs.PackTable.{IsPackTable};
 ghost use Rattle.vg_beam.specs.Chosen.{HaveShortPacksBy};
-ghost use Rattle.vg_beam.specs.Kept.{IsKept, plans_of};
+ghost use Rattle.vg_beam.specs.BeamPlan.{IsKept, plans_of};
 ghost use Rattle.vg_beam.specs.SearchSpace.{HasGroups, choice_of, cost_in, described};
 ghost use Rattle.vg_beam.specs.Turn.{IsTurn};
 
-use crate::board::Board;
+use crate::beam_plan::{BeamPlan, grow_all};
 use crate::candidate::keep;
-use crate::kept::{Kept, grow_all};
+use crate::pack_table::PackTable;
 use crate::priced_plan::{PricedPlan, lesser};
 use crate::search::candidates;
 use crate::search_space::SearchSpace;
@@ -23,7 +23,7 @@ use std::alloc::{AllocError, Global};
 #[derive(Drop)]
 pub(crate) struct Turned {
     /// The plans of the next level.
-    pub(crate) next: Vec<Kept>,
+    pub(crate) next: Vec<BeamPlan>,
     /// The first of the least cost so far.
     pub(crate) better: PricedPlan,
 }
@@ -32,8 +32,8 @@ pub(crate) struct Turned {
 /// least cost in a list of a plan and all that are met.
 pub(crate) fn turn(
     alloc: Global,
-    board: &mut Board,
-    level: &[Kept],
+    pack_table: &mut PackTable,
+    level: &[BeamPlan],
     best: PricedPlan,
     space: &SearchSpace,
     width: usize,
@@ -43,19 +43,19 @@ pub(crate) fn turn(
     requires groups { HasGroups space.now }
     requires short { HaveShortPacksBy (choice_of space.now) (described space.now)
         space.now.table.now space.now.ssa.now space.now.deps.now }
-    requires board { IsBoard (choice_of space.now) (described space.now) space.now.table.now
-        space.now.ssa.now board.old }
+    requires pack_table { IsPackTable (choice_of space.now) (described space.now)
+        space.now.table.now space.now.ssa.now pack_table.old }
     requires level { Every (IsKept (choice_of space.now) (described space.now) space.now.table.now
-        space.now.ssa.now board.old.packs.items) level.now }
+        space.now.ssa.now pack_table.old.packs.items) level.now }
     requires plans { Every (IsPlanBy (choice_of space.now) (described space.now) space.now.table.now
         space.now.ssa.now space.now.deps.now) (plans_of level.now) }
     requires cost { best.cost ≡ cost_in space.now best.plan }
     ensures { IfOk result (IsTurn (choice_of space.now) (described space.now) space.now.table.now
-        space.now.ssa.now space.now.deps.now width (plans_of level.now) best.plan board.new) }
+        space.now.ssa.now space.now.deps.now width (plans_of level.now) best.plan pack_table.new) }
 {
-    let met = candidates(alloc, board, level, space)?;
-    let better = lesser(alloc, best, board, level, met.as_slice())?;
+    let met = candidates(alloc, pack_table, level, space)?;
+    let better = lesser(alloc, best, pack_table, level, met.as_slice())?;
     let kept = keep(met, width)?;
-    let next = grow_all(alloc, board, level, kept.as_slice(), space)?;
+    let next = grow_all(alloc, pack_table, level, kept.as_slice(), space)?;
     Ok(Turned { next, better })
 }

@@ -55,8 +55,8 @@ impl<const B: usize> Reg<B> {
     )
         requires inside { low + width ≤ 8 * B }
         requires from_inside { from_low + width ≤ 8 * C }
-        ensures { bits_of_bytes self.new.bytes
-            ≡ replaced low (range from_low width (bits_of_bytes from.now.bytes)) (bits_of_bytes self.old.bytes) }
+        ensures { bits_of_bytes self.new.bytes ≡ replaced low (range from_low width (bits_of_bytes
+            from.now.bytes)) (bits_of_bytes self.old.bytes) }
     {
         bit_range::copy(
             &mut self.bytes,

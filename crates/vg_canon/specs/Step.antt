@@ -27,5 +27,6 @@ fills op w y = nat_le w (known y).unsigned && nat_le w (known y).signed
 
 -- a part after a chain that ends with a part not after it: it is no constant, and leaves no bits known
 abbrev pub is_at_rest : Tree → Bool
-is_at_rest (two op w (two o v a b) y) = makes_chains op && (same_op op o && (not (is_constant y) && (not (opens op y) && (not_after b y && fills op w y))))
+is_at_rest (two op w (two o v a b) y) =
+    makes_chains op && (same_op op o && (not (is_constant y) && (not (opens op y) && (not_after b y && fills op w y))))
 is_at_rest _ = false

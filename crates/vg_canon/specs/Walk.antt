@@ -9,7 +9,8 @@ use Rattle.vg_canon.specs.Canonical.{IsCanonical}
 
 -- a chain, nested to the left, over canonical parts; or a canonical term
 abbrev pub OverCanonical : TwoOp → Tree → Type 0
-OverCanonical op (two o w x y) = IsCanonical (two o w x y) ⊎ ((same_op op o ≡ true) × OverCanonical op x × IsCanonical y)
+OverCanonical op (two o w x y) =
+    IsCanonical (two o w x y) ⊎ ((same_op op o ≡ true) × OverCanonical op x × IsCanonical y)
 OverCanonical op (leaf w k) = IsCanonical (leaf w k)
 OverCanonical op (constant w v) = IsCanonical (constant w v)
 OverCanonical op (one o w k x) = IsCanonical (one o w k x)

@@ -38,8 +38,8 @@ counted place done h = if nat_le (instances done + instances_of h.imm) 4096 then
 abbrev pub judged : Header → Operation → Result Entry CatalogFault
 judged h o = as_judged (checked h o) >>= λ r. Ok (record { header = h; operation = o })
 
--- An entry that begins at this place, after those that are done: its header, from left to right; the number of instances;
--- the text of its operation, from left to right; the names in it; and its instances.
+-- An entry that begins at this place, after those that are done: its header, from left to right; the number of
+-- instances; the text of its operation, from left to right; the names in it; and its instances.
 unfoldable pub entry_at : Place → List Entry → Reading → Result (List Entry × Reading) CatalogFault
 entry_at place done r = do
   header ← header_at (is_known done) r
@@ -48,8 +48,8 @@ entry_at place done r = do
   entry ← judged header_counted operation.0
   Ok (done ++ entry ∷ [], operation.1)
 
--- What stands where no entry more may: the end of the file, or one entry too many at whatever is neither white space nor of a
--- comment. A byte that may not stand in a comment is no token there either.
+-- What stands where no entry more may: the end of the file, or one entry too many at whatever is neither white
+-- space nor of a comment. A byte that may not stand in a comment is no token there either.
 abbrev pub end_from : List ℕ → Lexemes → List Entry → Result (List Entry) CatalogFault
 end_from text (token t rest) done = Err (fault.TooMany t.place)
 end_from text (finish t) done = Ok done

@@ -19,5 +19,6 @@ abbrev pub Gives : {X Y : Type 0} → (X → Y) → Result X CatalogFault → Re
 Gives view result read = returned.Gives told view result read
 
 -- the same value in front of what is left, or the same fault, unless there was no memory
-abbrev pub Reads : {X Y : Type 0} → (X → Y) → Reading → Result X CatalogFault → Result (Y × Reading) CatalogFault → Type 0
+abbrev pub Reads : {X Y : Type 0} → (X → Y) → Reading → Result X CatalogFault →
+    Result (Y × Reading) CatalogFault → Type 0
 Reads view behind result read = returned.Gives told (λ x. (view x, behind)) result read

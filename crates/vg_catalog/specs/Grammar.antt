@@ -1,5 +1,6 @@
--- The language of instruction files: which words spell which header, and which entries a text has. How the words are read is in
--- `Words`, `Headers` and `Files` of vg_catalog; here is only what they may be. The grammar of operations is vg_pseudo's.
+-- The language of instruction files: which words spell which header, and which entries a text has. How the
+-- words are read is in `Words`, `Headers` and `Files` of vg_catalog; here is only what they may be. The grammar
+-- of operations is vg_pseudo's.
 use Rattle.std.specs.Prelude.{◌≡◌, ℕ, ◌+◌, ◌≤◌, Bool, true, false, List, [], ◌∷◌, ◌++◌, length, is_ok, Option, Some, None, Ok, IsTrue, codes}
 use Rattle.vg_text.specs.Words.{Reading, Spelled, reading_of}
 use Rattle.vg_pseudo.specs.declared.header.Header.{Header}
@@ -119,8 +120,8 @@ pub record IsHeader (is_known : List ℕ → Bool) (words : Words) (h : Header) 
   pub closes : IsClosing closing h
   pub whole : words ≡ first ∷ named ∷ (params ++ (imm ++ closing))
 
--- An entry, after those that are done, between two moments of reading: its header, its operation with its END, no more instances
--- than 4,096 with those before it, and it is accepted.
+-- An entry, after those that are done, between two moments of reading: its header, its operation with its END,
+-- no more instances than 4,096 with those before it, and it is accepted.
 pub record IsEntryText (done : List Entry) (r : Reading) (e : Entry) (q : Reading) : Type 0 where
   pub words : Words
   pub middle : Reading

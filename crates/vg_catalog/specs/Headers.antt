@@ -58,7 +58,8 @@ first_of None more = more
 
 -- the lanes of an etype in a register of this width
 abbrev pub lanes_named : ℕ → List ℕ → Option Lanes
-lanes_named register bytes = first_of (unsigned_lanes register bytes) (first_of (signed_lanes register bytes) (whole_lanes register bytes))
+lanes_named register bytes =
+    first_of (unsigned_lanes register bytes) (first_of (signed_lanes register bytes) (whole_lanes register bytes))
 
 -- a width
 abbrev pub register_at : Reading → Result (ℕ × Reading) CatalogFault
@@ -85,7 +86,8 @@ is_operand_name params name = is_free name && not (bytes_eq name (codes "dst")) 
 
 -- the name of an operand
 abbrev pub operand_at : List Param → Reading → Result (Spelled × Reading) CatalogFault
-operand_at params r = next_word r >>= λ w. if is_operand_name params w.0.bytes then Ok w else Err (fault.Header w.0.place)
+operand_at params r =
+    next_word r >>= λ w. if is_operand_name params w.0.bytes then Ok w else Err (fault.Header w.0.place)
 
 -- a parameter after PARAM: `name width etype`
 unfoldable pub param_at : List Param → Reading → Result (Param × Reading) CatalogFault

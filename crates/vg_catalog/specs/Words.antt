@@ -1,5 +1,5 @@
--- The words of headers. A header word goes up to white space, a comment or the end of the input, and may be made of several
--- tokens.
+-- The words of headers. A header word goes up to white space, a comment or the end of the input, and may be
+-- made of several tokens.
 use Rattle.std.specs.Prelude.{ℕ, Bool, true, false, ◌&&◌, ◌||◌, ◌==◌, List, [], length, take, drop, slice_index, slice_range, Option, Some, None, Result, Ok, Err, nat_le, codes, if◌then◌else◌}
 use Rattle.std.specs.Str.{bytes_eq}
 use Rattle.vg_base.specs.Bind.{◌>>=◌, or_fault}
@@ -16,10 +16,11 @@ use Rattle.vg_catalog.specs.declared.fault.CatalogFault.TheVariants.{Token, Head
 abbrev pub ends_word : List ℕ → Bool
 ends_word rest = length rest == 0 || is_white (slice_index rest 0) || opens_comment rest
 
--- Where the word that goes on up to this byte ends, and the tokens after it; or the place of a byte, name or number in it
--- that is no token.
+-- Where the word that goes on up to this byte ends, and the tokens after it; or the place of a byte, name or
+-- number in it that is no token.
 unfoldable pub end_of_word : List ℕ → ℕ → Lexemes → Result (ℕ × Lexemes) CatalogFault
-end_of_word text end (token t rest) = if ends_word (drop end text) then Ok (end, token t rest) else end_of_word text t.end rest
+end_of_word text end (token t rest) =
+    if ends_word (drop end text) then Ok (end, token t rest) else end_of_word text t.end rest
 end_of_word text end (finish t) = Ok (end, finish t)
 end_of_word text end (fault p) = if ends_word (drop end text) then Ok (end, fault p) else Err (Token p)
 

@@ -74,7 +74,8 @@ fn entry(
 /// What is wrong at the place of a byte, name or number that is no token, where no entry more may
 /// stand.
 fn fault_at_end(text: &[u8], place: Place) -> CatalogFault
-    ensures { result ≡ (if is_in_comment text.now place then fault.Token place else fault.TooMany place) }
+    ensures { result ≡ (if is_in_comment text.now place then fault.Token place else fault.TooMany
+        place) }
 {
     if is_in_comment(text, place) {
         CatalogFault::Token { place }

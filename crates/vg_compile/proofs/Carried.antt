@@ -4,7 +4,7 @@ use Rattle.vg_program.specs.declared.program.Program.{Program}
 use Rattle.vg_program.specs.Cost as program
 use Rattle.vg_shapes.specs.declared.match_table.Match.{Match}
 use Rattle.vg_shapes.specs.declared.order.Node.{Node}
-use Rattle.vg_shapes.specs.declared.pack.Pack.{Pack as Packed}
+use Rattle.vg_shapes.specs.declared.pack.Pack.{Pack}
 use Rattle.vg_shapes.specs.declared.ssa.Ssa.{Ssa}
 use Rattle.vg_shapes.specs.Bindings.{BindsInOrder}
 use Rattle.vg_shapes.specs.Depends.{dependences}
@@ -13,11 +13,11 @@ use Rattle.vg_shapes.specs.MatchTable.{IsTable}
 use Rattle.vg_shapes.specs.Nodes.{IsOrder}
 use Rattle.std.specs.List.{AllByRecursion}
 use Rattle.vg_plans.specs.Members.{Every}
-use Rattle.vg_packing.specs.Completed.{chosen_fed_of}
-use Rattle.vg_packing.specs.Fed.{IsFedPlanFor, IsPlanBy, fed_aligned, unfed}
-use Rattle.vg_packing.specs.Laws as plans
-use Rattle.vg_packing.specs.Packing.{chosen_of, plain_of}
-use Rattle.vg_packing.proofs.FedPlans.{may-be-fed}
+use Rattle.vg_kernel_plans.specs.Completed.{chosen_fed_of}
+use Rattle.vg_kernel_plans.specs.Fed.{IsFedPlanFor, IsPlanBy, fed_aligned, unfed}
+use Rattle.vg_kernel_plans.specs.Laws as plans
+use Rattle.vg_kernel_plans.specs.Packing.{chosen_of, plain_of}
+use Rattle.vg_kernel_plans.proofs.FedPlans.{may-be-fed}
 use Rattle.vg_beam.specs.Chosen as found
 use Rattle.vg_beam.specs.Chosen.{IsChosen}
 use Rattle.vg_emission.specs.Truth.{IsCallable}
@@ -34,11 +34,11 @@ use Rattle.vg_compile.specs.Planned.{IsPlanned}
 use Rattle.vg_compile.proofs.EmptyPlan.{empty-cost}
 
 -- what is chosen of the plans of a kernel, by a list of all dependences
-pub record IsPicked (ds : List Description) (matches : List Match) (ssa : Ssa) (width : ℕ) (packs : List Packed) : Type 0 where
+pub record IsPicked (ds : List Description) (matches : List Match) (ssa : Ssa) (width : ℕ) (packs : List Pack) : Type 0 where
   pub is : packs ≡ chosen_of ds matches ssa (dependences ssa) width
   pub chosen : IsChosen ds matches ssa (dependences ssa) width packs
 
-pub picked-by : (ds : List Description) (matches : List Match) (ssa : Ssa) (deps : List (ℕ × ℕ)) (width : ℕ) (packs : List Packed)
+pub picked-by : (ds : List Description) (matches : List Match) (ssa : Ssa) (deps : List (ℕ × ℕ)) (width : ℕ) (packs : List Pack)
     → deps ≡ dependences ssa → packs ≡ chosen_of ds matches ssa deps width → IsChosen ds matches ssa deps width packs
     → IsPicked ds matches ssa width packs
 picked-by ds matches ssa deps width packs e is chosen = record {
@@ -47,11 +47,11 @@ picked-by ds matches ssa deps width packs e is chosen = record {
 }
 
 -- what is chosen of the fed plans, by a list of all dependences
-pub record IsPickedFed (ds : List Description) (matches : List Match) (ssa : Ssa) (width : ℕ) (packs : List Packed) : Type 0 where
+pub record IsPickedFed (ds : List Description) (matches : List Match) (ssa : Ssa) (width : ℕ) (packs : List Pack) : Type 0 where
   pub is : packs ≡ chosen_fed_of ds matches ssa (dependences ssa) width
   pub chosen : found.IsChosenFed ds matches ssa (dependences ssa) width packs
 
-pub picked-fed-by : (ds : List Description) (matches : List Match) (ssa : Ssa) (deps : List (ℕ × ℕ)) (width : ℕ) (packs : List Packed)
+pub picked-fed-by : (ds : List Description) (matches : List Match) (ssa : Ssa) (deps : List (ℕ × ℕ)) (width : ℕ) (packs : List Pack)
     → deps ≡ dependences ssa → packs ≡ chosen_fed_of ds matches ssa deps width → found.IsChosenFed ds matches ssa deps width packs
     → IsPickedFed ds matches ssa width packs
 picked-fed-by ds matches ssa deps width packs e is chosen = record {
@@ -66,11 +66,11 @@ packable [] all = tt
 packable (d ∷ ds) all = (all.0.packable, packable ds all.1)
 
 pub by-nodes : (ds : List Description) (matches : List Match) (ssa : Ssa) → AreKnown ds matches ssa
-    → (packs : List Packed) → plans.IsPlanFor ds matches ssa (dependences ssa) packs ↔ IsPlanByNodes ds matches ssa packs
+    → (packs : List Pack) → plans.IsPlanFor ds matches ssa (dependences ssa) packs ↔ IsPlanByNodes ds matches ssa packs
 by-nodes ds matches ssa known packs = plans-by-nodes ds matches ssa packs (packable ds known.described) known.matched
 
 pub fed-by-nodes : (ds : List Description) (matches : List Match) (ssa : Ssa) → AreKnown ds matches ssa
-    → (packs : List Packed) → IsPlanBy fed_aligned ds matches ssa (dependences ssa) packs ↔ IsAlignedFedPlan ds matches ssa packs
+    → (packs : List Pack) → IsPlanBy fed_aligned ds matches ssa (dependences ssa) packs ↔ IsAlignedFedPlan ds matches ssa packs
 fed-by-nodes ds matches ssa known packs = plans-by-nodes-by fed_aligned ds matches ssa packs (packable ds known.described) known.matched
 
 each : {X : Type 0} (P Q : X → Type 0) → ((x : X) → P x → Q x) → (xs : List X) → Every P xs → Every Q xs
@@ -88,7 +88,7 @@ crowded-fed ds matches ssa width size known (many, more, are, differ) =
     (many, more, each _ _ (λ packs is. ((fed-by-nodes ds matches ssa known packs).0 is.0, is.1)) many are, differ)
 
 -- the chosen plan, by the list of all dependences
-pub chosen-plan : (ds : List Description) (matches : List Match) (ssa : Ssa) (width : ℕ) (packs : List Packed)
+pub chosen-plan : (ds : List Description) (matches : List Match) (ssa : Ssa) (width : ℕ) (packs : List Pack)
     → AreKnown ds matches ssa → IsTable matches → AllByRecursion (BindsInOrder ds) matches → IsPicked ds matches ssa width packs
     → IsChosenPlan ds matches ssa width packs
 chosen-plan ds matches ssa width packs known ordered bindings picked =
@@ -105,7 +105,7 @@ chosen-plan ds matches ssa width packs known ordered bindings picked =
     }
 
 -- the chosen fed plan, by the list of all dependences
-pub chosen-fed-plan : (ds : List Description) (matches : List Match) (ssa : Ssa) (width : ℕ) (packs : List Packed)
+pub chosen-fed-plan : (ds : List Description) (matches : List Match) (ssa : Ssa) (width : ℕ) (packs : List Pack)
     → AreKnown ds matches ssa → IsTableOf ds ssa matches → IsPickedFed ds matches ssa width packs
     → IsChosenFedPlan ds matches ssa width packs
 chosen-fed-plan ds matches ssa width packs known table picked =
@@ -123,22 +123,22 @@ chosen-fed-plan ds matches ssa width packs known table picked =
     }
 
 -- it grows from the empty one
-grows : (ds : List Description) (matches : List Match) (ssa : Ssa) (width : ℕ) (packs : List Packed)
+grows : (ds : List Description) (matches : List Match) (ssa : Ssa) (width : ℕ) (packs : List Pack)
     → AreKnown ds matches ssa → IsChosenPlan ds matches ssa width packs → plans.IsPlanFor ds matches ssa (dependences ssa) packs
 grows ds matches ssa width packs known chosen = (by-nodes ds matches ssa known packs).1 chosen.plan
 
 -- so it is one of the plans that may be fed
-pub may-feed : (ds : List Description) (matches : List Match) (ssa : Ssa) (width : ℕ) (packs : List Packed)
+pub may-feed : (ds : List Description) (matches : List Match) (ssa : Ssa) (width : ℕ) (packs : List Pack)
     → AreKnown ds matches ssa → IsChosenPlan ds matches ssa width packs → IsFedPlanFor ds matches ssa (dependences ssa) packs
 may-feed ds matches ssa width packs known chosen =
     may-be-fed ds matches ssa (dependences ssa) unfed packs (grows ds matches ssa width packs known chosen)
 
-pub fed-may-feed : (ds : List Description) (matches : List Match) (ssa : Ssa) (width : ℕ) (packs : List Packed)
+pub fed-may-feed : (ds : List Description) (matches : List Match) (ssa : Ssa) (width : ℕ) (packs : List Pack)
     → AreKnown ds matches ssa → IsChosenFedPlan ds matches ssa width packs → IsFedPlanFor ds matches ssa (dependences ssa) packs
 fed-may-feed ds matches ssa width packs known chosen =
     may-be-fed ds matches ssa (dependences ssa) fed_aligned packs ((fed-by-nodes ds matches ssa known packs).1 chosen.plan)
 
-pub plan-grows : (ds : List Description) (matches : List Match) (ssa : Ssa) (deps : List (ℕ × ℕ)) (width : ℕ) (packs : List Packed)
+pub plan-grows : (ds : List Description) (matches : List Match) (ssa : Ssa) (deps : List (ℕ × ℕ)) (width : ℕ) (packs : List Pack)
     → AreKnown ds matches ssa → deps ≡ dependences ssa → IsChosenPlan ds matches ssa width packs → IsFedPlanFor ds matches ssa deps packs
 plan-grows ds matches ssa deps width packs known e chosen =
     subst (λ d. IsFedPlanFor ds matches ssa d packs) (sym e) (may-feed ds matches ssa width packs known chosen)
@@ -146,7 +146,7 @@ plan-grows ds matches ssa deps width packs known e chosen =
 -- ---- programs
 
 -- the program of a plan in a legal order, where it costs at most a line for each unit
-is-program : (ds : List Description) (matches : List Match) (ssa : Ssa) (packs : List Packed) (order : List Node)
+is-program : (ds : List Description) (matches : List Match) (ssa : Ssa) (packs : List Pack) (order : List Node)
     → AreKnown ds matches ssa → IsFedPlanFor ds matches ssa (dependences ssa) packs → plans.cost_of ds matches ssa (dependences ssa) packs ≤ length ssa.units
     → IsOrder ssa matches packs order → IsProgramOver ds ssa (planned_program ds matches ssa packs order)
 is-program ds matches ssa packs order known plan most is =
@@ -163,14 +163,14 @@ is-program ds matches ssa packs order known plan most is =
       cost = omega (arith, costs, most);
     }
 
-pub emitted-is : (ds : List Description) (matches : List Match) (ssa : Ssa) (packs : List Packed) (p : Program)
+pub emitted-is : (ds : List Description) (matches : List Match) (ssa : Ssa) (packs : List Pack) (p : Program)
     → AreKnown ds matches ssa → IsFedPlanFor ds matches ssa (dependences ssa) packs → plans.cost_of ds matches ssa (dependences ssa) packs ≤ length ssa.units
     → IsEmitted ds matches ssa packs p → IsProgramOver ds ssa p
 emitted-is ds matches ssa packs p known plan most (order, is, e) =
     subst (IsProgramOver ds ssa) (sym e) (is-program ds matches ssa packs order known plan most is)
 
 -- what it costs
-pub emitted-costs : (ds : List Description) (matches : List Match) (ssa : Ssa) (packs : List Packed) (p : Program)
+pub emitted-costs : (ds : List Description) (matches : List Match) (ssa : Ssa) (packs : List Pack) (p : Program)
     → AreKnown ds matches ssa → IsFedPlanFor ds matches ssa (dependences ssa) packs → IsEmitted ds matches ssa packs p
     → IsProgramOf ds (record { ssa = ssa; matches = matches; packs = packs }) p
 emitted-costs ds matches ssa packs p known plan (order, is, e) = record {
@@ -179,7 +179,7 @@ emitted-costs ds matches ssa packs p known plan (order, is, e) = record {
 }
 
 -- the program of the chosen plan
-pub emitted-for : (ds : List Description) (matches : List Match) (ssa : Ssa) (width : ℕ) (packs : List Packed) (p : Program)
+pub emitted-for : (ds : List Description) (matches : List Match) (ssa : Ssa) (width : ℕ) (packs : List Pack) (p : Program)
     → AreKnown ds matches ssa → IsChosenPlan ds matches ssa width packs → IsEmitted ds matches ssa packs p
     → IsProgramFor ds ssa width p
 emitted-for ds matches ssa width packs p known chosen emitted =
@@ -196,7 +196,7 @@ emitted-for ds matches ssa width packs p known chosen emitted =
     }
 
 -- what is told of the plan
-pub planned-is : (ds : List Description) (matches : List Match) (ssa : Ssa) (width : ℕ) (packs : List Packed) (cost plain : ℕ)
+pub planned-is : (ds : List Description) (matches : List Match) (ssa : Ssa) (width : ℕ) (packs : List Pack) (cost plain : ℕ)
     → IsChosenPlan ds matches ssa width packs
     → cost ≡ plans.cost_of ds matches ssa (dependences ssa) packs
     → plain ≡ plans.cost_of ds matches ssa (dependences ssa) (plain_of ds matches ssa (dependences ssa))

@@ -6,8 +6,8 @@ use Rattle.vg_plans.specs.World.{World, is_emitted, is_in, is_packed, plan_cost,
 use Rattle.vg_shapes.specs.declared.match_table.Match.{Match}
 use Rattle.vg_shapes.specs.declared.ssa.Ssa.{Ssa}
 use Rattle.vg_shapes.specs.Description.{Description}
-use Rattle.vg_packing.specs.Packing.{falling_units, packing}
-use Rattle.vg_packing.proofs.Inside.{units-counted}
+use Rattle.vg_kernel_plans.specs.Packing.{falling_units, packing}
+use Rattle.vg_kernel_plans.proofs.Inside.{units-counted}
 
 lines-few : {P O N : Type 0} (w : World P O N) (plan : List P) (needed vs : List ℕ) → scalar_lines w plan needed vs ≤ length vs
 lines-few w plan needed [] = omega arith

@@ -6,7 +6,7 @@ use Rattle.vg_kernel.specs.Cost.{scalar_cost}
 use Rattle.vg_kernel.specs.Tree.{Tree}
 use Rattle.vg_program.specs.Cost as programs
 use Rattle.vg_shapes.specs.declared.match_table.Match.{Match}
-use Rattle.vg_shapes.specs.declared.pack.Pack.{Pack as Packed}
+use Rattle.vg_shapes.specs.declared.pack.Pack.{Pack}
 use Rattle.vg_shapes.specs.declared.ssa.Ssa.{Ssa}
 use Rattle.vg_shapes.specs.Depends.{dependences}
 use Rattle.vg_shapes.specs.Description.{Description}
@@ -14,7 +14,7 @@ use Rattle.vg_shapes.specs.Sound.{IsSound}
 use Rattle.vg_ssa.specs.Numbering.{IsNumbering}
 use Rattle.vg_ssa.specs.StandsFor.{StandsFor}
 use Rattle.vg_ssa.proofs.Counts.{units-are_the_cost}
-use Rattle.vg_instances.specs.Descriptions.{descriptions}
+use Rattle.vg_descriptions.specs.Descriptions.{descriptions}
 use Rattle.vg_compile.specs.declared.more_plans.FedPlan.{FedPlan}
 use Rattle.vg_compile.specs.declared.more_plans.PlannedValues.{PlannedValues}
 use Rattle.vg_compile.specs.Chosen.{IsChosenPlan, IsChosenFedPlan, KernelPlan, cost_of, price_of, AreWhole, AreWide, IsChosenOver, IsChosenMore, cheaper}
@@ -244,7 +244,7 @@ module _ (ds : List Description) (k : Tree) (width : ℕ) (a b : PlannedValues) 
 
 -- ---- without more plans
 
-pub whole-is : (ds : List Description) (k : Tree) (width : ℕ) (ssa : Ssa) (matches : List Match) (packs : List Packed) (cost plain : ℕ)
+pub whole-is : (ds : List Description) (k : Tree) (width : ℕ) (ssa : Ssa) (matches : List Match) (packs : List Pack) (cost plain : ℕ)
     → AreWhole k ssa → IsPlanned ds matches ssa width packs cost plain → IsPlannedFor false ds k width (record { ssa = ssa; matches = matches; packs = packs }) cost plain
 whole-is ds k width ssa matches packs cost plain values planned =
     let few = planned.below_scalar in

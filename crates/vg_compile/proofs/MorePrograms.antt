@@ -6,11 +6,11 @@ use Rattle.vg_kernel.specs.Tree.{Tree}
 use Rattle.vg_program.specs.declared.program.Program.{Program}
 use Rattle.vg_shapes.specs.Description.{Description}
 use Rattle.vg_shapes.specs.Depends.{dependences}
-use Rattle.vg_packing.specs.Fed.{IsFedPlanFor}
+use Rattle.vg_kernel_plans.specs.Fed.{IsFedPlanFor}
 use Rattle.vg_emission.specs.Truth.{IsCallable}
 use Rattle.vg_plan_laws.specs.Laws.{AreKnown}
-use Rattle.vg_instances.specs.Descriptions.{AreOf, descriptions}
-use Rattle.vg_instances.specs.Proper.{AreProper}
+use Rattle.vg_descriptions.specs.Descriptions.{AreOf, descriptions}
+use Rattle.vg_descriptions.specs.Proper.{AreProper}
 use Rattle.vg_compile.specs.declared.more_plans.PlannedValues.{PlannedValues}
 use Rattle.vg_compile.specs.Chosen.{IsTableOf, KernelPlan, price_of}
 use Rattle.vg_compile.specs.Compiled.{IsCompiled}

@@ -8,17 +8,17 @@ use Rattle.vg_program.specs.Cost as programs
 use Rattle.vg_terms.specs.declared.term.Term.{Term}
 use Rattle.vg_terms.specs.Term.{tree}
 use Rattle.vg_shapes.specs.declared.match_table.Match.{Match}
-use Rattle.vg_shapes.specs.declared.pack.Pack.{Pack as Packed}
+use Rattle.vg_shapes.specs.declared.pack.Pack.{Pack}
 use Rattle.vg_shapes.specs.declared.ssa.Ssa.{Ssa}
 use Rattle.vg_shapes.specs.declared.ssa.SsaParam.{SsaParam}
-use Rattle.vg_shapes.specs.declared.unit.Unit.{Unit as Work}
+use Rattle.vg_shapes.specs.declared.ssa_unit.SsaUnit.{SsaUnit}
 use Rattle.vg_shapes.specs.Depends.{dependences}
 use Rattle.vg_shapes.specs.Description.{Description}
-use Rattle.vg_packing.specs.Completed.{chosen_fed_of}
-use Rattle.vg_packing.specs.Packing.{chosen_of}
+use Rattle.vg_kernel_plans.specs.Completed.{chosen_fed_of}
+use Rattle.vg_kernel_plans.specs.Packing.{chosen_of}
 use Rattle.vg_match.specs.Laws.{HaveSameValues, IsOrderedTable}
 use Rattle.vg_match.proofs.OneTable.{one-table}
-use Rattle.vg_instances.specs.Descriptions.{descriptions}
+use Rattle.vg_descriptions.specs.Descriptions.{descriptions}
 use Rattle.vg_compile.specs.Chosen.{AreWhole, AreWide, cheaper, cost_of, IsChosenFed, IsChosenFedPlan, IsChosenMore, IsChosenPlan, IsChosenWhole, IsChosenWide, IsTableOf, KernelPlan, price_of}
 use Rattle.vg_compile.specs.Compiled.{IsCompiled}
 use Rattle.vg_compile.specs.OnePlan.{AreOnePlan, CompileMoreCostsNoMore, OneChosenPlan}
@@ -45,7 +45,7 @@ wide-values k a b x y = record {
 -- ---- plans see the parameters and the units of values alone
 
 module _ (ds : List Description) (a b : Ssa) (same : HaveSameValues a b) where
-  abbrev with_units : List SsaParam → List Work → Ssa
+  abbrev with_units : List SsaParam → List SsaUnit → Ssa
   with_units ps us = record { name = a.name; params = ps; units = us; terms = a.terms; cuts = a.cuts }
 
   chosen-same : (matches : List Match) (width : ℕ) → chosen_of ds matches a (dependences a) width ≡ chosen_of ds matches b (dependences b) width
@@ -56,7 +56,7 @@ module _ (ds : List Description) (a b : Ssa) (same : HaveSameValues a b) where
   fed-same matches width =
       λ i. chosen_fed_of ds matches (with_units (same.params i) (same.units i)) (dependences (with_units (same.params i) (same.units i))) width
 
-  cost-same : (matches : List Match) (packs : List Packed) → cost_of ds matches a packs ≡ cost_of ds matches b packs
+  cost-same : (matches : List Match) (packs : List Pack) → cost_of ds matches a packs ≡ cost_of ds matches b packs
   cost-same matches packs = λ i. cost_of ds matches (with_units (same.params i) (same.units i)) packs
 
 -- ---- one plan
@@ -75,7 +75,7 @@ one-plan ds width a b same x y =
     record {
       matches = matches;
       packs = packs;
-      price = cost-same ds a.ssa b.ssa same a.matches a.packs ∙ ap₂ (λ (ms : List Match) (ps : List Packed). cost_of ds ms b.ssa ps) matches packs;
+      price = cost-same ds a.ssa b.ssa same a.matches a.packs ∙ ap₂ (λ (ms : List Match) (ps : List Pack). cost_of ds ms b.ssa ps) matches packs;
     }
 
 one-fed-plan : (ds : List Description) (width : ℕ) (a b : KernelPlan) → HaveSameValues a.ssa b.ssa → IsChosenFedPlan ds a.matches a.ssa width a.packs
@@ -89,7 +89,7 @@ one-fed-plan ds width a b same x y =
     record {
       matches = matches;
       packs = packs;
-      price = cost-same ds a.ssa b.ssa same a.matches a.packs ∙ ap₂ (λ (ms : List Match) (ps : List Packed). cost_of ds ms b.ssa ps) matches packs;
+      price = cost-same ds a.ssa b.ssa same a.matches a.packs ∙ ap₂ (λ (ms : List Match) (ps : List Pack). cost_of ds ms b.ssa ps) matches packs;
     }
 
 one-whole : (ds : List Description) (k : Tree) (width : ℕ) (a b : KernelPlan) → IsChosenWhole ds k width a → IsChosenWhole ds k width b → AreOnePlan ds a b

@@ -10,7 +10,7 @@ use Rattle.vg_program.specs.Sizes.{TakeFew}
 use Rattle.vg_program.proofs.TextSizes.{short_fits}
 use Rattle.vg_plan_text.specs.PlanText.{plan_text}
 use Rattle.vg_shapes.specs.declared.match_table.Match.{Match}
-use Rattle.vg_shapes.specs.declared.pack.Pack.{Pack as Packed}
+use Rattle.vg_shapes.specs.declared.pack.Pack.{Pack}
 use Rattle.vg_shapes.specs.declared.ssa.Ssa.{Ssa}
 use Rattle.vg_shapes.specs.Description.{Description}
 use Rattle.vg_shapes.specs.Sound.{IsSound}
@@ -23,8 +23,8 @@ use Rattle.vg_plan_laws.specs.Laws.{AreTrue}
 use Rattle.vg_plan_laws.proofs.Chosen.{kernels-are-small}
 use Rattle.vg_emit_laws.specs.Laws.{CostSome}
 use Rattle.vg_emit_laws.proofs.Lines.{program-lines}
-use Rattle.vg_instances.specs.Descriptions.{AreOf, descriptions}
-use Rattle.vg_instances.specs.Proper.{AreProper, IsProper}
+use Rattle.vg_descriptions.specs.Descriptions.{AreOf, descriptions}
+use Rattle.vg_descriptions.specs.Proper.{AreProper, IsProper}
 use Rattle.vg_compile.specs.Chosen.{KernelPlan, AreWhole, IsChosenFor}
 use Rattle.vg_compile.specs.Compiled.{IsCompiled}
 use Rattle.vg_compile.specs.Emitted.{IsProgramFor, IsProgramOf, IsProgramOver}
@@ -99,7 +99,7 @@ compiled-whole entries set k width ssa ds xs p slice values stands sound listed 
 -- ---- what is told of the plan
 
 -- by the descriptions that the code has
-pub planned-by : (entries : List Entry) (set : ℕ) (k : Tree) (width : ℕ) (ssa : Ssa) (ds xs : List Description) (matches : List Match) (packs : List Packed) (cost plain : ℕ)
+pub planned-by : (entries : List Entry) (set : ℕ) (k : Tree) (width : ℕ) (ssa : Ssa) (ds xs : List Description) (matches : List Match) (packs : List Pack) (cost plain : ℕ)
     → xs ≡ ds → IsNumbering k ssa → ssa.cuts ≡ [] → ds ≡ descriptions set entries → IsPlanned xs matches ssa width packs cost plain
     → IsPlanOf entries set k width packs cost plain
 planned-by entries set k width ssa ds xs matches packs cost plain slice is uncut listed planned = (

@@ -6,7 +6,7 @@ use Rattle.vg_kernel.specs.Tree.{Tree}
 use Rattle.vg_ssa.specs.Cuts.{HasCuts}
 use Rattle.vg_ssa.specs.Numbering.{IsNumbering}
 use Rattle.vg_shapes.specs.declared.match_table.Match.{Match}
-use Rattle.vg_shapes.specs.declared.pack.Pack.{Pack as Packed}
+use Rattle.vg_shapes.specs.declared.pack.Pack.{Pack}
 use Rattle.vg_shapes.specs.declared.ssa.Ssa.{Ssa}
 use Rattle.vg_shapes.specs.Bindings.{BindsInOrder}
 use Rattle.vg_shapes.specs.Depends.{dependences}
@@ -15,10 +15,10 @@ use Rattle.vg_shapes.specs.Matches.{AreMatches}
 use Rattle.vg_shapes.specs.MatchTable.{IsTable}
 use Rattle.vg_plans.specs.Members.{AllDiffer, Every}
 use Rattle.vg_plans.specs.World.{same_packs}
-use Rattle.vg_packing.specs.Completed.{aligned_plain_of, careful_of, chosen_fed_of}
-use Rattle.vg_packing.specs.Fed.{fed_aligned, packing_by}
-use Rattle.vg_packing.specs.Laws as plan
-use Rattle.vg_packing.specs.Packing.{chosen_of, packing, plain_of}
+use Rattle.vg_kernel_plans.specs.Completed.{aligned_plain_of, careful_of, chosen_fed_of}
+use Rattle.vg_kernel_plans.specs.Fed.{fed_aligned, packing_by}
+use Rattle.vg_kernel_plans.specs.Laws as plan
+use Rattle.vg_kernel_plans.specs.Packing.{chosen_of, packing, plain_of}
 use Rattle.vg_plan_relations.specs.Plans.{IsPlanByNodes, IsPlanByNodesBy}
 
 -- the table of all matches of descriptions with the values of a kernel, each with its leaves bound in order
@@ -28,17 +28,17 @@ pub record IsTableOf (ds : List Description) (ssa : Ssa) (matches : List Match) 
   pub bindings : AllByRecursion (BindsInOrder ds) matches
 
 -- what a plan costs
-abbrev pub cost_of : List Description → List Match → Ssa → List Packed → ℕ
+abbrev pub cost_of : List Description → List Match → Ssa → List Pack → ℕ
 cost_of ds matches ssa packs = plan.cost_of ds matches ssa (dependences ssa) packs
 
 -- the plain plan
-abbrev pub plain_of_units : List Description → List Match → Ssa → List Packed
+abbrev pub plain_of_units : List Description → List Match → Ssa → List Pack
 plain_of_units ds matches ssa = plain_of ds matches ssa (dependences ssa)
 
 -- more than so many plans of this number of packs, no two of the same packs
 abbrev pub IsCrowded : List Description → List Match → Ssa → ℕ → ℕ → Type 0
 IsCrowded ds matches ssa width size =
-    (plans : List (List Packed)) × (width < length plans)
+    (plans : List (List Pack)) × (width < length plans)
     × Every (λ packs. IsPlanByNodes ds matches ssa packs × (length packs ≡ size)) plans
     × AllDiffer (same_packs (packing ds matches ssa (dependences ssa))) plans
 
@@ -47,7 +47,7 @@ IsCrowded ds matches ssa width size =
 abbrev pub IsOptimalCost : List Description → List Match → Ssa → ℕ → ℕ → Type 0
 IsOptimalCost ds matches ssa width cost =
     length ssa.units ≤ 256 →
-    (packs : List Packed) → IsPlanByNodes ds matches ssa packs →
+    (packs : List Pack) → IsPlanByNodes ds matches ssa packs →
     ((size : ℕ) → size < length packs → IsCrowded ds matches ssa width size → ⊥) →
     cost ≤ cost_of ds matches ssa packs
 
@@ -55,7 +55,7 @@ IsOptimalCost ds matches ssa width cost =
 -- nodes, and costs at most as much as the plain plan, as a line for each unit and, in a kernel of few units,
 -- as any plan where no lesser size is crowded.
 pub record IsChosenPlan
-    (ds : List Description) (matches : List Match) (ssa : Ssa) (width : ℕ) (packs : List Packed)
+    (ds : List Description) (matches : List Match) (ssa : Ssa) (width : ℕ) (packs : List Pack)
     : Type 0 where
   pub table : IsTableOf ds ssa matches
   pub is : packs ≡ chosen_of ds matches ssa (dependences ssa) width
@@ -67,13 +67,13 @@ pub record IsChosenPlan
 -- ---- that load groups may feed
 
 -- a plan of aligned store groups, of producers and of load groups that feed, by its packs, units and nodes
-abbrev pub IsAlignedFedPlan : List Description → List Match → Ssa → List Packed → Type 0
+abbrev pub IsAlignedFedPlan : List Description → List Match → Ssa → List Pack → Type 0
 IsAlignedFedPlan ds matches ssa packs = IsPlanByNodesBy fed_aligned ds matches ssa packs
 
 -- more than so many of them of this number of packs, no two of the same packs
 abbrev pub IsCrowdedFed : List Description → List Match → Ssa → ℕ → ℕ → Type 0
 IsCrowdedFed ds matches ssa width size =
-    (plans : List (List Packed)) × (width < length plans)
+    (plans : List (List Pack)) × (width < length plans)
     × Every (λ packs. IsAlignedFedPlan ds matches ssa packs × (length packs ≡ size)) plans
     × AllDiffer (same_packs (packing_by fed_aligned ds matches ssa (dependences ssa))) plans
 
@@ -82,7 +82,7 @@ IsCrowdedFed ds matches ssa width size =
 abbrev pub IsOptimalFedCost : List Description → List Match → Ssa → ℕ → ℕ → Type 0
 IsOptimalFedCost ds matches ssa width cost =
     length ssa.units ≤ 256 →
-    (packs : List Packed) → IsAlignedFedPlan ds matches ssa packs →
+    (packs : List Pack) → IsAlignedFedPlan ds matches ssa packs →
     ((size : ℕ) → size < length packs → IsCrowdedFed ds matches ssa width size → ⊥) →
     cost ≤ cost_of ds matches ssa packs
 
@@ -90,7 +90,7 @@ IsOptimalFedCost ds matches ssa width cost =
 -- and nodes, and costs at most as much as the plain plan of the aligned store groups, as the careful plain
 -- plan, as a line for each unit and, in a kernel of few units, as any fed plan where no lesser size is crowded.
 pub record IsChosenFedPlan
-    (ds : List Description) (matches : List Match) (ssa : Ssa) (width : ℕ) (packs : List Packed)
+    (ds : List Description) (matches : List Match) (ssa : Ssa) (width : ℕ) (packs : List Pack)
     : Type 0 where
   pub table : IsTableOf ds ssa matches
   pub is : packs ≡ chosen_fed_of ds matches ssa (dependences ssa) width
@@ -110,7 +110,7 @@ pub record IsChosenFedPlan
 pub record KernelPlan : Type 0 where
   pub ssa : Ssa
   pub matches : List Match
-  pub packs : List Packed
+  pub packs : List Pack
 
 -- what it costs
 abbrev pub price_of : List Description → KernelPlan → ℕ

@@ -8,7 +8,7 @@ use Rattle.vg_program.specs.declared.program.Program.{Program}
 use Rattle.vg_program.specs.Cost.{cost_of}
 use Rattle.vg_program.specs.Valid.{IsValid}
 use Rattle.vg_emission.specs.Fit.{CallsDescribed}
-use Rattle.vg_instances.specs.Descriptions.{descriptions}
+use Rattle.vg_descriptions.specs.Descriptions.{descriptions}
 use Rattle.vg_compile.specs.Chosen.{KernelPlan, IsChosenFor}
 use Rattle.vg_compile.specs.Emitted.{IsProgramOf}
 use Rattle.vg_compile.specs.Means.{Means}

@@ -8,7 +8,7 @@ use Rattle.vg_program.specs.Meaning.{Instructions}
 use Rattle.vg_program.specs.Valid.{KeepsRules}
 use Rattle.vg_shapes.specs.declared.match_table.Match.{Match}
 use Rattle.vg_shapes.specs.declared.order.Node.{Node}
-use Rattle.vg_shapes.specs.declared.pack.Pack.{Pack as Packed}
+use Rattle.vg_shapes.specs.declared.pack.Pack.{Pack}
 use Rattle.vg_shapes.specs.declared.ssa.Ssa.{Ssa}
 use Rattle.vg_shapes.specs.Description.{Description}
 use Rattle.vg_shapes.specs.Nodes.{IsOrder}
@@ -21,7 +21,7 @@ use Rattle.vg_compile.specs.Chosen as plans
 use Rattle.vg_compile.specs.Chosen.{IsChosenPlan, KernelPlan, price_of}
 
 -- the program of a plan in one of its legal orders
-abbrev pub IsEmitted : List Description → List Match → Ssa → List Packed → Program → Type 0
+abbrev pub IsEmitted : List Description → List Match → Ssa → List Pack → Program → Type 0
 IsEmitted ds matches ssa packs p =
     (order : List Node) × IsOrder ssa matches packs order
     × (p ≡ planned_program ds matches ssa packs order)
@@ -35,7 +35,7 @@ pub record IsProgramOf (ds : List Description) (plan : KernelPlan) (p : Program)
 -- what it costs.
 pub record IsChosenProgram (ds : List Description) (ssa : Ssa) (width : ℕ) (p : Program) : Type 0 where
   pub matches : List Match
-  pub packs : List Packed
+  pub packs : List Pack
   pub chosen : IsChosenPlan ds matches ssa width packs
   pub emitted : IsEmitted ds matches ssa packs p
   pub cost : cost_of p ≡ plans.cost_of ds matches ssa packs

@@ -1,14 +1,14 @@
 -- What programs of kernels promise.
 use Rattle.std.specs.Prelude.{◌≡◌, ◌≤◌, ℕ, true, List, map}
 use Rattle.vg_catalog.specs.Entries.{Entry}
-use Rattle.vg_instances.specs.Descriptions.{descriptions}
+use Rattle.vg_descriptions.specs.Descriptions.{descriptions}
 use Rattle.vg_kernel.specs.Tree.{Tree}
 use Rattle.vg_program.specs.declared.program.Program.{Program}
 use Rattle.vg_program.specs.Cost.{cost_of}
 use Rattle.vg_program.specs.Meaning.{Instructions}
 use Rattle.vg_shapes.specs.declared.ssa.Ssa.{Ssa}
 use Rattle.vg_shapes.specs.Depends.{dependences}
-use Rattle.vg_packing.specs.Completed.{careful_of}
+use Rattle.vg_kernel_plans.specs.Completed.{careful_of}
 use Rattle.vg_ssa.specs.Numbering.{IsNumbering}
 use Rattle.vg_ssa.specs.StandsFor.{StandsFor}
 use Rattle.vg_emission.specs.Laws.{MeansUnits}

@@ -4,7 +4,7 @@ use Rattle.vg_catalog.specs.Entries.{Entry}
 use Rattle.vg_kernel.specs.Cost.{scalar_cost}
 use Rattle.vg_kernel.specs.Tree.{Tree}
 use Rattle.vg_shapes.specs.declared.match_table.Match.{Match}
-use Rattle.vg_shapes.specs.declared.pack.Pack.{Pack as Packed}
+use Rattle.vg_shapes.specs.declared.pack.Pack.{Pack}
 use Rattle.vg_shapes.specs.declared.ssa.Ssa.{Ssa}
 use Rattle.vg_shapes.specs.Depends.{dependences}
 use Rattle.vg_shapes.specs.Description.{Description}
@@ -12,7 +12,7 @@ use Rattle.vg_shapes.specs.Sound.{IsSound}
 use Rattle.vg_plan_text.specs.declared.costs.Costs.{Costs}
 use Rattle.vg_plan_text.specs.PlanText.{plan_text}
 use Rattle.vg_ssa.specs.StandsFor.{StandsFor}
-use Rattle.vg_instances.specs.Descriptions.{descriptions}
+use Rattle.vg_descriptions.specs.Descriptions.{descriptions}
 use Rattle.vg_compile.specs.declared.more_plans.FedPlan.{FedPlan}
 use Rattle.vg_compile.specs.declared.more_plans.PlannedValues.{PlannedValues}
 use Rattle.vg_compile.specs.Chosen.{IsChosenPlan, KernelPlan, IsChosenFor, AreWhole, IsTableOf, cost_of, price_of, plain_of_units}
@@ -21,7 +21,7 @@ use Rattle.vg_compile.specs.Means.{param_of}
 -- The chosen plan of numbered values, where the search keeps so many plans of each size, with what it and
 -- the plain plan cost: at most that of the plain plan, and at most a line for each unit.
 pub record IsPlanned
-    (ds : List Description) (matches : List Match) (ssa : Ssa) (width : ℕ) (packs : List Packed)
+    (ds : List Description) (matches : List Match) (ssa : Ssa) (width : ℕ) (packs : List Pack)
     (cost plain : ℕ)
     : Type 0 where
   pub chosen : IsChosenPlan ds matches ssa width packs
@@ -77,7 +77,7 @@ pub record IsPlannedMore
   pub deps : v.planned.chosen.deps ≡ dependences v.ssa
 
 -- the chosen plan of a kernel, which may call the instances of the entries in a set of extensions
-abbrev pub IsPlanOf : List Entry → ℕ → Tree → ℕ → List Packed → ℕ → ℕ → Type 0
+abbrev pub IsPlanOf : List Entry → ℕ → Tree → ℕ → List Pack → ℕ → ℕ → Type 0
 IsPlanOf entries set k width packs cost plain =
     (ssa : Ssa) × (matches : List Match)
     × IsPlannedFor false (descriptions set entries) k width

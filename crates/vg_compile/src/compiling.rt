@@ -12,7 +12,7 @@ use crate::more_plans::plan_more;
 use crate::units::compile_units;
 use std::alloc::{AllocError, Global};
 use vg_catalog::{Catalog, Extensions};
-use vg_instances::descriptions_of;
+use vg_descriptions::descriptions_of;
 use vg_kernel::Kernel;
 use vg_program::Program;
 use vg_ssa::number_values;

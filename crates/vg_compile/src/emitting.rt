@@ -2,7 +2,7 @@
 
 ghost use Rattle.std.specs.Prelude.{◌≡◌, IfOk, map};
 ghost use Rattle.vg_compile.specs.Emitted.{IsEmitted};
-ghost use Rattle.vg_packing.specs.Fed.{IsFedPlanFor};
+ghost use Rattle.vg_kernel_plans.specs.Fed.{IsFedPlanFor};
 ghost use Rattle.vg_plan_laws.specs.Laws.{AreKnown};
 ghost use Rattle.vg_shapes.specs.Depends.{dependences};
 ghost use Rattle.vg_shapes.specs.Description.{description_of};

@@ -15,7 +15,7 @@ use crate::params::params_of;
 use crate::planning::{Planned, plan_units};
 use std::alloc::{AllocError, Global};
 use vg_catalog::{Catalog, Extensions};
-use vg_instances::descriptions_of;
+use vg_descriptions::descriptions_of;
 use vg_kernel::{Kernel, scalar_cost};
 use vg_plan_text::{Costs, print_plan};
 use vg_shapes::{Description, Ssa};

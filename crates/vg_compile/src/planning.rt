@@ -6,7 +6,7 @@ ghost use Rattle.vg_catalog.specs.Catalogs.{entries_in};
 ghost use Rattle.vg_catalog.specs.Extensions.{bits_in};
 ghost use Rattle.vg_compile.specs.Planned.{IsPlanOf, IsPlanned};
 ghost use Rattle.vg_emission.specs.Truth.{IsCallable};
-ghost use Rattle.vg_instances.specs.Descriptions.{AreOf, descriptions};
+ghost use Rattle.vg_descriptions.specs.Descriptions.{AreOf, descriptions};
 ghost use Rattle.vg_kernel.specs.Cost.{scalar_cost};
 ghost use Rattle.vg_kernel.specs.Tree.{tree_of};
 ghost use Rattle.vg_kernel.specs.WellFormed.{IsWellFormed};
@@ -18,7 +18,7 @@ use crate::choosing::{ChosenPlan, choose_plan};
 use std::alloc::{AllocError, Global};
 use vg_catalog::{Catalog, Extensions};
 use vg_cost::plan_cost;
-use vg_instances::descriptions_of;
+use vg_descriptions::descriptions_of;
 use vg_kernel::{Kernel, scalar_cost};
 use vg_packs::plain_plan;
 use vg_shapes::{Description, Plan, Ssa};
@@ -42,8 +42,8 @@ pub(crate) fn plan_units(
 ) -> Result<Planned, AllocError>
     requires sound { IsSound ssa.now }
     requires callable { AllByRecursion IsCallable (map description_of descriptions.now) }
-    ensures planned { IfOk result (λ p. IsPlanned (map description_of descriptions.now) p.chosen.table
-        ssa.now width p.chosen.plan p.cost p.plain) }
+    ensures planned { IfOk result (λ p. IsPlanned (map description_of descriptions.now)
+        p.chosen.table ssa.now width p.chosen.plan p.cost p.plain) }
     ensures deps { IfOk result (λ p. p.chosen.deps ≡ dependences ssa.now) }
 {
     let chosen = choose_plan(alloc, descriptions, ssa, width)?;

@@ -13,13 +13,13 @@ use Rattle.vg_plans.proofs.Onto.{onto-append, onto-distinct}
 use Rattle.vg_plans.proofs.Running.{inserted-keeps, recipe-keeps}
 use Rattle.vg_shapes.specs.declared.match_table.Match.{Match}
 use Rattle.vg_shapes.specs.declared.operand.Operand.{Operand}
-use Rattle.vg_shapes.specs.declared.pack.Pack.{Pack as Packed}
+use Rattle.vg_shapes.specs.declared.pack.Pack.{Pack}
 use Rattle.vg_shapes.specs.declared.ssa.Ssa.{Ssa}
 use Rattle.vg_shapes.specs.Description.{Description}
-use Rattle.vg_packing.specs.Packing.{falling_units, packing, price_of}
-use Rattle.vg_packing.specs.SameAs.{same_operand}
-use Rattle.vg_packing.specs.Taken.{IsShort, operands_of}
-use Rattle.vg_packing.specs.Wants.{wanted_values}
+use Rattle.vg_kernel_plans.specs.Packing.{falling_units, packing, price_of}
+use Rattle.vg_kernel_plans.specs.SameAs.{same_operand}
+use Rattle.vg_kernel_plans.specs.Taken.{IsShort, operands_of}
+use Rattle.vg_kernel_plans.specs.Wants.{wanted_values}
 use Rattle.vg_cost.specs.declared.recipe_cost.RecipeCost.{RecipeCost}
 use Rattle.vg_cost.specs.declared.taken.Taken.{Taken}
 use Rattle.vg_cost.specs.declared.running.Running.{Running}
@@ -41,7 +41,7 @@ abbrev of_two : ℕ → Bool → RecipeCost
 of_two lines flag = record { lines = lines; is_inserted = flag }
 
 -- a recipe stays where the new pack has none of the operand's values
-keeps : (ds : List Description) (ssa : Ssa) (plan : List Packed) (p : Packed) (o : Operand) → is_touched p o ≡ false
+keeps : (ds : List Description) (ssa : Ssa) (plan : List Pack) (p : Pack) (o : Operand) → is_touched p o ≡ false
     → recipe_for ds ssa (plan ++ p ∷ []) o ≡ recipe_for ds ssa plan o
 keeps ds ssa plan p o f =
     let w = packing ds [] ssa [] in
@@ -50,29 +50,29 @@ keeps ds ssa plan p o f =
     ap (λ c. of_two c (nat_lt 0 (length (inserted w (plan ++ p ∷ []) o)))) (recipe-keeps w own plan p o other)
     ∙ ap (λ l. of_two (recipe_cost w plan o) (nat_lt 0 (length l))) (inserted-keeps w own plan p o other)
 
-pub known-by : (ds : List Description) (ssa : Ssa) (plan : List Packed) (p : Packed) (own : List Bool) (os : List Operand)
+pub known-by : (ds : List Description) (ssa : Ssa) (plan : List Pack) (p : Pack) (own : List Bool) (os : List Operand)
     → Has (length own) (units_of p) own
     → AllByRecursion (IsKnownBy ds ssa (plan ++ p ∷ []) own) (map (taken_for ds ssa plan) os)
 known-by ds ssa plan p own [] h = tt
 known-by ds ssa plan p own (o ∷ os) h =
     ((λ f. sym (keeps ds ssa plan p o (untouched p own o h f))), known-by ds ssa plan p own os h)
 
-pub kept-map : (ds : List Description) (ssa : Ssa) (plan longer : List Packed) (os : List Operand)
+pub kept-map : (ds : List Description) (ssa : Ssa) (plan longer : List Pack) (os : List Operand)
     → map (kept_for ds ssa longer) (map (taken_for ds ssa plan) os) ≡ map (taken_for ds ssa longer) os
 kept-map ds ssa plan longer [] = refl
 kept-map ds ssa plan longer (o ∷ os) = ap (λ l. taken_for ds ssa longer o ∷ l) (kept-map ds ssa plan longer os)
 
-any-known : (ds : List Description) (ssa : Ssa) (plan : List Packed) (x : Operand) (os : List Operand)
+any-known : (ds : List Description) (ssa : Ssa) (plan : List Pack) (x : Operand) (os : List Operand)
     → list_any (λ t. same_operand x t.operand) (map (taken_for ds ssa plan) os) ≡ list_any (same_operand x) os
 any-known ds ssa plan x [] = refl
 any-known ds ssa plan x (o ∷ os) = rw (any-known ds ssa plan x os) refl
 
-map-push : (ds : List Description) (ssa : Ssa) (plan : List Packed) (os : List Operand) (x : Operand)
+map-push : (ds : List Description) (ssa : Ssa) (plan : List Pack) (os : List Operand) (x : Operand)
     → map (taken_for ds ssa plan) (os ++ x ∷ []) ≡ map (taken_for ds ssa plan) os ++ taken_for ds ssa plan x ∷ []
 map-push ds ssa plan [] x = refl
 map-push ds ssa plan (o ∷ os) x = ap (λ l. taken_for ds ssa plan o ∷ l) (map-push ds ssa plan os x)
 
-added : (ds : List Description) (ssa : Ssa) (plan : List Packed) (os : List Operand) (x : Operand)
+added : (ds : List Description) (ssa : Ssa) (plan : List Pack) (os : List Operand) (x : Operand)
     → add_taken (taken_for ds ssa plan) (map (taken_for ds ssa plan) os) x
     ≡ map (taken_for ds ssa plan) (if list_any (same_operand x) os then os else os ++ x ∷ [])
 added ds ssa plan os x = rw (any-known ds ssa plan x os) (elim (cases_Bool (list_any (same_operand x) os)) [
@@ -81,7 +81,7 @@ added ds ssa plan os x = rw (any-known ds ssa plan x os) (elim (cases_Bool (list
 ])
 
 -- operands that are added are those of the longer plan
-pub onto-taken : (ds : List Description) (ssa : Ssa) (plan : List Packed) (os xs : List Operand)
+pub onto-taken : (ds : List Description) (ssa : Ssa) (plan : List Pack) (os xs : List Operand)
     → add_all (taken_for ds ssa plan) (map (taken_for ds ssa plan) os) xs
     ≡ map (taken_for ds ssa plan) (distinct_onto same_operand os xs)
 onto-taken ds ssa plan os [] = refl
@@ -89,7 +89,7 @@ onto-taken ds ssa plan os (x ∷ xs) =
     ap (λ l. add_all (taken_for ds ssa plan) l xs) (added ds ssa plan os x)
     ∙ onto-taken ds ssa plan (if list_any (same_operand x) os then os else os ++ x ∷ []) xs
 
-pub operands-push : (ds : List Description) (matches : List Match) (ssa : Ssa) (plan : List Packed) (p : Packed)
+pub operands-push : (ds : List Description) (matches : List Match) (ssa : Ssa) (plan : List Pack) (p : Pack)
     → distinct_onto same_operand (operands (packing ds matches ssa []) plan) (operands_of ds matches ssa p)
     ≡ operands (packing ds matches ssa []) (plan ++ p ∷ [])
 operands-push ds matches ssa plan p =
@@ -101,7 +101,7 @@ operands-push ds matches ssa plan p =
     ∙ ap (distinct_onto same_operand []) (sym (flat_map-append f plan (p ∷ [])))
     ∙ onto-distinct same_operand (flat_map f (plan ++ p ∷ []))
 
-known-lines : (ds : List Description) (ssa : Ssa) (plan : List Packed) (os : List Operand)
+known-lines : (ds : List Description) (ssa : Ssa) (plan : List Pack) (os : List Operand)
     → sum_by (λ t. t.recipe.lines) (map (taken_for ds ssa plan) os) ≡ sum_by (recipe_cost (packing ds [] ssa []) plan) os
 known-lines ds ssa plan [] = refl
 known-lines ds ssa plan (o ∷ os) =
@@ -118,7 +118,7 @@ by-flag false (v ∷ vs) = elim (cases_Bool (nat_lt 0 (length (v ∷ vs)))) [
   | inr f ↦ absurd (grind (arith, nat_tests, f))
 ]
 
-known-values : (ds : List Description) (ssa : Ssa) (plan : List Packed) (os : List Operand)
+known-values : (ds : List Description) (ssa : Ssa) (plan : List Pack) (os : List Operand)
     → flat_map inserted_for (map (taken_for ds ssa plan) os) ≡ flat_map (inserted (packing ds [] ssa []) plan) os
 known-values ds ssa plan [] = refl
 known-values ds ssa plan (o ∷ os) =
@@ -127,7 +127,7 @@ known-values ds ssa plan (o ∷ os) =
 
 -- what is known of a plan tells its cost
 pub known-cost : (ds : List Description) (matches : List Match) (ssa : Ssa) (deps : List (ℕ × ℕ))
-    (plan : List Packed) (price cost : ℕ) (ts : List Taken)
+    (plan : List Pack) (price cost : ℕ) (ts : List Taken)
     → price ≡ sum_by (price_of ds) plan
     → ts ≡ map (taken_for ds ssa plan) (operands (packing ds matches ssa []) plan)
     → cost ≡ price + sum_by (λ t. t.recipe.lines) ts
@@ -140,13 +140,13 @@ known-cost ds matches ssa deps plan price cost ts p t c =
     (ap (sum_by (λ t. t.recipe.lines)) t ∙ known-lines ds ssa plan os)
     (ap (flat_map inserted_for) t ∙ known-values ds ssa plan os) refl refl
 
-any-kept : (ds : List Description) (ssa : Ssa) (plan : List Packed) (x : Operand) (ts : List Taken)
+any-kept : (ds : List Description) (ssa : Ssa) (plan : List Pack) (x : Operand) (ts : List Taken)
     → list_any (λ t. same_operand x t.operand) (map (kept_for ds ssa plan) ts) ≡ list_any (λ t. same_operand x t.operand) ts
 any-kept ds ssa plan x [] = refl
 any-kept ds ssa plan x (t ∷ ts) = ap (λ b. same_operand x t.operand || b) (any-kept ds ssa plan x ts)
 
 -- an operand is there where it is among those that are kept or the fresh ones
-pub there : (ds : List Description) (ssa : Ssa) (plan : List Packed) (x : Operand) (ts fresh : List Taken) (b : Bool)
+pub there : (ds : List Description) (ssa : Ssa) (plan : List Pack) (x : Operand) (ts fresh : List Taken) (b : Bool)
     → b ≡ (list_any (λ t. same_operand x t.operand) ts || list_any (λ t. same_operand x t.operand) fresh)
     → list_any (λ t. same_operand x t.operand) (map (kept_for ds ssa plan) ts ++ fresh) ≡ b
 there ds ssa plan x ts fresh b e =
@@ -164,7 +164,7 @@ pub not_added : (know : Operand → Taken) (ts : List Taken) (o : Operand) → l
 not_added know ts o t = rw t refl
 
 -- what is kept of the operands of a plan, and those of the pack, are those of the longer plan
-pub taken-longer : (ds : List Description) (matches : List Match) (ssa : Ssa) (plan : List Packed) (p : Packed)
+pub taken-longer : (ds : List Description) (matches : List Match) (ssa : Ssa) (plan : List Pack) (p : Pack)
     (old : List Taken) (os : List Operand) → old ≡ taken_by ds matches ssa plan → os ≡ operands_of ds matches ssa p
     → add_all (taken_for ds ssa (plan ++ p ∷ [])) (map (kept_for ds ssa (plan ++ p ∷ [])) old) os
     ≡ taken_by ds matches ssa (plan ++ p ∷ [])
@@ -176,7 +176,7 @@ taken-longer ds matches ssa plan p old os e own =
     ∙ onto-taken ds ssa longer before (operands_of ds matches ssa p)
     ∙ ap (map (taken_for ds ssa longer)) (operands-push ds matches ssa plan p)
 
-sum-kept : (ds : List Description) (ssa : Ssa) (longer : List Packed) (ts : List Taken)
+sum-kept : (ds : List Description) (ssa : Ssa) (longer : List Pack) (ts : List Taken)
     → sum_by (λ t. (kept_for ds ssa longer t).recipe.lines) ts ≡ sum_by (λ t. t.recipe.lines) (map (kept_for ds ssa longer) ts)
 sum-kept ds ssa longer [] = refl
 sum-kept ds ssa longer (t ∷ ts) =
@@ -184,7 +184,7 @@ sum-kept ds ssa longer (t ∷ ts) =
     ∙ ap (λ n. (kept_for ds ssa longer t).recipe.lines + n) (sum-kept ds ssa longer ts)
     ∙ sym (sum_by-cons (λ t. t.recipe.lines) (kept_for ds ssa longer t) (map (kept_for ds ssa longer) ts))
 
-values-kept : (ds : List Description) (ssa : Ssa) (longer : List Packed) (ts : List Taken)
+values-kept : (ds : List Description) (ssa : Ssa) (longer : List Pack) (ts : List Taken)
     → flat_map (λ t. inserted_for (kept_for ds ssa longer t)) ts ≡ flat_map inserted_for (map (kept_for ds ssa longer) ts)
 values-kept ds ssa longer [] = refl
 values-kept ds ssa longer (t ∷ ts) = ap (λ l. inserted_for (kept_for ds ssa longer t) ++ l) (values-kept ds ssa longer ts)
@@ -198,13 +198,13 @@ sum-both (x ∷ xs) ys =
     let rest = sum-both xs ys in
     omega (arith, one, more, rest)
 
-pub price-longer : (ds : List Description) (matches : List Match) (ssa : Ssa) (old : Running) (p : Packed) (price : ℕ)
+pub price-longer : (ds : List Description) (matches : List Match) (ssa : Ssa) (old : Running) (p : Pack) (price : ℕ)
     → StandsFor ds matches ssa old → price ≡ old.price + price_of ds p → price ≡ sum_by (price_of ds) (old.packs.items ++ p ∷ [])
 price-longer ds matches ssa old p price s e =
     e ∙ ap (λ n. n + price_of ds p) s.price ∙ sym (sum_by_push (price_of ds) old.packs.items p)
 
 -- what is kept of the operands and the fresh ones are counted as those of the longer plan
-module _ (ds : List Description) (matches : List Match) (ssa : Ssa) (plan : List Packed) (p : Packed) (old fresh : List Taken)
+module _ (ds : List Description) (matches : List Match) (ssa : Ssa) (plan : List Pack) (p : Pack) (old fresh : List Taken)
     (all : map (kept_for ds ssa (plan ++ p ∷ [])) old ++ fresh ≡ taken_by ds matches ssa (plan ++ p ∷ [])) where
   pub sum-longer : (kept added sum : ℕ) → kept ≡ sum_by (λ t. (kept_for ds ssa (plan ++ p ∷ []) t).recipe.lines) old
       → added ≡ sum_by (λ t. t.recipe.lines) fresh → sum ≡ kept + added
@@ -226,7 +226,7 @@ module _ (ds : List Description) (matches : List Match) (ssa : Ssa) (plan : List
       (marked_more _ _ a b c m n)
 
 -- the cost by the marks is that of the plan
-pub costs-longer : (ds : List Description) (matches : List Match) (ssa : Ssa) (deps : List (ℕ × ℕ)) (old : Running) (p : Packed)
+pub costs-longer : (ds : List Description) (matches : List Match) (ssa : Ssa) (deps : List (ℕ × ℕ)) (old : Running) (p : Pack)
     (longer clear needed : List Bool) (price recipes cost count : ℕ)
     → StandsFor ds matches ssa old → count ≡ arguments ssa + length ssa.units
     → Has (arguments ssa + length ssa.units) (flat_map units_of (old.packs.items ++ p ∷ [])) longer
@@ -258,7 +258,7 @@ stands-empty ds matches ssa r e t known p c = record {
 }
 
 -- the longer plan: its packs, what is known of its operands, and its cost
-pub stands-longer : (ds : List Description) (matches : List Match) (ssa : Ssa) (old : Running) (p : Packed) (r : Running)
+pub stands-longer : (ds : List Description) (matches : List Match) (ssa : Ssa) (old : Running) (p : Pack) (r : Running)
     → StandsFor ds matches ssa old → IsShort p
     → r.shuffles.numbers.items ≡ old.shuffles.numbers.items → r.shuffles.are_tight ≡ old.shuffles.are_tight
     → r.packs.items ≡ old.packs.items ++ p ∷ []

@@ -6,15 +6,15 @@ use Rattle.std.proofs.lemmas.Bool.{cases_Bool}
 use Rattle.std.proofs.lemmas.List.{append-nil}
 use Rattle.vg_plans.specs.World.{can_shuffle, inserted, is_reused, least_shuffle, recipe_cost}
 use Rattle.vg_shapes.specs.declared.operand.Operand.{Operand}
-use Rattle.vg_shapes.specs.declared.pack.Pack.{Pack as Packed}
+use Rattle.vg_shapes.specs.declared.pack.Pack.{Pack}
 use Rattle.vg_shapes.specs.declared.ssa.Ssa.{Ssa}
 use Rattle.vg_shapes.specs.Description.{Description}
-use Rattle.vg_packing.specs.Packing.{packing}
-use Rattle.vg_packing.specs.Shuffles.{shuffles}
-use Rattle.vg_packing.specs.Wants.{is_constant, wanted_values}
+use Rattle.vg_kernel_plans.specs.Packing.{packing}
+use Rattle.vg_kernel_plans.specs.Shuffles.{shuffles}
+use Rattle.vg_kernel_plans.specs.Wants.{is_constant, wanted_values}
 use Rattle.vg_cost.specs.Had.{costs_had, least_of}
 
-pub least_had : (ds : List Description) (ssa : Ssa) (plan : List Packed) (cost : ℕ) (ss : List (ℕ × List Operand))
+pub least_had : (ds : List Description) (ssa : Ssa) (plan : List Pack) (cost : ℕ) (ss : List (ℕ × List Operand))
     → least_of cost (costs_had ds ssa plan ss) ≡ least_shuffle (packing ds [] ssa []) plan cost ss
 least_had ds ssa plan cost [] = refl
 least_had ds ssa plan cost (s ∷ ss) = elim (cases_Bool (can_shuffle (packing ds [] ssa []) plan s)) [
@@ -22,7 +22,7 @@ least_had ds ssa plan cost (s ∷ ss) = elim (cases_Bool (can_shuffle (packing d
   | inr f ↦ rw f (least_had ds ssa plan cost ss)
 ]
 
-pub some_had : (ds : List Description) (ssa : Ssa) (plan : List Packed) (ss : List (ℕ × List Operand))
+pub some_had : (ds : List Description) (ssa : Ssa) (plan : List Pack) (ss : List (ℕ × List Operand))
     → 0 < length (costs_had ds ssa plan ss) → list_any (can_shuffle (packing ds [] ssa []) plan) ss ≡ true
 some_had ds ssa plan [] h = absurd (omega arith)
 some_had ds ssa plan (s ∷ ss) h = elim (cases_Bool (can_shuffle (packing ds [] ssa []) plan s)) [
@@ -30,7 +30,7 @@ some_had ds ssa plan (s ∷ ss) h = elim (cases_Bool (can_shuffle (packing ds []
   | inr f ↦ rw f (some_had ds ssa plan ss (rw f at h))
 ]
 
-pub none_had : (ds : List Description) (ssa : Ssa) (plan : List Packed) (ss : List (ℕ × List Operand))
+pub none_had : (ds : List Description) (ssa : Ssa) (plan : List Pack) (ss : List (ℕ × List Operand))
     → length (costs_had ds ssa plan ss) ≤ 0 → list_any (can_shuffle (packing ds [] ssa []) plan) ss ≡ false
 none_had ds ssa plan [] h = refl
 none_had ds ssa plan (s ∷ ss) h = elim (cases_Bool (can_shuffle (packing ds [] ssa []) plan s)) [
@@ -38,7 +38,7 @@ none_had ds ssa plan (s ∷ ss) h = elim (cases_Bool (can_shuffle (packing ds []
   | inr f ↦ rw f (none_had ds ssa plan ss (rw f at h))
 ]
 
-module _ (ds : List Description) (ssa : Ssa) (plan : List Packed) (o : Operand)
+module _ (ds : List Description) (ssa : Ssa) (plan : List Pack) (o : Operand)
     (free : is_reused (packing ds [] ssa []) plan o ≡ false) (some : is_constant o ≡ false) where
   -- the least of what inserts and the shuffles that can be had cost
   pub cost_had : (inserts : ℕ) (costs : List ℕ) → inserts ≡ 1 + length (wanted_values o)

@@ -7,14 +7,14 @@ use Rattle.std.proofs.lemmas.Bool.Decides.{nat_tests}
 use Rattle.vg_plans.specs.World.{inserted, is_reused, recipe_cost}
 use Rattle.vg_shapes.specs.declared.operand.Operand.{Operand}
 use Rattle.vg_shapes.specs.declared.operand.Slot.{Slot}
-use Rattle.vg_shapes.specs.declared.pack.Pack.{Pack as Packed}
+use Rattle.vg_shapes.specs.declared.pack.Pack.{Pack}
 use Rattle.vg_shapes.specs.declared.ssa.Ssa.{Ssa}
 use Rattle.vg_shapes.specs.declared.wanted.Wanted.{Wanted}
 use Rattle.vg_shapes.specs.declared.wanted.Wanted.TheVariants.{Value, Constant, Nothing}
 use Rattle.vg_shapes.specs.Description.{Description}
-use Rattle.vg_packing.specs.Packing.{packing}
-use Rattle.vg_packing.specs.Shuffles.{shuffles}
-use Rattle.vg_packing.specs.Wants.{is_constant, value_of, wanted_values, wants_value}
+use Rattle.vg_kernel_plans.specs.Packing.{packing}
+use Rattle.vg_kernel_plans.specs.Shuffles.{shuffles}
+use Rattle.vg_kernel_plans.specs.Wants.{is_constant, value_of, wanted_values, wants_value}
 use Rattle.vg_cost.specs.declared.recipe_cost.RecipeCost.{RecipeCost}
 use Rattle.vg_cost.specs.Had.{costs_had, least_of}
 use Rattle.vg_cost.specs.Places.{are_met, is_met}
@@ -37,7 +37,7 @@ and-false : (b : Bool) → (b && false) ≡ false
 and-false true = refl
 and-false false = refl
 
-module _ (ds : List Description) (ssa : Ssa) (plan : List Packed) (o : Operand)
+module _ (ds : List Description) (ssa : Ssa) (plan : List Pack) (o : Operand)
     (free : is_reused (packing ds [] ssa []) plan o ≡ false) (some : is_constant o ≡ false)
     (costs : List ℕ) (e : costs ≡ costs_had ds ssa plan (shuffles ds o)) where
   inserts-them : (nat_lt 0 (length (wanted_values o)) && nat_eq (length costs) 0)
@@ -76,7 +76,7 @@ counted (s ∷ ss) = by-wanted s.wanted refl (counted ss) where
   by-wanted Nothing e h = rw e h
 
 -- a value that is in no pack is one
-some-value : (plan : List Packed) (ss : List Slot) → list_all (λ s. is_met plan s.wanted) ss ≡ false
+some-value : (plan : List Pack) (ss : List Slot) → list_all (λ s. is_met plan s.wanted) ss ≡ false
     → list_any (λ s. wants_value s.wanted) ss ≡ true
 some-value plan [] f = absurd (cc)
 some-value plan (s ∷ ss) f = by-wanted s.wanted refl (some-value plan ss) where
@@ -88,7 +88,7 @@ some-value plan (s ∷ ss) f = by-wanted s.wanted refl (some-value plan ss) wher
   by-wanted Nothing e h = rw e (h (rw e at f))
 
 -- inserts are all there is for an operand of which a value is in no pack
-pub unmet_is : (ds : List Description) (ssa : Ssa) (plan : List Packed) (o : Operand) → are_met plan o ≡ false
+pub unmet_is : (ds : List Description) (ssa : Ssa) (plan : List Pack) (o : Operand) → are_met plan o ≡ false
     → list_all is_tight ds ≡ true → inserts_for o ≡ recipe_for ds ssa plan o
 unmet_is ds ssa plan o f tight =
     let free = not-reused ds ssa plan o f in

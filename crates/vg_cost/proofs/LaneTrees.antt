@@ -6,7 +6,7 @@ use Rattle.std.proofs.lemmas.Option.{slice_get-get_or, slice_get-map, slice_get_
 use Rattle.vg_terms.specs.declared.term.Term.{Term}
 use Rattle.vg_terms.specs.Term.{tree}
 use Rattle.vg_shapes.specs.declared.operand.Slot.{Slot}
-use Rattle.vg_packing.specs.Shuffles.{moved_leaf}
+use Rattle.vg_kernel_plans.specs.Shuffles.{moved_leaf}
 
 pub lane_none : (lanes : List Term) (k : ℕ) (s : Slot) (moved : List (ℕ × Slot)) → length lanes ≤ k
     → moved ≡ moved ++ moved_leaf (slice_get (map tree lanes) k) s

@@ -10,36 +10,36 @@ use Rattle.std.specs.List.{list_any}
 use Rattle.std.proofs.lemmas.Bool.{cases_Bool}
 use Rattle.std.proofs.lemmas.List.Folds.{list_any-append}
 use Rattle.vg_plans.specs.World.{is_in, is_packed, scalar_lines}
-use Rattle.vg_shapes.specs.declared.pack.Pack.{Pack as Packed}
+use Rattle.vg_shapes.specs.declared.pack.Pack.{Pack}
 use Rattle.vg_shapes.specs.declared.ssa.Ssa.{Ssa}
-use Rattle.vg_shapes.specs.declared.unit.Unit.{Unit as Work}
+use Rattle.vg_shapes.specs.declared.ssa_unit.SsaUnit.{SsaUnit}
 use Rattle.vg_shapes.specs.Depends.{numbers_below}
 use Rattle.vg_shapes.specs.Layout.{access_of}
 use Rattle.vg_shapes.specs.Pack.{units_of}
 use Rattle.vg_shapes.specs.Units.{arguments, is_unit, unit_at}
-use Rattle.vg_packing.specs.Packing.{falling_units, packing, used_by}
+use Rattle.vg_kernel_plans.specs.Packing.{falling_units, packing, used_by}
 use Rattle.vg_cost.specs.Lines.{Costs, Lines, line_of, values_of}
 use Rattle.vg_cost.specs.Marks.{Has, Marked}
 
 -- a number is among the units of packs where a pack has it
-pub packed_by : (v : ℕ) (plan : List Packed) → is_in v (flat_map units_of plan) ≡ list_any (λ p. is_in v (units_of p)) plan
+pub packed_by : (v : ℕ) (plan : List Pack) → is_in v (flat_map units_of plan) ≡ list_any (λ p. is_in v (units_of p)) plan
 packed_by v [] = refl
 packed_by v (p ∷ plan) =
     list_any-append (nat_eq v) (units_of p) (flat_map units_of plan)
     ∙ ap (λ t. is_in v (units_of p) || t) (packed_by v plan)
 
 -- what the units below a number are worth, given what is packed and needed
-abbrev rest : Ssa → List Packed → List ℕ → ℕ → ℕ
+abbrev rest : Ssa → List Pack → List ℕ → ℕ → ℕ
 rest ssa plan needed n = scalar_lines (packing [] [] ssa []) plan needed (filter (is_unit ssa) (numbers_below n))
 
-abbrev by_case : List Packed → Ssa → List ℕ → ℕ → Option Work → Bool → Bool → ℕ
+abbrev by_case : List Pack → Ssa → List ℕ → ℕ → Option SsaUnit → Bool → Bool → ℕ
 by_case plan ssa needed v None packed here = rest ssa plan needed v
 by_case plan ssa needed v (Some u) packed here =
     if not packed && (is_some (access_of u) || here) then 1 + rest ssa plan (used_by (Some u) ++ needed) v
     else if packed && here then 1 + rest ssa plan needed v
     else rest ssa plan needed v
 
-at_case : (plan : List Packed) (ssa : Ssa) (needed : List ℕ) (v : ℕ) (unit : Option Work) (packed here : Bool)
+at_case : (plan : List Pack) (ssa : Ssa) (needed : List ℕ) (v : ℕ) (unit : Option SsaUnit) (packed here : Bool)
     → by_case plan ssa needed v unit packed here ≡ line_of unit packed here + rest ssa plan (values_of unit packed here ++ needed) v
 at_case plan ssa needed v None packed here = omega arith
 at_case plan ssa needed v (Some u) packed here =
@@ -48,14 +48,14 @@ at_case plan ssa needed v (Some u) packed here =
       | inr f ↦ rw f (elim (cases_Bool (packed && here)) [ inl t ↦ rw t refl | inr g ↦ rw g (omega arith) ])
     ]
 
-opened : (plan : List Packed) (ssa : Ssa) (needed : List ℕ) (v : ℕ) (unit : Option Work) → unit_at ssa v ≡ unit
+opened : (plan : List Pack) (ssa : Ssa) (needed : List ℕ) (v : ℕ) (unit : Option SsaUnit) → unit_at ssa v ≡ unit
     → rest ssa plan needed (suc v)
     ≡ by_case plan ssa needed v unit (is_packed (packing [] [] ssa []) plan v) (is_in v needed)
 opened plan ssa needed v None e = rw e refl
 opened plan ssa needed v (Some u) e = rw e (rw e refl)
 
 -- what is left with one unit more
-pub step : (plan : List Packed) (ssa : Ssa) (needed : List ℕ) (v : ℕ)
+pub step : (plan : List Pack) (ssa : Ssa) (needed : List ℕ) (v : ℕ)
     → rest ssa plan needed (suc v)
     ≡ line_of (unit_at ssa v) (is_packed (packing [] [] ssa []) plan v) (is_in v needed)
     + rest ssa plan (values_of (unit_at ssa v) (is_packed (packing [] [] ssa []) plan v) (is_in v needed) ++ needed) v
@@ -65,7 +65,7 @@ step plan ssa needed v = opened plan ssa needed v (unit_at ssa v) refl ∙ at_ca
 pub record Walked (ssa : Ssa) (packed start marks : List Bool) (end left lines : ℕ) : Type 0 where
   pub inside : left ≤ end
   pub long : length marks ≡ end
-  pub rest : (plan : List Packed) (needed : List ℕ)
+  pub rest : (plan : List Pack) (needed : List ℕ)
       → Has end (flat_map units_of plan) packed → Has end needed start
       → (more : List ℕ) × Has end more marks
       × (lines + scalar_lines (packing [] [] ssa []) plan more (filter (is_unit ssa) (numbers_below left))
@@ -90,7 +90,7 @@ has-more end used more marks new h m = record {
       m.each v inside ∙ ap (λ t. is_in v used || t) (h.each v lt) ∙ sym (list_any-append (nat_eq v) used more);
 }
 
-pub goes_on : (ssa : Ssa) (packed start marks new : List Bool) (end left v lines line next : ℕ) (is_packed_now is_needed : Bool) (unit : Option Work)
+pub goes_on : (ssa : Ssa) (packed start marks new : List Bool) (end left v lines line next : ℕ) (is_packed_now is_needed : Bool) (unit : Option SsaUnit)
     → unit ≡ unit_at ssa v → left ≡ v + 1 → Walked ssa packed start marks end left lines
     → is_packed_now ≡ get_or packed v false → is_needed ≡ get_or marks v false
     → line ≡ line_of unit is_packed_now is_needed
@@ -127,7 +127,7 @@ goes_on ssa packed start marks new end left v lines line next is_packed_now is_n
     }
 
 -- the lines of marks are those of the packs and values that have them
-pub by_marks : (ssa : Ssa) (plan : List Packed) (needed : List ℕ) (packed marks : List Bool) (end : ℕ) (result : Result ℕ AllocError)
+pub by_marks : (ssa : Ssa) (plan : List Pack) (needed : List ℕ) (packed marks : List Bool) (end : ℕ) (result : Result ℕ AllocError)
     → end ≡ arguments ssa + length ssa.units → Has end (flat_map units_of plan) packed → Has end needed marks
     → IfOk result (λ c. Lines ssa packed marks end c)
     → IfOk result (λ c. c ≡ scalar_lines (packing [] [] ssa []) plan needed (falling_units ssa))

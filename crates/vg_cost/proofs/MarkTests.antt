@@ -9,14 +9,14 @@ use Rattle.std.proofs.lemmas.List.Folds.{list_any-append}
 use Rattle.vg_plans.specs.World.{is_in}
 use Rattle.vg_shapes.specs.declared.operand.Operand.{Operand}
 use Rattle.vg_shapes.specs.declared.operand.Slot.{Slot}
-use Rattle.vg_shapes.specs.declared.pack.Pack.{Pack as Packed}
+use Rattle.vg_shapes.specs.declared.pack.Pack.{Pack}
 use Rattle.vg_shapes.specs.declared.wanted.Wanted.{Wanted}
 use Rattle.vg_shapes.specs.declared.wanted.Wanted.TheVariants.{Value, Constant, Nothing}
 use Rattle.vg_shapes.specs.Pack.{units_of}
 use Rattle.vg_cost.specs.Marks.{Has, Marked}
 use Rattle.vg_cost.specs.Places.{are_met, is_met}
 use Rattle.vg_cost.specs.Taken.{is_one_of, is_touched}
-use Rattle.vg_cost.specs.Touch.{MarkUnits, may_be_had, may_be_met, may_be_one, may_be_touched}
+use Rattle.vg_cost.specs.Touch.{MarkUnits, may_be_given, may_be_all_given, may_be_marked, may_use_marked}
 use Rattle.vg_cost.proofs.LineSteps.{packed_by}
 
 inside : (marks : List Bool) (v : ℕ) → v < length marks → get_or marks v true ≡ get_or marks v false
@@ -48,25 +48,25 @@ neither : (a b : Bool) → a || b ≡ false → (a ≡ false) × (b ≡ false)
 neither true b e = absurd (cc)
 neither false b e = (refl, e)
 
-one-not : (p : Packed) (own : List Bool) (x : Wanted) → Has (length own) (units_of p) own → may_be_one own x ≡ false
+one-not : (p : Pack) (own : List Bool) (x : Wanted) → Has (length own) (units_of p) own → may_be_marked own x ≡ false
     → is_one_of p x ≡ false
 one-not p own (Value v) h f = not-marked (units_of p) own v h f
 one-not p own (Constant w n) h f = refl
 one-not p own Nothing h f = refl
 
-none-not : (p : Packed) (own : List Bool) (ss : List Slot) → Has (length own) (units_of p) own
-    → list_any (λ s. may_be_one own s.wanted) ss ≡ false → list_any (λ s. is_one_of p s.wanted) ss ≡ false
+none-not : (p : Pack) (own : List Bool) (ss : List Slot) → Has (length own) (units_of p) own
+    → list_any (λ s. may_be_marked own s.wanted) ss ≡ false → list_any (λ s. is_one_of p s.wanted) ss ≡ false
 none-not p own [] h f = refl
 none-not p own (s ∷ ss) h f =
-    let k = neither (may_be_one own s.wanted) (list_any (λ s. may_be_one own s.wanted) ss) f in
+    let k = neither (may_be_marked own s.wanted) (list_any (λ s. may_be_marked own s.wanted) ss) f in
     rw (one-not p own s.wanted h k.0) (none-not p own ss h k.1)
 
 -- a pack of whose units none may be an operand's value has none of its values
-pub untouched : (p : Packed) (own : List Bool) (o : Operand) → Has (length own) (units_of p) own
-    → may_be_touched own o ≡ false → is_touched p o ≡ false
+pub untouched : (p : Pack) (own : List Bool) (o : Operand) → Has (length own) (units_of p) own
+    → may_use_marked own o ≡ false → is_touched p o ≡ false
 untouched p own o h f = none-not p own o.slots h f
 
-had-not : (plan : List Packed) (marks : List Bool) (x : Wanted) → MarkUnits plan marks → may_be_had marks x ≡ false
+had-not : (plan : List Pack) (marks : List Bool) (x : Wanted) → MarkUnits plan marks → may_be_given marks x ≡ false
     → is_met plan x ≡ false
 had-not plan marks (Value v) h f = sym (packed_by v plan) ∙ not-marked (flat_map units_of plan) marks v h f
 had-not plan marks (Constant w n) h f = absurd (differ true refl f)
@@ -76,16 +76,16 @@ right-false : (a b : Bool) → b ≡ false → a && b ≡ false
 right-false true b e = e
 right-false false b e = refl
 
-all-not : (plan : List Packed) (marks : List Bool) (ss : List Slot) → MarkUnits plan marks
-    → list_all (λ s. may_be_had marks s.wanted) ss ≡ false → list_all (λ s. is_met plan s.wanted) ss ≡ false
+all-not : (plan : List Pack) (marks : List Bool) (ss : List Slot) → MarkUnits plan marks
+    → list_all (λ s. may_be_given marks s.wanted) ss ≡ false → list_all (λ s. is_met plan s.wanted) ss ≡ false
 all-not plan marks [] h f = absurd (differ true refl f)
-all-not plan marks (s ∷ ss) h f = elim (cases_Bool (may_be_had marks s.wanted)) [
+all-not plan marks (s ∷ ss) h f = elim (cases_Bool (may_be_given marks s.wanted)) [
   | inl t ↦ right-false (is_met plan s.wanted) _ (all-not plan marks ss h (rw t at f))
   | inr g ↦ rw (had-not plan marks s.wanted h g) refl
 ]
 
 -- where not all values of an operand may be units of the plan, one is not
-pub unmet_by : (plan : List Packed) (marks : List Bool) (o : Operand) → MarkUnits plan marks → may_be_met marks o ≡ false
+pub unmet_by : (plan : List Pack) (marks : List Bool) (o : Operand) → MarkUnits plan marks → may_be_all_given marks o ≡ false
     → are_met plan o ≡ false
 unmet_by plan marks o h f = all-not plan marks o.slots h f
 
@@ -101,7 +101,7 @@ any_behind test [] x = refl
 any_behind test (y ∷ xs) x =
     or-turn (test x) (test y) (list_any test xs) ∙ ap (λ b. test y || b) (any_behind test xs x)
 
-units-push : (plan : List Packed) (p : Packed) → flat_map units_of plan ++ units_of p ≡ flat_map units_of (plan ++ p ∷ [])
+units-push : (plan : List Pack) (p : Pack) → flat_map units_of plan ++ units_of p ≡ flat_map units_of (plan ++ p ∷ [])
 units-push plan p =
     ap (λ l. flat_map units_of plan ++ l) (sym (append-nil (units_of p))) ∙ sym (flat_map-append units_of plan (p ∷ []))
 
@@ -112,7 +112,7 @@ or-flip false true = refl
 or-flip false false = refl
 
 -- the marks of a plan and of a pack after it
-pub marked_longer : (count : ℕ) (plan : List Packed) (p : Packed) (marks longer : List Bool)
+pub marked_longer : (count : ℕ) (plan : List Pack) (p : Pack) (marks longer : List Bool)
     → Has count (flat_map units_of plan) marks → Marked (units_of p) marks longer
     → Has count (flat_map units_of (plan ++ p ∷ [])) longer
 marked_longer count plan p marks longer h m =

@@ -11,19 +11,19 @@ use Rattle.vg_terms.specs.Term.{Tree, leaf, constant, one, two, sel}
 use Rattle.vg_shapes.specs.declared.match_table.Match.{Match}
 use Rattle.vg_shapes.specs.declared.operand.Operand.{Operand}
 use Rattle.vg_shapes.specs.declared.operand.Slot.{Slot}
-use Rattle.vg_shapes.specs.declared.pack.Pack.{Pack as Packed}
+use Rattle.vg_shapes.specs.declared.pack.Pack.{Pack}
 use Rattle.vg_shapes.specs.declared.pack.Pack.TheVariants.{Stores, Loads, Call}
 use Rattle.vg_shapes.specs.declared.ssa.Ssa.{Ssa}
 use Rattle.vg_shapes.specs.declared.wanted.Wanted.{Wanted}
 use Rattle.vg_shapes.specs.declared.wanted.Wanted.TheVariants.{Value, Constant, Nothing}
 use Rattle.vg_shapes.specs.Description.{Description}
 use Rattle.vg_shapes.specs.Pack.{units_of}
-use Rattle.vg_packing.specs.Held.{held_slots, holds, is_filled, lane_width_of, lanes_from, register_of}
-use Rattle.vg_packing.specs.Packing.{packing}
-use Rattle.vg_packing.specs.SameAs.{same_lane, same_slot}
-use Rattle.vg_packing.specs.Shuffles.{moved_from, moved_leaf, parts_from, shuffle_of, shuffles}
-use Rattle.vg_packing.specs.Wants.{is_wanted, slot, value_of, wanted_slots, wanted_values, wants_value}
-use Rattle.vg_packing.proofs.SameTests.{both-true, eq-itself, slot-is}
+use Rattle.vg_kernel_plans.specs.Held.{held_slots, holds, is_filled, lane_width_of, lanes_from, register_of}
+use Rattle.vg_kernel_plans.specs.Packing.{packing}
+use Rattle.vg_kernel_plans.specs.SameAs.{same_lane, same_slot}
+use Rattle.vg_kernel_plans.specs.Shuffles.{moved_from, moved_leaf, parts_from, shuffle_of, shuffles}
+use Rattle.vg_kernel_plans.specs.Wants.{is_wanted, slot, value_of, wanted_slots, wanted_values, wants_value}
+use Rattle.vg_kernel_plans.proofs.SameTests.{both-true, eq-itself, slot-is}
 use Rattle.vg_cost.specs.Taken.{is_one_of, is_touched}
 
 -- a value among the lanes that have one
@@ -79,7 +79,7 @@ some-lanes [] = refl
 some-lanes (u ∷ us) = ap (λ l. u ∷ l) (some-lanes us)
 
 -- what a pack holds are its units
-pub held-value : (ds : List Description) (ssa : Ssa) (p : Packed) (s : Slot) → list_any (same_slot s) (held_slots ds ssa p) ≡ true
+pub held-value : (ds : List Description) (ssa : Ssa) (p : Pack) (s : Slot) → list_any (same_slot s) (held_slots ds ssa p) ≡ true
     → (v : ℕ) × (s.wanted ≡ Value v) × (is_in v (units_of p) ≡ true)
 held-value ds ssa (Stores us) s t = absurd (cc)
 held-value ds ssa (Loads us) s t =
@@ -87,14 +87,14 @@ held-value ds ssa (Loads us) s t =
     (k.0, k.1, subst (λ l. is_in k.0 l ≡ true) (some-lanes us) k.2)
 held-value ds ssa (Call d lanes) s t = at-lane 0 (lane_width_of ds ssa (Call d lanes)) lanes s t
 
-filled-held : (ds : List Description) (ssa : Ssa) (p : Packed) (s : Slot) → is_filled ds ssa p s ≡ true → is_wanted s.wanted ≡ true
+filled-held : (ds : List Description) (ssa : Ssa) (p : Pack) (s : Slot) → is_filled ds ssa p s ≡ true → is_wanted s.wanted ≡ true
     → list_any (same_slot s) (held_slots ds ssa p) ≡ true
 filled-held ds ssa p s f w =
     let g : (wants_value s.wanted && list_any (same_slot s) (held_slots ds ssa p)) ≡ true = rw w at f in
     (both-true (wants_value s.wanted) _ g).1
 
 -- a slot of the operand that is wanted is at its place in the pack
-pub holds-slot : (ds : List Description) (ssa : Ssa) (p : Packed) (o : Operand) (s : Slot) → holds ds ssa p o ≡ true
+pub holds-slot : (ds : List Description) (ssa : Ssa) (p : Pack) (o : Operand) (s : Slot) → holds ds ssa p o ≡ true
     → Has s o.slots → is_wanted s.wanted ≡ true → list_any (same_slot s) (held_slots ds ssa p) ≡ true
 holds-slot ds ssa p o s h i w =
     let a = (both-true (nat_eq (register_of ds ssa p) o.register) _ h).1 in
@@ -102,7 +102,7 @@ holds-slot ds ssa p o s h i w =
     filled-held ds ssa p s (all-has (is_filled ds ssa p) s o.slots b i) w
 
 -- one of its slots is wanted and is at its place
-pub holds-some : (ds : List Description) (ssa : Ssa) (p : Packed) (o : Operand) → holds ds ssa p o ≡ true
+pub holds-some : (ds : List Description) (ssa : Ssa) (p : Pack) (o : Operand) → holds ds ssa p o ≡ true
     → (s : Slot) × (v : ℕ) × Has s o.slots × (s.wanted ≡ Value v) × (is_in v (units_of p) ≡ true)
 holds-some ds ssa p o h =
     let a = (both-true (nat_eq (register_of ds ssa p) o.register) _ h).1 in
@@ -145,7 +145,7 @@ if-one true q p h = elim h [ inl e ↦ (refl, e) | inr n ↦ absurd n ]
 if-one false q p h = absurd h
 
 -- a pack that is given to a shuffle has one of the operand's values
-gives-one : (ds : List Description) (ssa : Ssa) (p : Packed) (o : Operand) (s : ℕ × List Operand) (n : Operand)
+gives-one : (ds : List Description) (ssa : Ssa) (p : Pack) (o : Operand) (s : ℕ × List Operand) (n : Operand)
     → Has s (shuffles ds o) → Has n s.1 → holds ds ssa p n ≡ true
     → (v : ℕ) × Has v (wanted_values o) × (is_in v (units_of p) ≡ true)
 gives-one ds ssa p o s n hs hn g =
@@ -174,7 +174,7 @@ neither : (a b : Bool) → a || b ≡ false → (a ≡ false) × (b ≡ false)
 neither true b e = absurd (cc)
 neither false b e = (refl, e)
 
-by-wanted : (p : Packed) (s : Slot) (ss : List Slot) (v : ℕ) (x : Wanted) → s.wanted ≡ x → is_one_of p s.wanted ≡ false
+by-wanted : (p : Pack) (s : Slot) (ss : List Slot) (v : ℕ) (x : Wanted) → s.wanted ≡ x → is_one_of p s.wanted ≡ false
     → (Has v (filter_map (λ s. value_of s.wanted) ss) → is_in v (units_of p) ≡ false)
     → Has v (filter_map (λ s. value_of s.wanted) (s ∷ ss)) → is_in v (units_of p) ≡ false
 by-wanted p s ss v (Value u) e f rest h = elim (rw e at h) [
@@ -185,13 +185,13 @@ by-wanted p s ss v (Constant w n) e f rest h = rest (rw e at h)
 by-wanted p s ss v Nothing e f rest h = rest (rw e at h)
 
 -- none of the wanted values is a unit of a pack that has none of them
-none-wanted : (p : Packed) (ss : List Slot) → list_any (λ s. is_one_of p s.wanted) ss ≡ false → (v : ℕ)
+none-wanted : (p : Pack) (ss : List Slot) → list_any (λ s. is_one_of p s.wanted) ss ≡ false → (v : ℕ)
     → Has v (filter_map (λ s. value_of s.wanted) ss) → is_in v (units_of p) ≡ false
 none-wanted p [] f v h = absurd h
 none-wanted p (s ∷ ss) f v h =
     let k = neither (is_one_of p s.wanted) (list_any (λ s. is_one_of p s.wanted) ss) f in
     by-wanted p s ss v s.wanted refl k.0 (none-wanted p ss k.1 v) h
 
-pub is-other : (ds : List Description) (matches : List Match) (ssa : Ssa) (deps : List (ℕ × ℕ)) (p : Packed) (o : Operand)
+pub is-other : (ds : List Description) (matches : List Match) (ssa : Ssa) (deps : List (ℕ × ℕ)) (p : Pack) (o : Operand)
     → is_touched p o ≡ false → IsOther (packing ds matches ssa deps) p o
 is-other ds matches ssa deps p o f = none-wanted p o.slots f

@@ -8,10 +8,10 @@ use Rattle.std.proofs.lemmas.List.Folds.{list_all-map}
 use Rattle.vg_terms.specs.declared.term.Term.{Term}
 use Rattle.vg_terms.specs.Term.{tree}
 use Rattle.vg_shapes.specs.declared.operand.Operand.{Operand}
-use Rattle.vg_shapes.specs.declared.pack.Pack.{Pack as Packed}
+use Rattle.vg_shapes.specs.declared.pack.Pack.{Pack}
 use Rattle.vg_shapes.specs.declared.ssa.Ssa.{Ssa}
 use Rattle.vg_shapes.specs.Description.{Description}
-use Rattle.vg_packing.specs.Shuffles.{is_shuffle, shuffle_of, shuffles}
+use Rattle.vg_kernel_plans.specs.Shuffles.{is_shuffle, shuffle_of, shuffles}
 use Rattle.vg_cost.specs.Had.{costs_had}
 use Rattle.vg_cost.specs.Shuffling.{is_tight_lane, shuffle_at, shuffles_from}
 
@@ -54,7 +54,7 @@ pub all-shuffles : (ds : List Description) (o : Operand) (numbers : List ℕ) �
     → flat_map (shuffle_at ds o) numbers ≡ shuffles ds o
 all-shuffles ds o numbers e = ap (flat_map (shuffle_at ds o)) e ∙ among o [] ds
 
-pub none-scanned : (ds : List Description) (ssa : Ssa) (plan : List Packed) (o : Operand) (numbers : List ℕ)
+pub none-scanned : (ds : List Description) (ssa : Ssa) (plan : List Pack) (o : Operand) (numbers : List ℕ)
     → numbers ≡ shuffles_from 0 ds → length numbers ≤ 0 → [] ≡ costs_had ds ssa plan (shuffles ds o)
 none-scanned ds ssa plan o [] e z = ap (costs_had ds ssa plan) (all-shuffles ds o [] e)
 none-scanned ds ssa plan o (n ∷ numbers) e z = absurd (omega arith)

@@ -12,19 +12,19 @@ use Rattle.vg_plans.proofs.Members.{any-found, any-is, has-filter, has-flat}
 use Rattle.vg_terms.specs.Term.{Tree, leaf, constant, one, two, sel}
 use Rattle.vg_shapes.specs.declared.operand.Operand.{Operand}
 use Rattle.vg_shapes.specs.declared.operand.Slot.{Slot}
-use Rattle.vg_shapes.specs.declared.pack.Pack.{Pack as Packed}
+use Rattle.vg_shapes.specs.declared.pack.Pack.{Pack}
 use Rattle.vg_shapes.specs.declared.ssa.Ssa.{Ssa}
 use Rattle.vg_shapes.specs.declared.wanted.Wanted.{Wanted}
 use Rattle.vg_shapes.specs.declared.wanted.Wanted.TheVariants.{Value, Constant, Nothing}
 use Rattle.vg_shapes.specs.Description.{Description}
 use Rattle.vg_shapes.specs.Operands.{lanes_of}
 use Rattle.vg_shapes.specs.Pack.{units_of}
-use Rattle.vg_packing.specs.Held.{held_slots, holds, lane_width_of, lanes_from}
-use Rattle.vg_packing.specs.Packing.{packing}
-use Rattle.vg_packing.specs.SameAs.{same_slot}
-use Rattle.vg_packing.specs.Shuffles.{is_lane_slot, is_shuffle, moved_from, moved_leaf, parts_from, shuffle_of}
-use Rattle.vg_packing.specs.Wants.{is_wanted, slot, wanted_slots, wants_value}
-use Rattle.vg_packing.proofs.SameTests.{both-true, eq-itself, slot-is}
+use Rattle.vg_kernel_plans.specs.Held.{held_slots, holds, lane_width_of, lanes_from}
+use Rattle.vg_kernel_plans.specs.Packing.{packing}
+use Rattle.vg_kernel_plans.specs.SameAs.{same_slot}
+use Rattle.vg_kernel_plans.specs.Shuffles.{is_lane_slot, is_shuffle, moved_from, moved_leaf, parts_from, shuffle_of}
+use Rattle.vg_kernel_plans.specs.Wants.{is_wanted, slot, wanted_slots, wants_value}
+use Rattle.vg_kernel_plans.proofs.SameTests.{both-true, eq-itself, slot-is}
 use Rattle.vg_cost.specs.Had.{costs_had}
 use Rattle.vg_cost.specs.Places.{ArePlaces, are_met, is_met, may_have, may_move, may_stand, place, places_from, places_of}
 use Rattle.vg_cost.specs.Shuffling.{is_tight, is_tight_lane}
@@ -72,11 +72,11 @@ at-place low width (Some u ∷ lanes) s t = elim (cases_Bool (same_slot s (slot 
       )
 ]
 
-held-place : (ds : List Description) (ssa : Ssa) (p : Packed) (s : Slot) → list_any (same_slot s) (held_slots ds ssa p) ≡ true
+held-place : (ds : List Description) (ssa : Ssa) (p : Pack) (s : Slot) → list_any (same_slot s) (held_slots ds ssa p) ≡ true
     → (v : ℕ) × (s.wanted ≡ Value v) × (is_in (place v (s.low % 512)) (places_of ds ssa p) ≡ true)
 held-place ds ssa p s t = at-place 0 (lane_width_of ds ssa p) (lanes_of p) s t
 
-in-flat : (ds : List Description) (ssa : Ssa) (v : ℕ) (p : Packed) (plan : List Packed) → Member p plan
+in-flat : (ds : List Description) (ssa : Ssa) (v : ℕ) (p : Pack) (plan : List Pack) → Member p plan
     → is_in v (places_of ds ssa p) ≡ true → is_in v (flat_map (places_of ds ssa) plan) ≡ true
 in-flat ds ssa v p [] h t = absurd h
 in-flat ds ssa v p (q ∷ plan) h t =
@@ -87,7 +87,7 @@ in-flat ds ssa v p (q ∷ plan) h t =
     ]
 
 -- what a pack holds may stand there by the marks
-stood : (ds : List Description) (ssa : Ssa) (plan : List Packed) (marks : List Bool) (p : Packed) (s : Slot)
+stood : (ds : List Description) (ssa : Ssa) (plan : List Pack) (marks : List Bool) (p : Pack) (s : Slot)
     → ArePlaces ds ssa plan marks → Member p plan → list_any (same_slot s) (held_slots ds ssa p) ≡ true
     → may_stand marks s.wanted s.low ≡ true
 stood ds ssa plan marks p s a h t =
@@ -179,10 +179,10 @@ has-moved : (e : Description) (s : Slot) (m : ℕ × Slot) (ss : List Slot) → 
 has-moved e s m ss h k = has-flat (moved_from e) s m ss h k
 
 -- what a shuffle that can be had takes of a slot: its lane is a leaf of no parameter, or stands in a pack
-pub record Stands (ds : List Description) (ssa : Ssa) (plan : List Packed) (e : Description) (s : Slot) : Type 0 where
+pub record Stands (ds : List Description) (ssa : Ssa) (plan : List Pack) (e : Description) (s : Slot) : Type 0 where
   pub leaf : ℕ × Slot
   pub moved : Member leaf (moved_from e s)
-  pub there : (length e.params ≤ leaf.0) ⊎ ((p : Packed) × Member p plan × (list_any (same_slot leaf.1) (held_slots ds ssa p) ≡ true))
+  pub there : (length e.params ≤ leaf.0) ⊎ ((p : Pack) × Member p plan × (list_any (same_slot leaf.1) (held_slots ds ssa p) ≡ true))
 
 abbrev fits : Operand → Description → Bool
 fits o e =
@@ -192,7 +192,7 @@ fits o e =
     && (nat_eq (length (flat_map (moved_from e) (wanted_slots o))) (length (wanted_slots o))
     && nat_le e.cost (1 + length (wanted_slots o)))))
 
-had-stands : (ds : List Description) (ssa : Ssa) (plan : List Packed) (o : Operand) (e : Description) (s : Slot)
+had-stands : (ds : List Description) (ssa : Ssa) (plan : List Pack) (o : Operand) (e : Description) (s : Slot)
     → fits o e ≡ true
     → can_shuffle (packing ds [] ssa []) plan (e.cost, parts_from (flat_map (moved_from e) (wanted_slots o)) 0 e.params) ≡ true
     → Member s o.slots → is_wanted s.wanted ≡ true → Stands ds ssa plan e s
@@ -220,7 +220,7 @@ had-stands ds ssa plan o e s c can h w =
       ];
     }
 
-had-moves : (ds : List Description) (ssa : Ssa) (plan : List Packed) (marks : List Bool) (o : Operand) (e : Description)
+had-moves : (ds : List Description) (ssa : Ssa) (plan : List Pack) (marks : List Bool) (o : Operand) (e : Description)
     → ArePlaces ds ssa plan marks → fits o e ≡ true
     → can_shuffle (packing ds [] ssa []) plan (e.cost, parts_from (flat_map (moved_from e) (wanted_slots o)) 0 e.params) ≡ true
     → may_have marks o e ≡ true
@@ -245,7 +245,7 @@ had-moves ds ssa plan marks o e a c can =
       | inr f ↦ or-left (not (is_wanted s.wanted)) _ (ap not f)
     ]))
 
-none-of : (ds : List Description) (ssa : Ssa) (plan : List Packed) (o : Operand) (e : Description)
+none-of : (ds : List Description) (ssa : Ssa) (plan : List Pack) (o : Operand) (e : Description)
     → (fits o e ≡ true
     → can_shuffle (packing ds [] ssa []) plan (e.cost, parts_from (flat_map (moved_from e) (wanted_slots o)) 0 e.params) ≡ true → ⊥)
     → costs_had ds ssa plan (shuffle_of o e) ≡ []
@@ -262,7 +262,7 @@ differ true t f = absurd (cc)
 differ false t f = absurd (cc)
 
 -- a shuffle that by the marks may not have what it takes cannot be had
-pub none_had_of : (ds : List Description) (ssa : Ssa) (plan : List Packed) (marks : List Bool) (o : Operand) (e : Description)
+pub none_had_of : (ds : List Description) (ssa : Ssa) (plan : List Pack) (marks : List Bool) (o : Operand) (e : Description)
     → ArePlaces ds ssa plan marks → may_have marks o e ≡ false → costs_had ds ssa plan (shuffle_of o e) ≡ []
 none_had_of ds ssa plan marks o e a f = none-of ds ssa plan o e (λ c t. differ _ (had-moves ds ssa plan marks o e a c t) f)
 
@@ -293,7 +293,7 @@ tight-leaf n (Some (two op w x y)) lanes s m i g a h = absurd h
 tight-leaf n (Some (sel w c x y)) lanes s m i g a h = absurd h
 
 -- a value that no pack has is wanted
-unmet : (plan : List Packed) (ss : List Slot) → list_all (λ s. is_met plan s.wanted) ss ≡ false
+unmet : (plan : List Pack) (ss : List Slot) → list_all (λ s. is_met plan s.wanted) ss ≡ false
     → (s : Slot) × Member s ss × (is_met plan s.wanted ≡ false)
 unmet plan [] f = absurd (cc)
 unmet plan (s ∷ ss) f = elim (cases_Bool (is_met plan s.wanted)) [
@@ -301,19 +301,19 @@ unmet plan (s ∷ ss) f = elim (cases_Bool (is_met plan s.wanted)) [
   | inr g ↦ (s, inl refl, g)
 ]
 
-unmet-wanted : (plan : List Packed) (x : Wanted) → is_met plan x ≡ false → is_wanted x ≡ true
+unmet-wanted : (plan : List Pack) (x : Wanted) → is_met plan x ≡ false → is_wanted x ≡ true
 unmet-wanted plan (Value v) f = refl
 unmet-wanted plan (Constant w n) f = refl
 unmet-wanted plan Nothing f = absurd (cc)
 
 -- what a pack of the plan holds is met
-met-held : (ds : List Description) (ssa : Ssa) (plan : List Packed) (p : Packed) (s : Slot) → Member p plan
+met-held : (ds : List Description) (ssa : Ssa) (plan : List Pack) (p : Pack) (s : Slot) → Member p plan
     → list_any (same_slot s) (held_slots ds ssa p) ≡ true → is_met plan s.wanted ≡ true
 met-held ds ssa plan p s h t =
     let k = held-value ds ssa p s t in
     ap (is_met plan) k.1 ∙ any-is (λ q. is_in k.0 (units_of q)) p plan h k.2
 
-had-append : (ds : List Description) (ssa : Ssa) (plan : List Packed) (xs ys : List (ℕ × List Operand))
+had-append : (ds : List Description) (ssa : Ssa) (plan : List Pack) (xs ys : List (ℕ × List Operand))
     → costs_had ds ssa plan (xs ++ ys) ≡ costs_had ds ssa plan xs ++ costs_had ds ssa plan ys
 had-append ds ssa plan [] ys = refl
 had-append ds ssa plan (x ∷ xs) ys = elim (cases_Bool (can_shuffle (packing ds [] ssa []) plan x)) [
@@ -321,7 +321,7 @@ had-append ds ssa plan (x ∷ xs) ys = elim (cases_Bool (can_shuffle (packing ds
   | inr g ↦ rw g (had-append ds ssa plan xs ys)
 ]
 
-module _ (ds : List Description) (ssa : Ssa) (plan : List Packed) (o : Operand) (f : are_met plan o ≡ false) where
+module _ (ds : List Description) (ssa : Ssa) (plan : List Pack) (o : Operand) (f : are_met plan o ≡ false) where
   some-slot : (s : Slot) × Member s o.slots × (is_met plan s.wanted ≡ false)
   some-slot = unmet plan o.slots f
 

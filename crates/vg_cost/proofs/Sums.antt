@@ -8,14 +8,14 @@ use Rattle.std.specs.declared.result.Result.TheVariants.{Ok, Err}
 use Rattle.vg_plans.specs.World.{inserted, operands, plan_cost, recipe_cost, scalar_lines}
 use Rattle.vg_shapes.specs.declared.match_table.Match.{Match}
 use Rattle.vg_shapes.specs.declared.operand.Operand.{Operand}
-use Rattle.vg_shapes.specs.declared.pack.Pack.{Pack as Packed}
+use Rattle.vg_shapes.specs.declared.pack.Pack.{Pack}
 use Rattle.vg_shapes.specs.declared.ssa.Ssa.{Ssa}
 use Rattle.vg_shapes.specs.Description.{Description}
-use Rattle.vg_packing.specs.Packing.{falling_units, packing, price_of}
+use Rattle.vg_kernel_plans.specs.Packing.{falling_units, packing, price_of}
 
 -- what recipes, inserts and scalars are counted as, neither matches nor dependences are looked at
 pub all_parts : (ds : List Description) (matches : List Match) (ssa : Ssa) (deps : List (ℕ × ℕ))
-    (plan : List Packed) (price recipes lines packed : ℕ) (os : List Operand) (values : List ℕ)
+    (plan : List Pack) (price recipes lines packed : ℕ) (os : List Operand) (values : List ℕ)
     → price ≡ sum_by (price_of ds) plan
     → os ≡ operands (packing ds matches ssa []) plan
     → recipes ≡ sum_by (recipe_cost (packing ds [] ssa []) plan) os

@@ -3,9 +3,9 @@ pub mod Lines
 pub mod LongerPlan
 pub mod Marks
 pub mod Places
-pub mod Room
+pub mod PriceScratch
 pub mod Running
 pub mod Shuffling
 pub mod Taken
 pub mod Touch
-pub mod Tried
+pub mod TriedMarks

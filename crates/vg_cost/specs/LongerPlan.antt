@@ -1,6 +1,6 @@
 -- A plan with a pack after it.
 use Rattle.std.specs.Prelude.{List, [], ◌∷◌, ◌++◌, length, map}
-use Rattle.vg_shapes.specs.declared.pack.Pack.{Pack as Packed}
+use Rattle.vg_shapes.specs.declared.pack.Pack.{Pack}
 use Rattle.vg_shapes.specs.Description.{Description, description_of}
 use Rattle.vg_shapes.specs.Pack.{units_of}
 use Rattle.vg_cost.specs.declared.longer_plan.LongerPlan.{LongerPlan}
@@ -11,7 +11,7 @@ use Rattle.vg_cost.specs.Touch.{MarkUnits}
 abbrev pub described : LongerPlan → List Description
 described l = map description_of l.descriptions.now
 
-abbrev pub all_packs : LongerPlan → List Packed
+abbrev pub all_packs : LongerPlan → List Pack
 all_packs l = l.packs.now ++ l.last.now ∷ []
 
 -- what is known of it is so

@@ -4,16 +4,16 @@ use Rattle.std.specs.List.{flat_map, list_all, list_any}
 use Rattle.vg_plans.specs.World.{is_in}
 use Rattle.vg_shapes.specs.declared.operand.Operand.{Operand}
 use Rattle.vg_shapes.specs.declared.operand.Slot.{Slot}
-use Rattle.vg_shapes.specs.declared.pack.Pack.{Pack as Packed}
+use Rattle.vg_shapes.specs.declared.pack.Pack.{Pack}
 use Rattle.vg_shapes.specs.declared.ssa.Ssa.{Ssa}
 use Rattle.vg_shapes.specs.declared.wanted.Wanted.{Wanted}
 use Rattle.vg_shapes.specs.declared.wanted.Wanted.TheVariants.{Value, Constant, Nothing}
 use Rattle.vg_shapes.specs.Description.{Description}
 use Rattle.vg_shapes.specs.Operands.{lanes_of}
 use Rattle.vg_shapes.specs.Pack.{units_of}
-use Rattle.vg_packing.specs.Held.{lane_width_of}
-use Rattle.vg_packing.specs.Shuffles.{moved_from}
-use Rattle.vg_packing.specs.Wants.{is_wanted}
+use Rattle.vg_kernel_plans.specs.Held.{lane_width_of}
+use Rattle.vg_kernel_plans.specs.Shuffles.{moved_from}
+use Rattle.vg_kernel_plans.specs.Wants.{is_wanted}
 use Rattle.vg_cost.specs.Marks.{Has}
 
 -- the number of a value at a byte of a register, of 64 bytes
@@ -30,11 +30,11 @@ places_from low width [] = []
 places_from low width (lane ∷ lanes) =
     places_at low lane ++ places_from ((low + width) % 512) width lanes
 
-abbrev pub places_of : List Description → Ssa → Packed → List ℕ
+abbrev pub places_of : List Description → Ssa → Pack → List ℕ
 places_of ds ssa p = places_from 0 (lane_width_of ds ssa p) (lanes_of p)
 
 -- the marks are those of the places of all values of a plan
-abbrev pub ArePlaces : List Description → Ssa → List Packed → List Bool → Type 0
+abbrev pub ArePlaces : List Description → Ssa → List Pack → List Bool → Type 0
 ArePlaces ds ssa plan marks = Has (length marks) (flat_map (places_of ds ssa) plan) marks
 
 -- by the marks a value that is wanted at a bit may stand there
@@ -55,11 +55,11 @@ abbrev pub may_have : List Bool → Operand → Description → Bool
 may_have marks o e = nat_eq e.register o.register && list_all (may_move marks e) o.slots
 
 -- a value that is wanted is a unit of a pack
-abbrev pub is_met : List Packed → Wanted → Bool
+abbrev pub is_met : List Pack → Wanted → Bool
 is_met plan (Value v) = list_any (λ p. is_in v (units_of p)) plan
 is_met plan (Constant w n) = true
 is_met plan Nothing = true
 
 -- all values of an operand are
-abbrev pub are_met : List Packed → Operand → Bool
+abbrev pub are_met : List Pack → Operand → Bool
 are_met plan o = list_all (λ s. is_met plan s.wanted) o.slots

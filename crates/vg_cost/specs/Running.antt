@@ -3,18 +3,18 @@ use Rattle.std.specs.Prelude.{◌≡◌, ℕ, List, [], map, sum_by}
 use Rattle.std.specs.List.{AllByRecursion}
 use Rattle.vg_plans.specs.World.{operands, plan_cost}
 use Rattle.vg_shapes.specs.declared.match_table.Match.{Match}
-use Rattle.vg_shapes.specs.declared.pack.Pack.{Pack as Packed}
+use Rattle.vg_shapes.specs.declared.pack.Pack.{Pack}
 use Rattle.vg_shapes.specs.declared.ssa.Ssa.{Ssa}
 use Rattle.vg_shapes.specs.Description.{Description}
-use Rattle.vg_packing.specs.Packing.{packing, price_of}
-use Rattle.vg_packing.specs.Taken.{IsShort}
+use Rattle.vg_kernel_plans.specs.Packing.{packing, price_of}
+use Rattle.vg_kernel_plans.specs.Taken.{IsShort}
 use Rattle.vg_cost.specs.declared.running.Running.{Running}
 use Rattle.vg_cost.specs.Shuffling.{AreShuffles}
 use Rattle.vg_cost.specs.declared.taken.Taken.{Taken}
 use Rattle.vg_cost.specs.Taken.{taken_for}
 
 -- the operands of the packs, each once, and what their recipes cost
-abbrev pub taken_by : List Description → List Match → Ssa → List Packed → List Taken
+abbrev pub taken_by : List Description → List Match → Ssa → List Pack → List Taken
 taken_by ds matches ssa plan =
     map (taken_for ds ssa plan) (operands (packing ds matches ssa []) plan)
 

@@ -5,7 +5,7 @@ use Rattle.std.specs.Option.{option_map_or}
 use Rattle.vg_terms.specs.Term.{Tree, leaf, constant, one, two, sel}
 use Rattle.vg_shapes.specs.declared.operand.Operand.{Operand}
 use Rattle.vg_shapes.specs.Description.{Description}
-use Rattle.vg_packing.specs.Shuffles.{is_shuffle, shuffle_of}
+use Rattle.vg_kernel_plans.specs.Shuffles.{is_shuffle, shuffle_of}
 use Rattle.vg_cost.specs.declared.shuffles.Shuffles.{Shuffles}
 
 -- the numbers of those that are, the first description having this number

@@ -4,7 +4,7 @@ ghost use Rattle.std.specs.Prelude.{◌≡◌, ◌++◌, ◌∷◌, [], IfOk};
 
 use std::alloc::{AllocError, Global};
 use vg_base::Items;
-use vg_packing::copies::{copy_pack, copy_packs};
+use vg_kernel_plans::copies::{copy_pack, copy_packs};
 use vg_shapes::{Operand, Pack};
 
 /// A copy of packs with one after them. Fails only for want of memory.

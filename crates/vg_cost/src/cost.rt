@@ -2,8 +2,8 @@
 
 ghost use Rattle.std.specs.Prelude.{◌≡◌, ℕ, IfOk, List, map};
 ghost use Rattle.std.specs.List.{AllByRecursion};
-ghost use Rattle.vg_packing.specs.Packing.{packing};
-ghost use Rattle.vg_packing.specs.Taken.{IsShort, MatchesNear};
+ghost use Rattle.vg_kernel_plans.specs.Packing.{packing};
+ghost use Rattle.vg_kernel_plans.specs.Taken.{IsShort, MatchesNear};
 ghost use Rattle.vg_plans.specs.World.{plan_cost};
 ghost use Rattle.vg_shapes.specs.Description.{description_of};
 
@@ -11,7 +11,7 @@ use crate::lines::scalar_lines;
 use crate::price::{plus, prices};
 use crate::recipes::gather;
 use std::alloc::{AllocError, Global};
-use vg_packing::plan_operands::plan_operands;
+use vg_kernel_plans::plan_operands::plan_operands;
 use vg_shapes::{Description, MatchTable, Plan, Ssa};
 
 /// What a plan costs: the lines of its packs, the recipes of the operands that they take, the units

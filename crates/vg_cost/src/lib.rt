@@ -2,14 +2,14 @@
 //!
 //! `specs/Had.antt` lists the costs of the shuffles that can be had, `specs/Marks.antt` says which
 //! numbers are marked, and `specs/Lines.antt` which lines units and extracts take by such marks.
-//! The cost of a plan is that of `vg_plans` over the packs of a kernel of `vg_packing`.
+//! The cost of a plan is that of `vg_plans` over the packs of a kernel of `vg_kernel_plans`.
 //!
 //! A plan that grows keeps its cost (`specs/Running.antt`): what is known of each operand that its
 //! packs take (`specs/Taken.antt`), and which descriptions are shuffles (`specs/Shuffling.antt`). By
 //! marks of the units of packs most operands need not be looked at again (`specs/Touch.antt`), and by
 //! the places where packs have values (`specs/Places.antt`) most shuffles need not. What is known of a
-//! plan with a pack after it stands together (`specs/LongerPlan.antt`); such a pack is priced in room
-//! that is made once for the plan (`specs/Room.antt`).
+//! plan with a pack after it stands together (`specs/LongerPlan.antt`); such a pack is priced in scratch
+//! that is made once for the plan (`specs/PriceScratch.antt`).
 //!
 //! An `AllocError` is want of memory; nothing else is.
 #![tactic(auto)]
@@ -21,17 +21,17 @@ mod longer_plan;
 mod marks;
 mod places;
 mod price;
+mod price_scratch;
 mod recipe_cost;
 pub mod recipes;
-mod room;
 mod running;
 mod scan;
 pub mod shuffle;
 mod shuffles;
 mod taken;
 mod touch;
-mod tried;
+mod tried_marks;
 
 pub use cost::plan_cost;
-pub use room::Room;
+pub use price_scratch::PriceScratch;
 pub use running::Running;

@@ -3,8 +3,8 @@
 ghost use Rattle.std.specs.Prelude.{◌≡◌, ◌+◌, ◌<◌, ℕ, [], ◌∷◌, IfOk, filter, filter_map, flat_map, get_or, false, is_some, length};
 ghost use Rattle.vg_cost.specs.Lines.{Lines, is_written, line_of, values_of};
 ghost use Rattle.vg_cost.specs.Marks.{Has, Marked};
-ghost use Rattle.vg_packing.specs.Packing.{falling_units, packing, used_by};
-ghost use Rattle.vg_packing.specs.Wants.{value_of};
+ghost use Rattle.vg_kernel_plans.specs.Packing.{falling_units, packing, used_by};
+ghost use Rattle.vg_kernel_plans.specs.Wants.{value_of};
 ghost use Rattle.vg_plans.specs.World.{scalar_lines};
 ghost use Rattle.vg_shapes.specs.Pack.{units_of};
 ghost use Rattle.vg_shapes.specs.Units.{arguments, unit_at};
@@ -12,8 +12,8 @@ ghost use Rattle.vg_shapes.specs.Units.{arguments, unit_at};
 use crate::marks::{mark, packed_marks, value_marks};
 use crate::price::plus;
 use std::alloc::{AllocError, Global};
-use vg_packing::wants::value_of;
-use vg_shapes::{Operands, Pack, Ssa, Unit, Wanted};
+use vg_kernel_plans::wants::value_of;
+use vg_shapes::{Operands, Pack, Ssa, SsaUnit, Wanted};
 
 /// Marks a value, if one is wanted.
 pub(crate) fn mark_wanted(needed: &mut [bool], wanted: Wanted)
@@ -36,18 +36,18 @@ fn mark_operands(needed: &mut [bool], operands: &Operands)
 }
 
 /// Marks the values that a unit uses.
-fn mark_used(needed: &mut [bool], unit: &Unit)
+fn mark_used(needed: &mut [bool], unit: &SsaUnit)
     ensures { Marked (used_by (Some unit.now)) needed.old needed.new }
 {
     match unit {
-        Unit::Load { .. } => {}
-        Unit::Store { value, .. } => mark_wanted(needed, *value),
-        Unit::Operation { operands, .. } => mark_operands(needed, operands),
+        SsaUnit::Load { .. } => {}
+        SsaUnit::Store { value, .. } => mark_wanted(needed, *value),
+        SsaUnit::Operation { operands, .. } => mark_operands(needed, operands),
     }
 }
 
 /// Whether a unit that is in no pack is emitted: it is an access, or its value is needed.
-fn is_written(unit: &Unit, packed: bool, needed: bool) -> bool
+fn is_written(unit: &SsaUnit, packed: bool, needed: bool) -> bool
     ensures { result ≡ is_written unit.now packed needed }
 {
     !packed && (unit.access().is_some() || needed)
@@ -55,7 +55,7 @@ fn is_written(unit: &Unit, packed: bool, needed: bool) -> bool
 
 /// The lines of a unit: 1 where it is emitted or its value is extracted, else 0. Marks what it uses
 /// where it is emitted.
-fn visit(marks: &mut [bool], unit: &Unit, packed: bool, needed: bool) -> u64
+fn visit(marks: &mut [bool], unit: &SsaUnit, packed: bool, needed: bool) -> u64
     ensures lines { result ≡ line_of (Some unit.now) packed needed }
     ensures marks { Marked (values_of (Some unit.now) packed needed) marks.old marks.new }
 {

@@ -5,7 +5,7 @@ ghost use Rattle.vg_cost.specs.Marks.{Has, Marked};
 ghost use Rattle.vg_shapes.specs.Pack.{units_of};
 
 use std::alloc::{AllocError, Global};
-use vg_packing::marks::clear_marks;
+use vg_kernel_plans::marks::clear_marks;
 use vg_shapes::Pack;
 
 /// Clears all marks.

@@ -4,17 +4,17 @@ ghost use Rattle.std.specs.Prelude.{◌≡◌, ◌<◌, ◌||◌, ◌∷◌, [],
 ghost use Rattle.std.specs.List.{list_all, list_any};
 ghost use Rattle.vg_cost.specs.Marks.{Marked};
 ghost use Rattle.vg_cost.specs.Places.{ArePlaces, may_have, may_move, may_stand, place, places_at, places_from, places_of};
-ghost use Rattle.vg_packing.specs.Shuffles.{moved_leaf};
+ghost use Rattle.vg_kernel_plans.specs.Shuffles.{moved_leaf};
 ghost use Rattle.vg_shapes.specs.Description.{description_of};
 ghost use Rattle.vg_shapes.specs.Leaves.{bit_number};
 ghost use Rattle.vg_terms.specs.Term.{tree};
 
 use crate::lines::end_of_units;
 use std::alloc::{AllocError, Global};
-use vg_packing::held::lane_width_of;
-use vg_packing::lane::lane_of;
-use vg_packing::marks::clear_marks;
-use vg_packing::wants::is_wanted;
+use vg_kernel_plans::held::lane_width_of;
+use vg_kernel_plans::lane::lane_of;
+use vg_kernel_plans::marks::clear_marks;
+use vg_kernel_plans::wants::is_wanted;
 use vg_shapes::{Description, Operand, Pack, Slot, Ssa, Wanted};
 use vg_terms::Term;
 
@@ -140,7 +140,7 @@ fn bit_of(bit: i64) -> u64
 }
 
 /// Whether a lane is a leaf whose parameter may have what is wanted of the lane.
-fn may_be_lane(marks: &[bool], params: usize, lane: &Term, slot: &Slot) -> bool
+fn may_supply_lane(marks: &[bool], params: usize, lane: &Term, slot: &Slot) -> bool
     ensures { result ≡ list_any
         (λ m. nat_le params m.0 || may_stand marks.now m.1.wanted m.1.low)
         (moved_leaf (Some (tree lane.now)) slot.now) }
@@ -164,7 +164,7 @@ fn may_lanes(marks: &[bool], params: usize, lanes: &[Term], number: u32, slot: &
 {
     match lanes.get(number as usize) {
         None => false,
-        Some(found) => may_be_lane(marks, params, found, slot),
+        Some(found) => may_supply_lane(marks, params, found, slot),
     }
 }
 

@@ -1,7 +1,7 @@
 //! The lines of packs.
 
 ghost use Rattle.std.specs.Prelude.{◌≡◌, ◌+◌, IfOk, map, sum_by};
-ghost use Rattle.vg_packing.specs.Packing.{price_of};
+ghost use Rattle.vg_kernel_plans.specs.Packing.{price_of};
 ghost use Rattle.vg_shapes.specs.Description.{description_of};
 
 use std::alloc::AllocError;

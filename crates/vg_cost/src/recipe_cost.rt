@@ -4,9 +4,9 @@ ghost use Rattle.std.specs.Prelude.{◌≡◌, ◌&&◌, [], IfOk, false, filter
 ghost use Rattle.vg_cost.specs.Had.{costs_had};
 ghost use Rattle.vg_cost.specs.LongerPlan.{IsKnown, all_packs, described};
 ghost use Rattle.vg_cost.specs.Taken.{inserts_for, recipe_for};
-ghost use Rattle.vg_packing.specs.Packing.{packing};
-ghost use Rattle.vg_packing.specs.Shuffles.{shuffles};
-ghost use Rattle.vg_packing.specs.Wants.{is_constant, wants_value};
+ghost use Rattle.vg_kernel_plans.specs.Packing.{packing};
+ghost use Rattle.vg_kernel_plans.specs.Shuffles.{shuffles};
+ghost use Rattle.vg_kernel_plans.specs.Wants.{is_constant, wants_value};
 ghost use Rattle.vg_plans.specs.World.{is_reused};
 
 use crate::copies::longer;
@@ -14,10 +14,10 @@ use crate::longer_plan::LongerPlan;
 use crate::price::plus;
 use crate::recipes::{is_reused, least_of};
 use crate::scan::costs_among;
-use crate::touch::may_be_met;
+use crate::touch::may_be_all_given;
 use std::alloc::{AllocError, Global};
-use vg_packing::held::holds;
-use vg_packing::wants::{is_constant, wanted_values, wants_value};
+use vg_kernel_plans::held::holds;
+use vg_kernel_plans::wants::{is_constant, wanted_values, wants_value};
 use vg_shapes::{Operand, Slot};
 
 /// What the recipe of an operand costs, and whether it inserts the operand's values.
@@ -133,7 +133,7 @@ pub(crate) fn recipe_cost(
     ensures { IfOk result (λ r. r ≡ recipe_for (described plan.now) plan.now.ssa.now
         (all_packs plan.now) operand.now) }
 {
-    if plan.shuffles.are_tight && !may_be_met(plan.marks, operand) {
+    if plan.shuffles.are_tight && !may_be_all_given(plan.marks, operand) {
         return unmet_cost(operand);
     }
     met_cost(alloc, plan, operand)

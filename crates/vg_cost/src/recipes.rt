@@ -3,16 +3,16 @@
 ghost use Rattle.std.specs.Prelude.{◌≡◌, ◌+◌, ◌++◌, [], IfOk, OnOk, flat_map, map, sum_by};
 ghost use Rattle.std.specs.List.{list_all};
 ghost use Rattle.vg_cost.specs.Had.{costs_had, least_of};
-ghost use Rattle.vg_packing.specs.Packing.{packing};
-ghost use Rattle.vg_packing.specs.Shuffles.{shuffle_of, shuffles};
+ghost use Rattle.vg_kernel_plans.specs.Packing.{packing};
+ghost use Rattle.vg_kernel_plans.specs.Shuffles.{shuffle_of, shuffles};
 ghost use Rattle.vg_plans.specs.World.{inserted, is_reused, recipe_cost};
 ghost use Rattle.vg_shapes.specs.Description.{description_of};
 
 use crate::price::plus;
 use crate::shuffle::shuffle_of;
 use std::alloc::{AllocError, Global};
-use vg_packing::held::holds;
-use vg_packing::wants::{is_constant, wanted_values};
+use vg_kernel_plans::held::holds;
+use vg_kernel_plans::wants::{is_constant, wanted_values};
 use vg_shapes::{Description, Operand, Pack, Ssa};
 
 /// Whether one of these packs holds an operand.

@@ -4,13 +4,13 @@ ghost use Rattle.std.specs.Prelude.{◌≡◌, ◌+◌, ◌++◌, ◌∷◌, [],
 ghost use Rattle.vg_cost.specs.Lines.{Costs};
 ghost use Rattle.vg_cost.specs.LongerPlan.{IsKnown, all_packs, described};
 ghost use Rattle.vg_cost.specs.Marks.{Marked};
-ghost use Rattle.vg_cost.specs.Room.{IsRoomFor};
+ghost use Rattle.vg_cost.specs.PriceScratch.{IsScratchFor};
 ghost use Rattle.vg_cost.specs.Running.{StandsFor, taken_by};
 ghost use Rattle.vg_cost.specs.Taken.{inserted_for};
-ghost use Rattle.vg_cost.specs.Tried.{AreMarksFor};
-ghost use Rattle.vg_packing.specs.Fed.{IsFedPlanFor};
-ghost use Rattle.vg_packing.specs.Packing.{packing};
-ghost use Rattle.vg_packing.specs.Taken.{IsShort, MatchesNear};
+ghost use Rattle.vg_cost.specs.TriedMarks.{AreMarksFor};
+ghost use Rattle.vg_kernel_plans.specs.Fed.{IsFedPlanFor};
+ghost use Rattle.vg_kernel_plans.specs.Packing.{packing};
+ghost use Rattle.vg_kernel_plans.specs.Taken.{IsShort, MatchesNear};
 ghost use Rattle.vg_plans.specs.World.{plan_cost};
 ghost use Rattle.vg_shapes.specs.Description.{description_of};
 ghost use Rattle.vg_shapes.specs.Units.{arguments};
@@ -19,12 +19,12 @@ use crate::copies::longer;
 use crate::lines::{end_of_units, lines_below, scalar_lines};
 use crate::longer_plan::LongerPlan;
 use crate::price::{plus, price_of};
-use crate::room::Room;
+use crate::price_scratch::PriceScratch;
 use crate::shuffles::Shuffles;
 use crate::taken::{Taken, add_all, keep_all, kept_cost, recipes_cost};
-use crate::tried::Tried;
+use crate::tried_marks::TriedMarks;
 use std::alloc::{AllocError, Global};
-use vg_packing::taken::operands_of;
+use vg_kernel_plans::taken::operands_of;
 use vg_shapes::{Description, MatchTable, Pack, Ssa};
 
 /// A plan and what it costs. A longer plan's cost is found from it by looking again at the operands
@@ -103,13 +103,13 @@ impl Running {
             ssa.now) }
     {
         let plan = self.packs.as_slice();
-        let mut room = Room::new(alloc, ssa, plan)?;
-        let before = room.plan.as_slice();
-        room.tried.enter(before, pack);
+        let mut scratch = PriceScratch::new(alloc, ssa, plan)?;
+        let before = scratch.plan.as_slice();
+        scratch.tried.enter(before, pack);
         let price = plus(self.price, price_of(descriptions, pack))?;
-        let marks = room.tried.longer.as_slice();
-        let own = room.tried.own.as_slice();
-        let needed = room.tried.needed.as_mut_slice();
+        let marks = scratch.tried.longer.as_slice();
+        let own = scratch.tried.own.as_slice();
+        let needed = scratch.tried.needed.as_mut_slice();
         let grown = LongerPlan {
             descriptions,
             ssa,
@@ -132,11 +132,11 @@ impl Running {
     }
 
     /// What the plan with a pack after it costs. Fails for want of memory, and where the cost has too
-    /// many bits to be counted. Leaves the room as it was.
+    /// many bits to be counted. Leaves the scratch as it was.
     pub fn cost_with(
         &self,
         alloc: Global,
-        room: &mut Room,
+        scratch: &mut PriceScratch,
         pack: &Pack,
         descriptions: &[Description],
         table: &MatchTable,
@@ -144,18 +144,18 @@ impl Running {
     ) -> Result<u64, AllocError>
         requires near { MatchesNear table.now }
         requires short { IsShort pack.now }
-        requires room { IsRoomFor ssa.now self.now.packs.items room.old }
+        requires scratch { IsScratchFor ssa.now self.now.packs.items scratch.old }
         requires stands { StandsFor (map description_of descriptions.now) table.now ssa.now
             self.now }
         requires plan { (deps : List (ℕ × ℕ)) × IsFedPlanFor (map description_of descriptions.now)
             table.now ssa.now deps (self.now.packs.items ++ pack.now ∷ []) }
-        ensures room { room.new ≡ room.old }
+        ensures scratch { scratch.new ≡ scratch.old }
         ensures cost { IfOk result (λ c. (deps : List (ℕ × ℕ)) → c ≡ plan_cost
             (packing (map description_of descriptions.now) table.now ssa.now deps)
             (self.now.packs.items ++ pack.now ∷ [])) }
     {
-        let plan = room.plan.as_slice();
-        let tried = &mut room.tried;
+        let plan = scratch.plan.as_slice();
+        let tried = &mut scratch.tried;
         let cost = self.cost_tried(alloc, plan, tried, pack, descriptions, table, ssa)?;
         Ok(cost)
     }
@@ -165,7 +165,7 @@ impl Running {
         &'a self,
         alloc: Global,
         plan: &[bool],
-        tried: &mut Tried,
+        tried: &mut TriedMarks,
         pack: &'a Pack,
         descriptions: &'a [Description],
         table: &MatchTable,
@@ -173,7 +173,7 @@ impl Running {
     ) -> Result<u64, AllocError>
         requires near { MatchesNear table.now }
         requires short { IsShort pack.now }
-        requires marks { IsRoomFor ssa.now self.now.packs.items plan.now }
+        requires marks { IsScratchFor ssa.now self.now.packs.items plan.now }
         requires tried { AreMarksFor (arguments ssa.now + length ssa.now.units) tried.old }
         requires stands { StandsFor (map description_of descriptions.now) table.now ssa.now
             self.now }

@@ -4,7 +4,7 @@ ghost use Rattle.std.specs.Prelude.{◌≡◌, ◌++◌, IfOk, OnOk, flat_map, m
 ghost use Rattle.vg_cost.specs.Had.{costs_had};
 ghost use Rattle.vg_cost.specs.Places.{ArePlaces};
 ghost use Rattle.vg_cost.specs.Shuffling.{AreShuffles, shuffle_at};
-ghost use Rattle.vg_packing.specs.Shuffles.{shuffle_of, shuffles};
+ghost use Rattle.vg_kernel_plans.specs.Shuffles.{shuffle_of, shuffles};
 ghost use Rattle.vg_shapes.specs.Description.{description_of};
 
 use crate::places::{may_have, places_of};

@@ -3,16 +3,16 @@
 ghost use Rattle.std.specs.Prelude.{◌≡◌, ◌==◌, ◌++◌, ◌%◌, [], ◌∷◌, IfOk, OnOk, Some, filter, flat_map, length, map, nat_eq, slice_get};
 ghost use Rattle.std.specs.List.{list_all};
 ghost use Rattle.vg_cost.specs.Had.{shuffle_list};
-ghost use Rattle.vg_packing.specs.Shuffles.{is_lane_slot, moved_from, moved_leaf, parts_from, shuffle_of};
+ghost use Rattle.vg_kernel_plans.specs.Shuffles.{is_lane_slot, moved_from, moved_leaf, parts_from, shuffle_of};
 ghost use Rattle.vg_shapes.specs.Description.{description_of};
 ghost use Rattle.vg_shapes.specs.Leaves.{bit_number};
 ghost use Rattle.vg_terms.specs.Term.{tree};
 
 use std::alloc::{AllocError, Global};
 use vg_base::Items;
-use vg_packing::lane::lane_of;
-use vg_packing::shuffles::is_shuffle;
-use vg_packing::wants::{wanted_slots, wants_value};
+use vg_kernel_plans::lane::lane_of;
+use vg_kernel_plans::shuffles::is_shuffle;
+use vg_kernel_plans::wants::{wanted_slots, wants_value};
 use vg_shapes::{Description, Operand, Slot};
 use vg_terms::Term;
 

@@ -7,7 +7,7 @@ ghost use Rattle.vg_shapes.specs.Description.{description_of};
 ghost use Rattle.vg_terms.specs.Term.{tree};
 
 use std::alloc::{AllocError, Global};
-use vg_packing::shuffles::is_shuffle;
+use vg_kernel_plans::shuffles::is_shuffle;
 use vg_shapes::Description;
 use vg_terms::Term;
 

@@ -6,17 +6,17 @@ ghost use Rattle.vg_cost.specs.LongerPlan.{IsKnown, all_packs, described};
 ghost use Rattle.vg_cost.specs.Marks.{Marked};
 ghost use Rattle.vg_cost.specs.Taken.{add_all, add_taken, inserted_for, kept_for, recipe_for, taken_for, taken_of};
 ghost use Rattle.vg_cost.specs.Touch.{IsKnownBy};
-ghost use Rattle.vg_packing.specs.SameAs.{same_operand};
-ghost use Rattle.vg_packing.specs.Wants.{value_of};
+ghost use Rattle.vg_kernel_plans.specs.SameAs.{same_operand};
+ghost use Rattle.vg_kernel_plans.specs.Wants.{value_of};
 
 use crate::copies::copy_operand;
 use crate::lines::mark_wanted;
 use crate::longer_plan::LongerPlan;
 use crate::price::plus;
 use crate::recipe_cost::{RecipeCost, recipe_cost};
-use crate::touch::may_be_touched;
+use crate::touch::may_use_marked;
 use std::alloc::{AllocError, Global};
-use vg_packing::same::is_same_operand;
+use vg_kernel_plans::same::is_same_operand;
 use vg_shapes::{Operand, Slot};
 
 /// An operand that a plan takes, and what its recipe costs.
@@ -36,7 +36,7 @@ fn kept_recipe(alloc: Global, plan: &LongerPlan, taken: &Taken) -> Result<Recipe
         (all_packs plan.now) taken.now.operand) }
 {
     let operand = &taken.operand;
-    if may_be_touched(plan.own, operand) {
+    if may_use_marked(plan.own, operand) {
         return recipe_cost(alloc, plan, operand);
     }
     Ok(taken.recipe)

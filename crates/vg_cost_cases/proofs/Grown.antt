@@ -7,13 +7,13 @@ use Rattle.vg_plans.specs.Members.{Has}
 use Rattle.vg_plans.specs.World.{follows, has_no_cycle, is_packed, stays_plan, tried}
 use Rattle.vg_plans.proofs.Members.{from-filter}
 use Rattle.vg_shapes.specs.declared.match_table.Match.{Match}
-use Rattle.vg_shapes.specs.declared.pack.Pack.{Pack as Packed}
+use Rattle.vg_shapes.specs.declared.pack.Pack.{Pack}
 use Rattle.vg_shapes.specs.declared.ssa.Ssa.{Ssa}
 use Rattle.vg_shapes.specs.DepList.{is_listed}
 use Rattle.vg_shapes.specs.Pack.{units_of}
-use Rattle.vg_packing.specs.Laws.{IsPlanFor}
-use Rattle.vg_packing.specs.Packing.{packing}
-use Rattle.vg_packing.proofs.SameTests.{both-true}
+use Rattle.vg_kernel_plans.specs.Laws.{IsPlanFor}
+use Rattle.vg_kernel_plans.specs.Packing.{packing}
+use Rattle.vg_kernel_plans.proofs.SameTests.{both-true}
 use Rattle.vg_packs.specs.Walk.{IsFree, NameEarlier}
 use Rattle.vg_packs.proofs.Free.{free-first}
 
@@ -21,15 +21,15 @@ earlier-none : (deps : List (ℕ × ℕ)) → deps ≡ [] → NameEarlier deps
 earlier-none deps e later earlier t =
     absurd (let u : is_listed [] later earlier ≡ true = subst (λ d. is_listed d later earlier ≡ true) e t in cc)
 
-pub free-none : (matches : List Match) (ssa : Ssa) (deps : List (ℕ × ℕ)) (plan : List Packed) → deps ≡ [] → [] ≡ plan
+pub free-none : (matches : List Match) (ssa : Ssa) (deps : List (ℕ × ℕ)) (plan : List Pack) → deps ≡ [] → [] ≡ plan
     → IsFree matches ssa deps plan
 free-none matches ssa deps plan e p = subst (IsFree matches ssa deps) p (free-first matches ssa deps (earlier-none deps e))
 
-pub plan-none : (matches : List Match) (ssa : Ssa) (deps : List (ℕ × ℕ)) (plan : List Packed) → [] ≡ plan
+pub plan-none : (matches : List Match) (ssa : Ssa) (deps : List (ℕ × ℕ)) (plan : List Pack) → [] ≡ plan
     → IsPlanFor [] matches ssa deps plan
 plan-none matches ssa deps plan p = subst (IsPlanFor [] matches ssa deps) p empty
 
-module _ (matches : List Match) (ssa : Ssa) (deps : List (ℕ × ℕ)) (plan : List Packed) (p : Packed)
+module _ (matches : List Match) (ssa : Ssa) (deps : List (ℕ × ℕ)) (plan : List Pack) (p : Pack)
     (h : Has p (follows (packing [] matches ssa deps) plan)) where
   pub plan-more : IsPlanFor [] matches ssa deps plan → IsPlanFor [] matches ssa deps (plan ++ p ∷ [])
   plan-more m = more plan p m h

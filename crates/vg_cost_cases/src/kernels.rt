@@ -3,20 +3,20 @@
 use std::alloc::{AllocError, Global};
 use vg_base::{Address, Items, Name, Width};
 use vg_scalar::TwoOp as Sum;
-use vg_shapes::{Description, Operands, Operator, Ssa, SsaParam, SsaParamKind, Unit, Wanted};
+use vg_shapes::{Description, Operands, Operator, Ssa, SsaParam, SsaParamKind, SsaUnit, Wanted};
 use vg_terms::{LeafKey, Term, TwoOp, make_const, make_leaf, make_two};
 
 /// A load of 32 bits at a pointer and an offset.
-pub fn load(pointer: u32, offset: i32) -> Unit {
-    Unit::Load {
+pub fn load(pointer: u32, offset: i32) -> SsaUnit {
+    SsaUnit::Load {
         address: Address { pointer, offset },
         width: Width::W32,
     }
 }
 
 /// A store of 32 bits through pointer 0.
-pub fn store(offset: i32, value: Wanted) -> Unit {
-    Unit::Store {
+pub fn store(offset: i32, value: Wanted) -> SsaUnit {
+    SsaUnit::Store {
         address: Address { pointer: 0, offset },
         width: Width::W32,
         value,
@@ -24,18 +24,18 @@ pub fn store(offset: i32, value: Wanted) -> Unit {
 }
 
 /// A store of the value of this number.
-pub fn store_value(offset: i32, value: u32) -> Unit {
+pub fn store_value(offset: i32, value: u32) -> SsaUnit {
     store(offset, Wanted::Value(value))
 }
 
 /// A store of a number.
-pub fn store_number(offset: i32, value: u128) -> Unit {
+pub fn store_number(offset: i32, value: u128) -> SsaUnit {
     store(offset, Wanted::Constant { width: 32, value })
 }
 
 /// A sum of two values.
-pub fn sum(first: u32, second: u32) -> Unit {
-    Unit::Operation {
+pub fn sum(first: u32, second: u32) -> SsaUnit {
+    SsaUnit::Operation {
         op: Operator::Two(Sum::Add),
         width: Width::W32,
         amount: 0,
@@ -61,7 +61,7 @@ fn push_params(
 
 /// A kernel of these units. It has three pointers, the last two noalias, and two integers, which
 /// have the numbers 0 and 1, so that units are numbered from 2.
-pub fn kernel(alloc: Global, units: &[Unit], terms: Vec<Term>) -> Result<Ssa, AllocError> {
+pub fn kernel(alloc: Global, units: &[SsaUnit], terms: Vec<Term>) -> Result<Ssa, AllocError> {
     let mut params = Vec::new(alloc);
     let kinds = [
         SsaParamKind::Pointer { noalias: false },
@@ -81,7 +81,7 @@ pub fn kernel(alloc: Global, units: &[Unit], terms: Vec<Term>) -> Result<Ssa, Al
 }
 
 /// The same where no lane of a description computes a value.
-pub fn unmatched(alloc: Global, units: &[Unit]) -> Result<Ssa, AllocError> {
+pub fn unmatched(alloc: Global, units: &[SsaUnit]) -> Result<Ssa, AllocError> {
     kernel(alloc, units, Vec::new(alloc))
 }
 

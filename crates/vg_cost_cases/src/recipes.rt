@@ -6,7 +6,7 @@ use std::alloc::{AllocError, Global};
 use std::test::Fail;
 use vg_base::Items;
 use vg_gather::build_operand;
-use vg_packing::Recipe;
+use vg_kernel_plans::Recipe;
 use vg_shapes::{Description, Operand, Slot, Wanted};
 
 /// An operand with these slots of 32 bits, the first at bit 0.

@@ -2,8 +2,8 @@
 
 ghost use Rattle.std.specs.Prelude.{◌≡◌, [], IfOk};
 ghost use Rattle.vg_cost.specs.Running.{StandsFor};
-ghost use Rattle.vg_packing.specs.Laws.{IsPlanFor};
-ghost use Rattle.vg_packing.specs.Taken.{MatchesNear};
+ghost use Rattle.vg_kernel_plans.specs.Laws.{IsPlanFor};
+ghost use Rattle.vg_kernel_plans.specs.Taken.{MatchesNear};
 ghost use Rattle.vg_packs.specs.Walk.{IsFree, NameUnits};
 
 use crate::kernels::copied;

@@ -6,7 +6,7 @@ use Rattle.std.proofs.lemmas.Bool.{cases_lt, lt-ltb}
 use Rattle.vg_base.specs.Trap.{◌>>=◌}
 use Rattle.vg_shapes.specs.declared.access.Access.{Access}
 use Rattle.vg_shapes.specs.declared.ssa.Ssa.{Ssa}
-use Rattle.vg_shapes.specs.declared.unit.Unit.{Unit as Work}
+use Rattle.vg_shapes.specs.declared.ssa_unit.SsaUnit.{SsaUnit}
 use Rattle.vg_shapes.specs.DepList.{is_listed}
 use Rattle.vg_shapes.specs.Depends.{conflict_at, conflict_of, depends_on, uses_at}
 use Rattle.vg_shapes.specs.Layout.{access_at, access_of, AreApart, noalias_flags, Respects}
@@ -26,7 +26,7 @@ last-false true false b c e f g = absurd (cc)
 last-false false lt b c e f g = absurd (cc)
 
 -- what has an access is a unit
-accessed-unit : (o : Option Work) (x : Access) → (o >>= access_of) ≡ Some x → is_some o ≡ true
+accessed-unit : (o : Option SsaUnit) (x : Access) → (o >>= access_of) ≡ Some x → is_some o ≡ true
 accessed-unit None x e = absurd (cc)
 accessed-unit (Some u) x e = refl
 

@@ -8,7 +8,7 @@ use Rattle.std.proofs.lemmas.Bool.{cases_Bool, eqb-false, ne_eqb}
 use Rattle.vg_base.specs.Address.{place_of}
 use Rattle.vg_shapes.specs.declared.access.Access.{Access}
 use Rattle.vg_shapes.specs.declared.ssa.Ssa.{Ssa}
-use Rattle.vg_shapes.specs.declared.unit.Unit.{Unit as Work}
+use Rattle.vg_shapes.specs.declared.ssa_unit.SsaUnit.{SsaUnit}
 use Rattle.vg_shapes.specs.Layout.{access_of, accesses, AreApart, is_noalias, noalias_flags, Respects}
 use Rattle.vg_deps.specs.Layouts.{are_apart, are_respected, is_respected_by, keeps_apart, keeps_apart_from}
 use Rattle.vg_deps.proofs.Apart.{turned}
@@ -39,7 +39,7 @@ one-access : (p : Access → Bool) (o : Option Access) (rest : Bool) (xs : List 
 one-access p None rest xs e = e
 one-access p (Some x) rest xs e = ap (λ b. p x && b) e
 
-all-accesses : (p : Access → Bool) (us : List Work) → list_all (λ u. option_map_or p (access_of u) true) us ≡ list_all p (filter_map access_of us)
+all-accesses : (p : Access → Bool) (us : List SsaUnit) → list_all (λ u. option_map_or p (access_of u) true) us ≡ list_all p (filter_map access_of us)
 all-accesses p [] = refl
 all-accesses p (u ∷ us) = one-access p (access_of u) _ (filter_map access_of us) (all-accesses p us)
 
@@ -84,11 +84,11 @@ test-from_apart places x y (inr h) = second-true _ _ (is-not_before (place_of pl
 
 -- ---- all accesses
 
-respected-at : (flags : List Bool) (places : List ℕ) (us : List Work) → are_respected flags places us ≡ list_all (is_respected_by flags places us) (filter_map access_of us)
+respected-at : (flags : List Bool) (places : List ℕ) (us : List SsaUnit) → are_respected flags places us ≡ list_all (is_respected_by flags places us) (filter_map access_of us)
 respected-at flags places us = all-accesses (is_respected_by flags places us) us
 
 -- through a noalias pointer
-kept-apart : (flags : List Bool) (places : List ℕ) (us : List Work) (x y : Access) → are_respected flags places us ≡ true → Contains (filter_map access_of us) x → Contains (filter_map access_of us) y → is_noalias flags x ≡ true → (x.address.pointer ≢ y.address.pointer) → (x.writes || y.writes) ≡ true → AreApart places x y
+kept-apart : (flags : List Bool) (places : List ℕ) (us : List SsaUnit) (x y : Access) → are_respected flags places us ≡ true → Contains (filter_map access_of us) x → Contains (filter_map access_of us) y → is_noalias flags x ≡ true → (x.address.pointer ≢ y.address.pointer) → (x.writes || y.writes) ≡ true → AreApart places x y
 kept-apart flags places us x y h cx cy noalias other writes =
     let at : is_respected_by flags places us x ≡ true = all-member (is_respected_by flags places us) (filter_map access_of us) x (sym (respected-at flags places us) ∙ h) cx in
     let from : keeps_apart_from places x us ≡ true = holds-then (is_noalias flags x) (keeps_apart_from places x us) at noalias in

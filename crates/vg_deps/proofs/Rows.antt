@@ -8,7 +8,7 @@ use Rattle.std.proofs.lemmas.List.Filters.{length-filter_both}
 use Rattle.std.proofs.lemmas.Option.{slice_get-get_or}
 use Rattle.vg_base.specs.Trap.{◌>>=◌}
 use Rattle.vg_shapes.specs.declared.ssa.Ssa.{Ssa}
-use Rattle.vg_shapes.specs.declared.unit.Unit.{Unit as Work}
+use Rattle.vg_shapes.specs.declared.ssa_unit.SsaUnit.{SsaUnit}
 use Rattle.vg_shapes.specs.Depends.{conflict_at, conflict_of, depended, depends_on, numbers_below, uses_at}
 use Rattle.vg_shapes.specs.Layout.{access_of, noalias_flags}
 use Rattle.vg_shapes.specs.Order.{numbers_from}
@@ -40,7 +40,7 @@ unit-behind ssa k =
     cond-false _ _ _ (le-ltb (arguments ssa + k) (arguments ssa) (omega arith))
     ∙ ap (slice_get ssa.units) (let e : arguments ssa + k - arguments ssa ≡ k = omega arith in e)
 
-depends-units : (ssa : Ssa) (index k : ℕ) (u w : Work) → k < index → slice_get ssa.units k ≡ Some u → slice_get ssa.units index ≡ Some w
+depends-units : (ssa : Ssa) (index k : ℕ) (u w : SsaUnit) → k < index → slice_get ssa.units k ≡ Some u → slice_get ssa.units index ≡ Some w
     → depends_on ssa (arguments ssa + index) (arguments ssa + k) ≡ depends_by (noalias_flags ssa) w u (arguments ssa + k)
 depends-units ssa index k u w below e g =
     let earlier : unit_at ssa (arguments ssa + k) ≡ Some u = unit-behind ssa k ∙ e in
@@ -52,7 +52,7 @@ depends-units ssa index k u w below e g =
 abbrev pub RowSoFar : Ssa → ℕ → ℕ → List ℕ → Type 0
 RowSoFar ssa index left row = row ++ filter (depends_on ssa (arguments ssa + index)) (numbers_below (arguments ssa + left)) ≡ depended ssa (arguments ssa + index)
 
-pub row_more : (ssa : Ssa) (index k : ℕ) (u w : Work) (flags : List Bool) (row new : List ℕ) → k < index
+pub row_more : (ssa : Ssa) (index k : ℕ) (u w : SsaUnit) (flags : List Bool) (row new : List ℕ) → k < index
     → slice_get ssa.units k ≡ Some u → slice_get ssa.units index ≡ Some w → flags ≡ noalias_flags ssa
     → new ≡ row ++ (if depends_by flags w u (arguments ssa + k) then (arguments ssa + k) ∷ [] else [])
     → RowSoFar ssa index (suc k) row → RowSoFar ssa index k new
@@ -72,7 +72,7 @@ row_more ssa index k u w flags row new below e g f is so =
     kept false x l = refl
 
 -- the same where the units are read by their indexes
-pub row_step : (ssa : Ssa) (units : List Work) (first value left : ℕ) (flags : List Bool) (row new : List ℕ) (dependent : Bool) (d e : Work)
+pub row_step : (ssa : Ssa) (units : List SsaUnit) (first value left : ℕ) (flags : List Bool) (row new : List ℕ) (dependent : Bool) (d e : SsaUnit)
     → units ≡ ssa.units → first ≡ arguments ssa → first ≤ value → value < first + length ssa.units → 0 < left → left ≤ value - first → flags ≡ noalias_flags ssa
     → dependent ≡ depends_by flags (get_or units (value - first) d) (get_or units (left - 1) e) (first + (left - 1))
     → new ≡ row ++ (if dependent then (first + (left - 1)) ∷ [] else [])

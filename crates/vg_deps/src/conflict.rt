@@ -5,7 +5,7 @@ ghost use Rattle.vg_deps.specs.Rows.{depends_by};
 ghost use Rattle.vg_shapes.specs.Depends.{conflict, conflict_of, may_share, overlap};
 ghost use Rattle.vg_shapes.specs.Layout.{is_noalias};
 
-use vg_shapes::{Access, Unit};
+use vg_shapes::{Access, SsaUnit};
 
 // Whether the pointer of an access is noalias, by the flags of all pointers in order.
 fn is_noalias(flags: &[bool], x: Access) -> bool
@@ -60,7 +60,7 @@ fn conflict_of(flags: &[bool], x: Option<Access>, y: Option<Access>) -> bool
 
 /// Whether a unit depends on an earlier one of this number: it uses its value, or both are accesses, one
 /// of them writes, and they may share a byte. The flags say of each pointer whether it is noalias.
-pub(crate) fn depends_by(flags: &[bool], later: &Unit, earlier: &Unit, number: u32) -> bool
+pub(crate) fn depends_by(flags: &[bool], later: &SsaUnit, earlier: &SsaUnit, number: u32) -> bool
     ensures { result ≡ depends_by flags.now later.now earlier.now number }
 {
     later.uses(number) || conflict_of(flags, earlier.access(), later.access())

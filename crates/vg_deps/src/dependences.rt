@@ -39,7 +39,8 @@ fn noalias_flags(alloc: Global, ssa: &Ssa) -> Result<Vec<bool>, AllocError>
 fn rows(alloc: Global, ssa: &Ssa, flags: &[bool]) -> Result<Items<Items<u32>>, AllocError>
     requires sound { IsSound ssa.now }
     requires flags { flags.now ≡ noalias_flags ssa.now }
-    ensures { IfOk result (λ rows. rows ≡ map (depended ssa.now) (numbers_from 0 (arguments ssa.now + length ssa.now.units))) }
+    ensures { IfOk result (λ rows. rows ≡ map (depended ssa.now) (numbers_from 0 (arguments ssa.now
+        + length ssa.now.units))) }
 {
     let first = ssa.arguments();
     let count = first + ssa.units.as_slice().len();
@@ -85,7 +86,8 @@ fn row(
 
 // Puts a number after the others where this holds.
 fn push_where(numbers: &mut Vec<u32>, number: u32, holds: bool) -> Result<(), AllocError>
-    ensures { OnOk result (numbers.new.items ≡ numbers.old.items ++ (if holds then number ∷ [] else [])) }
+    ensures { OnOk result (numbers.new.items ≡ numbers.old.items ++ (if holds then number ∷ [] else
+        [])) }
 {
     if holds {
         numbers.push(number)?;

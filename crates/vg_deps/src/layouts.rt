@@ -8,7 +8,7 @@ ghost use Rattle.vg_deps.specs.Layouts.{are_apart, are_respected, is_respected_b
 ghost use Rattle.vg_shapes.specs.Layout.{access_of, is_noalias, noalias_of, Respects};
 
 use vg_memory::{number_at, place_of};
-use vg_shapes::{Access, Ssa, SsaParam, SsaParamKind, Unit};
+use vg_shapes::{Access, Ssa, SsaParam, SsaParamKind, SsaUnit};
 
 /// Whether pointers that have these places, in their order, keep what noalias says. Takes no memory.
 pub fn respects(ssa: &Ssa, places: &[u64]) -> bool
@@ -17,8 +17,9 @@ pub fn respects(ssa: &Ssa, places: &[u64]) -> bool
     are_respected(ssa.params.as_slice(), places, ssa.units.as_slice())
 }
 
-fn are_respected(params: &[SsaParam], places: &[u64], units: &[Unit]) -> bool
-    ensures { result ≡ are_respected (filter_map (λ p. noalias_of p.kind) params.now) places.now units.now }
+fn are_respected(params: &[SsaParam], places: &[u64], units: &[SsaUnit]) -> bool
+    ensures { result ≡ are_respected (filter_map (λ p. noalias_of p.kind) params.now) places.now
+        units.now }
 {
     units
         .iter()
@@ -26,8 +27,9 @@ fn are_respected(params: &[SsaParam], places: &[u64], units: &[Unit]) -> bool
 }
 
 // The same of what one of the units accesses, if it does.
-fn is_respected_at(params: &[SsaParam], places: &[u64], units: &[Unit], unit: &Unit) -> bool
-    ensures { result ≡ option_map_or (is_respected_by (filter_map (λ p. noalias_of p.kind) params.now) places.now units.now) (access_of unit.now) true }
+fn is_respected_at(params: &[SsaParam], places: &[u64], units: &[SsaUnit], unit: &SsaUnit) -> bool
+    ensures { result ≡ option_map_or (is_respected_by (filter_map (λ p. noalias_of p.kind)
+        params.now) places.now units.now) (access_of unit.now) true }
 {
     match unit.access() {
         None => true,
@@ -35,8 +37,9 @@ fn is_respected_at(params: &[SsaParam], places: &[u64], units: &[Unit], unit: &U
     }
 }
 
-fn is_respected_by(params: &[SsaParam], places: &[u64], units: &[Unit], x: Access) -> bool
-    ensures { result ≡ is_respected_by (filter_map (λ p. noalias_of p.kind) params.now) places.now units.now x }
+fn is_respected_by(params: &[SsaParam], places: &[u64], units: &[SsaUnit], x: Access) -> bool
+    ensures { result ≡ is_respected_by (filter_map (λ p. noalias_of p.kind) params.now) places.now
+        units.now x }
 {
     !is_noalias(params, x) || keeps_apart_from(places, x, units)
 }
@@ -59,14 +62,14 @@ fn is_noalias(params: &[SsaParam], x: Access) -> bool
     false
 }
 
-fn keeps_apart_from(places: &[u64], x: Access, units: &[Unit]) -> bool
+fn keeps_apart_from(places: &[u64], x: Access, units: &[SsaUnit]) -> bool
     ensures { result ≡ keeps_apart_from places.now x units.now }
 {
     units.iter().all(|unit| keeps_apart_at(places, x, unit))
 }
 
 // The same of what a unit accesses, if it does.
-fn keeps_apart_at(places: &[u64], x: Access, unit: &Unit) -> bool
+fn keeps_apart_at(places: &[u64], x: Access, unit: &SsaUnit) -> bool
     ensures { result ≡ option_map_or (keeps_apart places.now x) (access_of unit.now) true }
 {
     match unit.access() {
@@ -92,7 +95,8 @@ fn are_apart(places: &[u64], x: Access, y: Access) -> bool
 
 // Whether an access ends where another begins, or before.
 fn ends_before(places: &[u64], x: Access, y: Access) -> bool
-    ensures { result ≡ not (int_lt (place_of places.now y.address) (place_of places.now x.address +ℤ pos x.size)) }
+    ensures { result ≡ not (int_lt (place_of places.now y.address) (place_of places.now x.address +ℤ
+        pos x.size)) }
 {
     !begins_inside(place_of(places, y.address), end_of(places, x))
 }

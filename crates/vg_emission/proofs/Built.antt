@@ -8,15 +8,15 @@ use Rattle.vg_base.specs.declared.width.Width.{Width}
 use Rattle.vg_plans.specs.Members.{Has}
 use Rattle.vg_shapes.specs.declared.order.Node.{Node}
 use Rattle.vg_shapes.specs.declared.order.Node.TheVariants.{PackAt, UnitAt}
-use Rattle.vg_shapes.specs.declared.pack.Pack.{Pack as Packed}
+use Rattle.vg_shapes.specs.declared.pack.Pack.{Pack}
 use Rattle.vg_shapes.specs.declared.pack.Pack.TheVariants.{Stores, Loads, Call}
-use Rattle.vg_shapes.specs.declared.unit.Unit.{Unit as Work}
-use Rattle.vg_shapes.specs.declared.unit.Unit.TheVariants.{Load, Store, Operation}
+use Rattle.vg_shapes.specs.declared.ssa_unit.SsaUnit.{SsaUnit}
+use Rattle.vg_shapes.specs.declared.ssa_unit.SsaUnit.TheVariants.{Load, Store, Operation}
 use Rattle.vg_shapes.specs.Operands.{lanes_of}
 use Rattle.vg_shapes.specs.Units.{unit_at}
-use Rattle.vg_packing.specs.declared.recipe.Recipe.{Recipe}
-use Rattle.vg_packing.specs.declared.recipe.Recipe.TheVariants as recipe
-use Rattle.vg_packing.specs.Held.{lane_width_of}
+use Rattle.vg_kernel_plans.specs.declared.recipe.Recipe.{Recipe}
+use Rattle.vg_kernel_plans.specs.declared.recipe.Recipe.TheVariants as recipe
+use Rattle.vg_kernel_plans.specs.Held.{lane_width_of}
 use Rattle.vg_emission.specs.Draft.{Draft, Made, found, with_name}
 use Rattle.vg_emission.specs.Emission.{Job, build, build_all, extracts, node_lines, pack_at, pack_lines, place, place_once, recipe_at, takes_at, unit_lines, value_slots, operand_at, width_for, with_pack}
 use Rattle.vg_emission.proofs.Costs.{last_draft}
@@ -80,17 +80,17 @@ extracts-built j d r w n (Some v ∷ us) =
       | inr f ↦ subst Goal (sym (cond-false _ _ _ f)) (extracts-built j d r w (n + 1) us)
     ]
 
-with-pack-built : (d : Draft) (k : ℕ) (p : Packed) → (with_pack d k p).built ≡ d.built
+with-pack-built : (d : Draft) (k : ℕ) (p : Pack) → (with_pack d k p).built ≡ d.built
 with-pack-built d k (Stores us) = refl
 with-pack-built d k (Loads us) = refl
 with-pack-built d k (Call e lanes) = refl
 
-pack-draft : (j : Job) (d : Draft) (k : ℕ) (p : Packed) → (pack_lines j d k p).draft.built ≡ (build_all j d (takes_at j k)).draft.built
+pack-draft : (j : Job) (d : Draft) (k : ℕ) (p : Pack) → (pack_lines j d k p).draft.built ≡ (build_all j d (takes_at j k)).draft.built
 pack-draft j d k p =
     let f = (build_all j d (takes_at j k)).draft in
     extracts-built j (with_pack f k p) f.vectors (width_for (lane_width_of j.descriptions j.ssa p)) 0 (lanes_of p) ∙ with-pack-built f k p
 
-work-built : (j : Job) (d : Draft) (v : ℕ) (o : Option Work) → (unit_lines j d v o).draft.built ≡ d.built
+work-built : (j : Job) (d : Draft) (v : ℕ) (o : Option SsaUnit) → (unit_lines j d v o).draft.built ≡ d.built
 work-built j d v None = refl
 work-built j d v (Some (Load a w)) = refl
 work-built j d v (Some (Store a w x)) = refl

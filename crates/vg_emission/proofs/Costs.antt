@@ -12,23 +12,23 @@ use Rattle.vg_program.specs.Cost.{line_cost}
 use Rattle.vg_shapes.specs.declared.operand.Slot.{Slot}
 use Rattle.vg_shapes.specs.declared.order.Node.{Node}
 use Rattle.vg_shapes.specs.declared.order.Node.TheVariants.{PackAt, UnitAt}
-use Rattle.vg_shapes.specs.declared.pack.Pack.{Pack as Packed}
+use Rattle.vg_shapes.specs.declared.pack.Pack.{Pack}
 use Rattle.vg_shapes.specs.declared.pack.Pack.TheVariants.{Stores, Loads, Call}
-use Rattle.vg_shapes.specs.declared.unit.Operator.{Operator}
-use Rattle.vg_shapes.specs.declared.unit.Operator.TheVariants.{Two, Shift, Resize, Compare, Select}
-use Rattle.vg_shapes.specs.declared.unit.Unit.{Unit as Work}
-use Rattle.vg_shapes.specs.declared.unit.Unit.TheVariants.{Load, Store, Operation}
+use Rattle.vg_shapes.specs.declared.ssa_unit.Operator.{Operator}
+use Rattle.vg_shapes.specs.declared.ssa_unit.Operator.TheVariants.{Two, Shift, Resize, Compare, Select}
+use Rattle.vg_shapes.specs.declared.ssa_unit.SsaUnit.{SsaUnit}
+use Rattle.vg_shapes.specs.declared.ssa_unit.SsaUnit.TheVariants.{Load, Store, Operation}
 use Rattle.vg_shapes.specs.declared.wanted.Wanted.{Wanted}
 use Rattle.vg_shapes.specs.declared.wanted.Wanted.TheVariants.{Value, Constant, Nothing}
 use Rattle.vg_shapes.specs.Description.{Description}
 use Rattle.vg_shapes.specs.Operands.{lanes_of}
 use Rattle.vg_shapes.specs.Order.{one_if}
 use Rattle.vg_shapes.specs.Units.{unit_at}
-use Rattle.vg_packing.specs.declared.recipe.Recipe.{Recipe}
-use Rattle.vg_packing.specs.declared.recipe.Recipe.TheVariants as recipe
-use Rattle.vg_packing.specs.Held.{lane_width_of}
-use Rattle.vg_packing.specs.Packing.{price_of}
-use Rattle.vg_packing.specs.Wants.{value_of, wants_value}
+use Rattle.vg_kernel_plans.specs.declared.recipe.Recipe.{Recipe}
+use Rattle.vg_kernel_plans.specs.declared.recipe.Recipe.TheVariants as recipe
+use Rattle.vg_kernel_plans.specs.Held.{lane_width_of}
+use Rattle.vg_kernel_plans.specs.Packing.{price_of}
+use Rattle.vg_kernel_plans.specs.Wants.{value_of, wants_value}
 use Rattle.vg_emission.specs.Draft.{Draft, Made, found, with_name}
 use Rattle.vg_emission.specs.Costs.{cost_of_recipe}
 use Rattle.vg_emission.specs.Emission.{Job, build, build_all, emitted, extracts, inserts, no_description, node_lines, number_for, operand_at, operation_line, pack_at, pack_line, pack_lines, place, place_once, recipe_at, takes_at, unit_lines, value_slots, width_for, with_pack}
@@ -145,7 +145,7 @@ extracts-cost j d r w n (Some v ∷ us) =
     ]
 
 -- a unit outside packs
-abbrev pub work_cost : Job → ℕ → Option Work → ℕ
+abbrev pub work_cost : Job → ℕ → Option SsaUnit → ℕ
 work_cost j v None = 0
 work_cost j v (Some (Load a w)) = 1
 work_cost j v (Some (Store a w x)) = 1
@@ -158,7 +158,7 @@ operation-cost (Resize op from) w k x y z = refl
 operation-cost (Compare op) w k x y z = refl
 operation-cost Select w k x y z = refl
 
-work-costs : (j : Job) (d : Draft) (v : ℕ) (o : Option Work) → (lines_cost (unit_lines j d v o).lines ≡ work_cost j v o) × ((unit_lines j d v o).draft.built ≡ d.built)
+work-costs : (j : Job) (d : Draft) (v : ℕ) (o : Option SsaUnit) → (lines_cost (unit_lines j d v o).lines ≡ work_cost j v o) × ((unit_lines j d v o).draft.built ≡ d.built)
 work-costs j d v None = (refl, refl)
 work-costs j d v (Some (Load a w)) = (refl, refl)
 work-costs j d v (Some (Store a w x)) = (refl, refl)
@@ -174,21 +174,21 @@ call-price [] e = refl
 call-price (d ∷ ds) zero = refl
 call-price (d ∷ ds) (suc e) = call-price ds e
 
-line-price : (j : Job) (p : Packed) (rs : List ℕ) → line_cost (pack_line j p rs) ≡ price_of j.descriptions p
+line-price : (j : Job) (p : Pack) (rs : List ℕ) → line_cost (pack_line j p rs) ≡ price_of j.descriptions p
 line-price j (Stores us) rs = refl
 line-price j (Loads us) rs = refl
 line-price j (Call e lanes) rs = call-price j.descriptions e
 
-with-pack-built : (d : Draft) (k : ℕ) (p : Packed) → (with_pack d k p).built ≡ d.built
+with-pack-built : (d : Draft) (k : ℕ) (p : Pack) → (with_pack d k p).built ≡ d.built
 with-pack-built d k (Stores us) = refl
 with-pack-built d k (Loads us) = refl
 with-pack-built d k (Call e lanes) = refl
 
 -- a pack with what is taken out of it, without its operands
-abbrev pub pack_cost : Job → Packed → ℕ
+abbrev pub pack_cost : Job → Pack → ℕ
 pack_cost j p = price_of j.descriptions p + needed_in j (values_of p)
 
-pack-costs : (j : Job) (d : Draft) (k : ℕ) (p : Packed) → AllBelow (length d.built) (takes_at j k)
+pack-costs : (j : Job) (d : Draft) (k : ℕ) (p : Pack) → AllBelow (length d.built) (takes_at j k)
     → (lines_cost (pack_lines j d k p).lines + built_cost j 0 d.built ≡ pack_cost j p + built_cost j 0 (pack_lines j d k p).draft.built) × (length (pack_lines j d k p).draft.built ≡ length d.built)
 pack-costs j d k p h =
     let x = builds-cost j d (takes_at j k) h in let a = x.0 in

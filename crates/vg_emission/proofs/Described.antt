@@ -9,17 +9,17 @@ use Rattle.vg_shapes.specs.declared.match_table.Match.{Match}
 use Rattle.vg_shapes.specs.declared.operand.Slot.{Slot}
 use Rattle.vg_shapes.specs.declared.order.Node.{Node}
 use Rattle.vg_shapes.specs.declared.order.Node.TheVariants.{PackAt, UnitAt}
-use Rattle.vg_shapes.specs.declared.pack.Pack.{Pack as Packed}
+use Rattle.vg_shapes.specs.declared.pack.Pack.{Pack}
 use Rattle.vg_shapes.specs.declared.pack.Pack.TheVariants.{Stores, Loads, Call}
-use Rattle.vg_shapes.specs.declared.unit.Operator.{Operator}
-use Rattle.vg_shapes.specs.declared.unit.Operator.TheVariants.{Two, Shift, Resize, Compare, Select}
-use Rattle.vg_shapes.specs.declared.unit.Unit.{Unit as Work}
-use Rattle.vg_shapes.specs.declared.unit.Unit.TheVariants.{Load, Store, Operation}
+use Rattle.vg_shapes.specs.declared.ssa_unit.Operator.{Operator}
+use Rattle.vg_shapes.specs.declared.ssa_unit.Operator.TheVariants.{Two, Shift, Resize, Compare, Select}
+use Rattle.vg_shapes.specs.declared.ssa_unit.SsaUnit.{SsaUnit}
+use Rattle.vg_shapes.specs.declared.ssa_unit.SsaUnit.TheVariants.{Load, Store, Operation}
 use Rattle.vg_shapes.specs.Operands.{lanes_of}
 use Rattle.vg_shapes.specs.Units.{unit_at}
-use Rattle.vg_packing.specs.declared.recipe.Recipe.{Recipe}
-use Rattle.vg_packing.specs.declared.recipe.Recipe.TheVariants as recipe
-use Rattle.vg_packing.specs.Held.{lane_width_of}
+use Rattle.vg_kernel_plans.specs.declared.recipe.Recipe.{Recipe}
+use Rattle.vg_kernel_plans.specs.declared.recipe.Recipe.TheVariants as recipe
+use Rattle.vg_kernel_plans.specs.Held.{lane_width_of}
 use Rattle.vg_emission.specs.Draft.{Draft, Made, found, with_name}
 use Rattle.vg_emission.specs.Emission.{Job, build, build_all, description_at, emitted, extracts, inserts, no_description, number_for, operand_at, operation_line, pack_at, pack_line, pack_lines, place, place_once, recipe_at, takes_at, unit_lines, value_slots, width_for, with_pack}
 use Rattle.vg_emission.specs.Fit.{CallsDescribed, EmittedCallsDescribed, IsDescribed, RecipeFits}
@@ -68,7 +68,7 @@ operation-calls j (Resize op from) w k x y z = tt
 operation-calls j (Compare op) w k x y z = tt
 operation-calls j Select w k x y z = tt
 
-work-calls : (j : Job) (d : Draft) (v : ℕ) (o : Option Work) → CallsDescribed j.descriptions (unit_lines j d v o).lines
+work-calls : (j : Job) (d : Draft) (v : ℕ) (o : Option SsaUnit) → CallsDescribed j.descriptions (unit_lines j d v o).lines
 work-calls j d v None = tt
 work-calls j d v (Some (Load a w)) = (tt, tt)
 work-calls j d v (Some (Store a w x)) = (tt, tt)
@@ -79,7 +79,7 @@ work-calls j d v (Some (Operation op w k xs)) =
       | inr f ↦ subst Goal (sym (cond-false _ _ _ f)) tt
     ]
 
-line-calls : (j : Job) (p : Packed) (rs : List ℕ) → IsPack j.descriptions j.ssa p → IsDescribed j.descriptions (pack_line j p rs)
+line-calls : (j : Job) (p : Pack) (rs : List ℕ) → IsPack j.descriptions j.ssa p → IsDescribed j.descriptions (pack_line j p rs)
 line-calls j (Stores us) rs is = tt
 line-calls j (Loads us) rs is = tt
 line-calls j (Call e lanes) rs is = (e, description_at j e, get-there j.descriptions e no_description is.0, refl, refl)

@@ -13,11 +13,11 @@ use Rattle.vg_base.specs.Width.{size_of}
 use Rattle.vg_shapes.specs.declared.match_table.Match.{Match}
 use Rattle.vg_shapes.specs.declared.order.Node.{Node}
 use Rattle.vg_shapes.specs.declared.order.Node.TheVariants.{PackAt, UnitAt}
-use Rattle.vg_shapes.specs.declared.pack.Pack.{Pack as Packed}
+use Rattle.vg_shapes.specs.declared.pack.Pack.{Pack}
 use Rattle.vg_shapes.specs.declared.pack.Pack.TheVariants.{Stores, Loads, Call}
 use Rattle.vg_shapes.specs.declared.ssa.Ssa.{Ssa}
-use Rattle.vg_shapes.specs.declared.unit.Unit.{Unit as Work}
-use Rattle.vg_shapes.specs.declared.unit.Unit.TheVariants.{Load, Store, Operation}
+use Rattle.vg_shapes.specs.declared.ssa_unit.SsaUnit.{SsaUnit}
+use Rattle.vg_shapes.specs.declared.ssa_unit.SsaUnit.TheVariants.{Load, Store, Operation}
 use Rattle.vg_shapes.specs.declared.wanted.Wanted.{Wanted}
 use Rattle.vg_shapes.specs.Description.{Description}
 use Rattle.vg_shapes.specs.Layout.{access_at, access_of}
@@ -66,28 +66,28 @@ stands-found x (y ∷ ys) h = elim (cases_Bool (nat_eq x y)) [
 
 -- ---- units with values
 
-pub valued-some : (o : Option Work) → is_some (o >>= unit_bits) ≡ true → Valued o
+pub valued-some : (o : Option SsaUnit) → is_some (o >>= unit_bits) ≡ true → Valued o
 valued-some None h = cc
 valued-some (Some (Load a w)) h = tt
 valued-some (Some (Store a w x)) h = cc
 valued-some (Some (Operation op w k xs)) h = tt
 
-pub some-valued : (o : Option Work) → Valued o → is_some (o >>= unit_bits) ≡ true
+pub some-valued : (o : Option SsaUnit) → Valued o → is_some (o >>= unit_bits) ≡ true
 some-valued None h = absurd h
 some-valued (Some (Load a w)) h = refl
 some-valued (Some (Store a w x)) h = absurd h
 some-valued (Some (Operation op w k xs)) h = refl
 
-pub valued-unit : (o : Option Work) → Valued o → (u : Work) × (o ≡ Some u)
+pub valued-unit : (o : Option SsaUnit) → Valued o → (u : SsaUnit) × (o ≡ Some u)
 valued-unit None h = absurd h
 valued-unit (Some u) h = (u, refl)
 
-pub valued-is : (o : Option Work) → Valued o → is_some o ≡ true
+pub valued-is : (o : Option SsaUnit) → Valued o → is_some o ≡ true
 valued-is None h = absurd h
 valued-is (Some u) h = refl
 
 -- the number of a unit
-pub unit-number : (ssa : Ssa) (v : ℕ) (u : Work) → unit_at ssa v ≡ Some u → (arguments ssa ≤ v) × (v < arguments ssa + length ssa.units)
+pub unit-number : (ssa : Ssa) (v : ℕ) (u : SsaUnit) → unit_at ssa v ≡ Some u → (arguments ssa ≤ v) × (v < arguments ssa + length ssa.units)
 unit-number ssa v u e = elim (cases_lt v (arguments ssa)) [
   | inl below ↦ absurd (let none : None ≡ Some u = sym (cond-true _ _ _ (Rattle.std.proofs.lemmas.Bool.lt-ltb v (arguments ssa) below)) ∙ e in cc)
   | inr above ↦
@@ -100,7 +100,7 @@ unit-number ssa v u e = elim (cases_lt v (arguments ssa)) [
 pub units-same : (j : Job) (n : Node) → units_at j.packs n ≡ node_units j n
 units-same j (PackAt k) = by j.packs k
   where
-    by : (packs : List Packed) (k : ℕ) → option_map_or units_of (slice_get packs k) [] ≡ units_of (slice_index_or packs k (Stores []))
+    by : (packs : List Pack) (k : ℕ) → option_map_or units_of (slice_get packs k) [] ≡ units_of (slice_index_or packs k (Stores []))
     by [] k = refl
     by (p ∷ packs) zero = refl
     by (p ∷ packs) (suc k) = by packs k
@@ -115,13 +115,13 @@ follows-same j depends done [] h = tt
 follows-same j depends done (n ∷ ns) h = (λ x d. subst (In x) (all-units-same j done) (h.0 x d), follows-same j depends (done ++ n ∷ []) ns h.1)
 
 -- a unit of a pack is among those in packs
-pub stands-packed : (packs : List Packed) (k x : ℕ) → In x (units_of (slice_index_or packs k (Stores []))) → In x (packed packs)
+pub stands-packed : (packs : List Pack) (k x : ℕ) → In x (units_of (slice_index_or packs k (Stores []))) → In x (packed packs)
 stands-packed [] k x h = absurd (omega arith)
 stands-packed (p ∷ packs) zero x h = let split = count_of-append x (units_of p) (packed packs) in omega arith
 stands-packed (p ∷ packs) (suc k) x h = let split = count_of-append x (units_of p) (packed packs) in let rest = stands-packed packs k x h in omega arith
 
 -- it is in one pack alone
-one-pack : (packs : List Packed) (k n x : ℕ) → count_of x (packed packs) ≤ 1 → In x (units_of (slice_index_or packs k (Stores []))) → In x (units_of (slice_index_or packs n (Stores []))) → k ≡ n
+one-pack : (packs : List Pack) (k n x : ℕ) → count_of x (packed packs) ≤ 1 → In x (units_of (slice_index_or packs k (Stores []))) → In x (units_of (slice_index_or packs n (Stores []))) → k ≡ n
 one-pack [] k n x once g h = absurd (omega arith)
 one-pack (p ∷ packs) zero zero x once g h = refl
 one-pack (p ∷ packs) zero (suc n) x once g h = absurd (let split = count_of-append x (units_of p) (packed packs) in let rest = stands-packed packs n x h in omega arith)
@@ -132,14 +132,14 @@ one-most : (b : Bool) → one_if b ≤ 1
 one-most true = omega arith
 one-most false = omega arith
 
-at-most-once : (ssa : Ssa) (packs : List Packed) (x : ℕ) → ArePacks ssa packs → count_of x (packed packs) ≤ 1
+at-most-once : (ssa : Ssa) (packs : List Pack) (x : ℕ) → ArePacks ssa packs → count_of x (packed packs) ≤ 1
 at-most-once ssa packs x are = let a = are.once x in let b = one-most (is_unit ssa x) in omega arith
 
 is-one : (b : Bool) → 0 < one_if b → b ≡ true
 is-one true h = refl
 is-one false h = absurd (omega arith)
 
-pub packed-unit : (ssa : Ssa) (packs : List Packed) (k x : ℕ) → ArePacks ssa packs → In x (units_of (slice_index_or packs k (Stores []))) → is_unit ssa x ≡ true
+pub packed-unit : (ssa : Ssa) (packs : List Pack) (k x : ℕ) → ArePacks ssa packs → In x (units_of (slice_index_or packs k (Stores []))) → is_unit ssa x ≡ true
 packed-unit ssa packs k x are h = is-one (is_unit ssa x) (let a = are.once x in let b = stands-packed packs k x h in omega arith)
 
 -- ---- nodes
@@ -196,7 +196,7 @@ kind-at j k all h = listed (IsPack j.descriptions j.ssa) j.packs k (Stores []) a
 pub calls-at : (j : Job) (k : ℕ) → ArePacks j.ssa j.packs → k < length j.packs → CallsOperations j.ssa (pack_at j k)
 calls-at j k are h = listed (CallsOperations j.ssa) j.packs k (Stores []) are.calls h
 
-pub pack-sides : (ds : List Description) (ssa : Ssa) (p : Packed) → IsPack ds ssa p → CallsOperations ssa p → PackSides ssa p
+pub pack-sides : (ds : List Description) (ssa : Ssa) (p : Pack) → IsPack ds ssa p → CallsOperations ssa p → PackSides ssa p
 pack-sides ds ssa (Loads us) is calls = (is.0, is.1, is.2, is.4)
 pack-sides ds ssa (Stores us) is calls = (is.0, is.1, is.2, is.4, is.7)
 pack-sides ds ssa (Call e lanes) is calls = calls
@@ -217,7 +217,7 @@ stores-not-valued ssa w a (u ∷ us) (y ∷ ys) x are h valued = elim (cases_Boo
 ]
 
 -- a unit without an access is an operation
-operation-valued : (o : Option Work) → is_some o ≡ true → (o >>= access_of) ≡ None → Valued o
+operation-valued : (o : Option SsaUnit) → is_some o ≡ true → (o >>= access_of) ≡ None → Valued o
 operation-valued None some none = cc
 operation-valued (Some (Load a w)) some none = cc
 operation-valued (Some (Store a w x)) some none = cc
@@ -230,7 +230,7 @@ all-stand P (y ∷ xs) x all h = elim (cases_Bool (x == y)) [
   | inr f ↦ all-stand P xs x all.1 (let none : one_if (x == y) ≡ 0 = ap one_if f in omega arith)
 ]
 
-past-packs : (packs : List Packed) (k : ℕ) → length packs ≤ k → slice_index_or packs k (Stores []) ≡ Stores []
+past-packs : (packs : List Pack) (k : ℕ) → length packs ≤ k → slice_index_or packs k (Stores []) ≡ Stores []
 past-packs [] k h = refl
 past-packs (p ∷ packs) zero h = absurd (omega arith)
 past-packs (p ∷ packs) (suc k) h = past-packs packs k (omega arith)
@@ -242,7 +242,7 @@ given-valued j k x are kinds h = elim (cases_lt k (length j.packs)) [
   | inr past ↦ absurd (let none = ap (λ p. count_of x (values_of p)) (past-packs j.packs k past) in omega arith)
 ]
   where
-    by : (p : Packed) → IsPack j.descriptions j.ssa p → CallsOperations j.ssa p → (In x (units_of p) → is_unit j.ssa x ≡ true) → In x (values_of p) → Valued (unit_at j.ssa x)
+    by : (p : Pack) → IsPack j.descriptions j.ssa p → CallsOperations j.ssa p → (In x (units_of p) → is_unit j.ssa x ≡ true) → In x (values_of p) → Valued (unit_at j.ssa x)
     by (Stores us) is calls unit g = absurd (omega arith)
     by (Loads us) is calls unit g = loads-valued j.ssa is.0 is.1 us x is.2 (subst (In x) (values-loads us) g)
     by (Call e lanes) is calls unit g = operation-valued (unit_at j.ssa x) (unit g) (all-stand (λ v. access_at j.ssa v ≡ None) (units_of (Call e lanes)) x calls g)
@@ -254,7 +254,7 @@ units-given j k x kinds valued h = elim (cases_lt k (length j.packs)) [
   | inr past ↦ absurd (let none = ap (λ p. count_of x (units_of p)) (past-packs j.packs k past) in omega arith)
 ]
   where
-    by : (p : Packed) → IsPack j.descriptions j.ssa p → In x (units_of p) → In x (values_of p)
+    by : (p : Pack) → IsPack j.descriptions j.ssa p → In x (units_of p) → In x (values_of p)
     by (Stores us) is g = absurd (stores-not-valued j.ssa is.0 is.1 us is.2 x is.4 g valued)
     by (Loads us) is g = subst (In x) (sym (values-loads us)) g
     by (Call e lanes) is g = g

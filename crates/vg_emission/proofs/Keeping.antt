@@ -19,16 +19,16 @@ use Rattle.vg_program.specs.Params as params
 use Rattle.vg_program.specs.Valid.{AreLines, Resizes}
 use Rattle.vg_shapes.specs.declared.match_table.Bound.{Bound}
 use Rattle.vg_shapes.specs.declared.operand.Operand.{Operand}
-use Rattle.vg_shapes.specs.declared.pack.Pack.{Pack as Packed}
+use Rattle.vg_shapes.specs.declared.pack.Pack.{Pack}
 use Rattle.vg_shapes.specs.declared.ssa.Ssa.{Ssa}
 use Rattle.vg_shapes.specs.declared.ssa.SsaParam.{SsaParam}
 use Rattle.vg_shapes.specs.declared.ssa.SsaParamKind.{SsaParamKind}
 use Rattle.vg_shapes.specs.declared.ssa.SsaParamKind.TheVariants.{Pointer, Integer}
-use Rattle.vg_shapes.specs.declared.unit.Operands.{Operands}
-use Rattle.vg_shapes.specs.declared.unit.Operator.{Operator}
-use Rattle.vg_shapes.specs.declared.unit.Operator.TheVariants.{Two, Shift, Resize, Compare, Select}
-use Rattle.vg_shapes.specs.declared.unit.Unit.{Unit as Work}
-use Rattle.vg_shapes.specs.declared.unit.Unit.TheVariants.{Load, Store, Operation}
+use Rattle.vg_shapes.specs.declared.ssa_unit.Operands.{Operands}
+use Rattle.vg_shapes.specs.declared.ssa_unit.Operator.{Operator}
+use Rattle.vg_shapes.specs.declared.ssa_unit.Operator.TheVariants.{Two, Shift, Resize, Compare, Select}
+use Rattle.vg_shapes.specs.declared.ssa_unit.SsaUnit.{SsaUnit}
+use Rattle.vg_shapes.specs.declared.ssa_unit.SsaUnit.TheVariants.{Load, Store, Operation}
 use Rattle.vg_shapes.specs.declared.wanted.Wanted.{Wanted}
 use Rattle.vg_shapes.specs.declared.wanted.Wanted.TheVariants.{Value, Constant, Nothing}
 use Rattle.vg_shapes.specs.Description.{Description}
@@ -36,8 +36,8 @@ use Rattle.vg_shapes.specs.Operands.{lanes_of}
 use Rattle.vg_shapes.specs.Pack.{AreLoads, AreStores, is_pack_size}
 use Rattle.vg_shapes.specs.Sound.{IsBit, IsChange, IsNumber, IsOperation, IsUnit, pointers, result_bits, unit_bits, value_bits}
 use Rattle.vg_shapes.specs.Units.{arguments, is_integer, unit_at}
-use Rattle.vg_packing.specs.Held.{lane_width_of, register_of}
-use Rattle.vg_packing.specs.Taken.{operands_from, params_of}
+use Rattle.vg_kernel_plans.specs.Held.{lane_width_of, register_of}
+use Rattle.vg_kernel_plans.specs.Taken.{operands_from, params_of}
 use Rattle.vg_emission.specs.Draft.{Draft, Made, with_held}
 use Rattle.vg_emission.specs.Emission.{Job, build_all, extracts, no_description, number_for, operation_line, pack_at, takes_at, unit_lines, width_for}
 use Rattle.vg_emission.specs.Fit.{LaneFits}
@@ -71,7 +71,7 @@ address-fits j d b a h is = subst (λ n. IsAddress n a) (sym (ap (λ l. length (
 
 -- ---- units outside packs
 
-pub unit-width : (ssa : Ssa) (v : ℕ) (u : Work) → unit_at ssa v ≡ Some u → value_bits ssa v ≡ unit_bits u
+pub unit-width : (ssa : Ssa) (v : ℕ) (u : SsaUnit) → unit_at ssa v ≡ Some u → value_bits ssa v ≡ unit_bits u
 unit-width ssa v u e = cond-false _ _ _ (le-ltb v (arguments ssa) (unit-number ssa v u e).0) ∙ ap (λ o. o >>= unit_bits) e
 
 number-is-wide : (ssa : Ssa) (w : Width) (x : Wanted) → IsNumber ssa w x → IsWide ssa (bits_of w) x
@@ -100,7 +100,7 @@ operation-fits j d b (Compare op) w k xs h is known rest x =
 operation-fits j d b Select w k xs h is known rest x =
     ((number-wide j d b xs.first 1 h known.first (bit-is-wide j.ssa xs.first is.1), number-wide j d b xs.second (bits_of w) h known.second (number-is-wide j.ssa w xs.second is.2), number-wide j d b xs.third (bits_of w) h known.third (number-is-wide j.ssa w xs.third is.3)), x)
 
-pub work-types : (j : Job) (d : Draft) (b : Before) (v : ℕ) (o : Option Work) → AllByRecursion (IsUnit j.ssa) j.ssa.units → unit_at j.ssa v ≡ o → Typed j d b → UnitReady j d v o → (after : Before) × Types j b (unit_lines j d v o).lines (unit_lines j d v o).draft after
+pub work-types : (j : Job) (d : Draft) (b : Before) (v : ℕ) (o : Option SsaUnit) → AllByRecursion (IsUnit j.ssa) j.ssa.units → unit_at j.ssa v ≡ o → Typed j d b → UnitReady j d v o → (after : Before) × Types j b (unit_lines j d v o).lines (unit_lines j d v o).draft after
 work-types j d b v None units e h ready = (b, types-nothing j b d h)
 work-types j d b v (Some (Load a w)) units e h ready =
     let is = unit-is j.ssa v (Load a w) units e in
@@ -150,7 +150,7 @@ few-units W32 n h = (omega arith, omega arith)
 few-units W64 n h = (omega arith, omega arith)
 
 -- a pack that gives a register: operands, the line, and what is taken out
-pub holder-types : (j : Job) (d : Draft) (b b1 : Before) (k w : ℕ) (p : Packed) (l : Line) → let made = build_all j d (takes_at j k) in
+pub holder-types : (j : Job) (d : Draft) (b b1 : Before) (k w : ℕ) (p : Pack) (l : Line) → let made = build_all j d (takes_at j k) in
     AllPlaced j b (takes_at j k) made.lines made.draft made.registers b1 → ((rest : List Line) → AreLines (more_vector b1 w) rest → AreLines b1 (l ∷ rest))
     → w ≡ register_of j.descriptions j.ssa (pack_at j k) → length (lanes_of p) * bits_of (width_for (lane_width_of j.descriptions j.ssa p)) ≤ w → length (lanes_of p) ≤ 64
     → AllByRecursion (LaneFits j.ssa (bits_of (width_for (lane_width_of j.descriptions j.ssa p)))) (lanes_of p)

@@ -15,21 +15,21 @@ use Rattle.vg_shapes.specs.declared.match_table.Match.{Match}
 use Rattle.vg_shapes.specs.declared.operand.Operand.{Operand}
 use Rattle.vg_shapes.specs.declared.order.Node.{Node}
 use Rattle.vg_shapes.specs.declared.order.Node.TheVariants.{UnitAt}
-use Rattle.vg_shapes.specs.declared.pack.Pack.{Pack as Packed}
+use Rattle.vg_shapes.specs.declared.pack.Pack.{Pack}
 use Rattle.vg_shapes.specs.declared.pack.Pack.TheVariants.{Stores}
 use Rattle.vg_shapes.specs.declared.ssa.Ssa.{Ssa}
-use Rattle.vg_shapes.specs.declared.unit.Unit.{Unit as Work}
+use Rattle.vg_shapes.specs.declared.ssa_unit.SsaUnit.{SsaUnit}
 use Rattle.vg_shapes.specs.Description.{Description}
 use Rattle.vg_shapes.specs.Layout.{access_at, access_of}
 use Rattle.vg_shapes.specs.Nodes.{IsOrder, is_packed, node_depends, units_at}
 use Rattle.vg_shapes.specs.Order.{all_units, count_of, Follows, numbers_from, one_if, Stands as In}
 use Rattle.vg_shapes.specs.Sound.{TakeEarlier}
 use Rattle.vg_shapes.specs.Units.{arguments, is_unit, unit_at}
-use Rattle.vg_packing.specs.declared.recipe.Recipe.{Recipe}
-use Rattle.vg_packing.specs.Packing.{falling_units}
-use Rattle.vg_packing.specs.SameAs.{same_operand}
-use Rattle.vg_packing.specs.Taken.{operands_of}
-use Rattle.vg_packing.proofs.SameTests.{both-true, operand-is, operand-itself}
+use Rattle.vg_kernel_plans.specs.declared.recipe.Recipe.{Recipe}
+use Rattle.vg_kernel_plans.specs.Packing.{falling_units}
+use Rattle.vg_kernel_plans.specs.SameAs.{same_operand}
+use Rattle.vg_kernel_plans.specs.Taken.{operands_of}
+use Rattle.vg_kernel_plans.proofs.SameTests.{both-true, operand-is, operand-itself}
 use Rattle.vg_order_laws.proofs.Legal.{all_units-push}
 use Rattle.vg_order_laws.proofs.Sequences.{count_of-append}
 use Rattle.vg_emission.specs.Emission.{operand_at, pack_at, takes_at}
@@ -82,19 +82,19 @@ distinct-has xs o has =
 
 -- ---- the job
 
-unit-some : (o : Option Work) → is_some (o >>= access_of) ≡ true → is_some o ≡ true
+unit-some : (o : Option SsaUnit) → is_some (o >>= access_of) ≡ true → is_some o ≡ true
 unit-some None h = cc
 unit-some (Some u) h = refl
 
-value-some : (o : Option Work) → is_some (o >>= Rattle.vg_shapes.specs.Sound.unit_bits) ≡ true → is_some o ≡ true
+value-some : (o : Option SsaUnit) → is_some (o >>= Rattle.vg_shapes.specs.Sound.unit_bits) ≡ true → is_some o ≡ true
 value-some None h = cc
 value-some (Some u) h = refl
 
-some-unit : (o : Option Work) → is_some o ≡ true → (u : Work) × (o ≡ Some u)
+some-unit : (o : Option SsaUnit) → is_some o ≡ true → (u : SsaUnit) × (o ≡ Some u)
 some-unit None h = cc
 some-unit (Some u) h = (u, refl)
 
-pub job-made : (ds : List Description) (matches : List Match) (ssa : Ssa) (packs : List Packed) (recipes : List Recipe) → TakeEarlier (arguments ssa) ssa.units → IsJob (job_of ds matches ssa packs recipes) matches
+pub job-made : (ds : List Description) (matches : List Match) (ssa : Ssa) (packs : List Pack) (recipes : List Recipe) → TakeEarlier (arguments ssa) ssa.units → IsJob (job_of ds matches ssa packs recipes) matches
 job-made ds matches ssa packs recipes early =
     let j = job_of ds matches ssa packs recipes in
     let os = operands_in ds matches ssa packs in
@@ -150,6 +150,6 @@ number-order ssa matches = record {
   follows = numbers-follow ssa matches (arguments ssa) (length ssa.units) [] (λ y high low. absurd (omega arith));
 }
 
-pub ordered-legal : (ssa : Ssa) (matches : List Match) (packs : List Packed) (order : List Node) → IsOrder ssa matches packs order → IsOrder ssa matches packs (ordered ssa packs order)
+pub ordered-legal : (ssa : Ssa) (matches : List Match) (packs : List Pack) (order : List Node) → IsOrder ssa matches packs order → IsOrder ssa matches packs (ordered ssa packs order)
 ordered-legal ssa matches [] order is = number-order ssa matches
 ordered-legal ssa matches (p ∷ packs) order is = is

@@ -6,10 +6,10 @@ use Rattle.std.specs.Option.{is_some}
 use Rattle.std.proofs.lemmas.Bool.{and_from, cases_Bool, cases_lt, cond-false, cond-true, eqb-true, eqb-false, or_left, or_right}
 use Rattle.vg_plans.specs.World.{is_in}
 use Rattle.vg_shapes.specs.declared.operand.Operand.{Operand}
-use Rattle.vg_shapes.specs.declared.pack.Pack.{Pack as Packed}
+use Rattle.vg_shapes.specs.declared.pack.Pack.{Pack}
 use Rattle.vg_shapes.specs.declared.ssa.Ssa.{Ssa}
-use Rattle.vg_shapes.specs.declared.unit.Unit.{Unit as Work}
-use Rattle.vg_shapes.specs.declared.unit.Unit.TheVariants.{Load, Store, Operation}
+use Rattle.vg_shapes.specs.declared.ssa_unit.SsaUnit.{SsaUnit}
+use Rattle.vg_shapes.specs.declared.ssa_unit.SsaUnit.TheVariants.{Load, Store, Operation}
 use Rattle.vg_shapes.specs.declared.wanted.Wanted.{Wanted}
 use Rattle.vg_shapes.specs.declared.wanted.Wanted.TheVariants.{Value, Constant, Nothing}
 use Rattle.vg_shapes.specs.Depends.{numbers_below}
@@ -18,10 +18,10 @@ use Rattle.vg_shapes.specs.Nodes.{is_packed}
 use Rattle.vg_shapes.specs.Order.{count_of, one_if, Stands as In}
 use Rattle.vg_shapes.specs.Sound.{IsEarlier, TakeEarlier}
 use Rattle.vg_shapes.specs.Units.{arguments, is_unit, unit_at}
-use Rattle.vg_packing.specs.declared.recipe.Recipe.{Recipe}
-use Rattle.vg_packing.specs.declared.recipe.Recipe.TheVariants as recipe
-use Rattle.vg_packing.specs.Packing.{used_by}
-use Rattle.vg_packing.specs.Wants.{value_of, wanted_values}
+use Rattle.vg_kernel_plans.specs.declared.recipe.Recipe.{Recipe}
+use Rattle.vg_kernel_plans.specs.declared.recipe.Recipe.TheVariants as recipe
+use Rattle.vg_kernel_plans.specs.Packing.{used_by}
+use Rattle.vg_kernel_plans.specs.Wants.{value_of, wanted_values}
 use Rattle.vg_order_laws.proofs.Sequences.{count_of-append}
 use Rattle.vg_emission.specs.Program.{all_inserted, inserted_by, is_scalar, needed_behind}
 use Rattle.vg_emission.proofs.Jobs.{stands-found}
@@ -47,7 +47,7 @@ inserted-in (r ∷ rs) (q ∷ os) zero x d low e h = in-before x (inserted_by r 
 inserted-in (r ∷ rs) (q ∷ os) (suc o) x d low e h = in-after x (inserted_by r q) (all_inserted rs os) (inserted-in rs os o x d (omega arith) e h)
 
 -- what is needed stays needed
-pub needed-keeps : (ssa : Ssa) (packs : List Packed) (needed vs : List ℕ) (x : ℕ) → In x needed → In x (needed_behind ssa packs needed vs)
+pub needed-keeps : (ssa : Ssa) (packs : List Pack) (needed vs : List ℕ) (x : ℕ) → In x needed → In x (needed_behind ssa packs needed vs)
 needed-keeps ssa packs needed [] x h = h
 needed-keeps ssa packs needed (v ∷ vs) x h =
     let Goal : List ℕ → Type 0 = λ l. In x (needed_behind ssa packs l vs) in
@@ -72,7 +72,7 @@ values-low n (y ∷ ys) x early h = by y early.0 (values-low n ys x early.1) h
 used-low : (ssa : Ssa) (v x : ℕ) → TakeEarlier (arguments ssa) ssa.units → In x (used_by (unit_at ssa v)) → x < v
 used-low ssa v x early h = by (unit_at ssa v) refl h
   where
-    by : (o : Option Work) → unit_at ssa v ≡ o → In x (used_by o) → x < v
+    by : (o : Option SsaUnit) → unit_at ssa v ≡ o → In x (used_by o) → x < v
     by None e g = absurd (omega arith)
     by (Some (Load a w)) e g = absurd (omega arith)
     by (Some (Store a w y)) e g = values-low v (y ∷ []) x (takes-earlier ssa v (Store a w y) early e, tt) g
@@ -85,7 +85,7 @@ abbrev pub units_below : Ssa → ℕ → List ℕ
 units_below ssa n = filter (is_unit ssa) (numbers_below n)
 
 -- lesser units make no greater value needed
-pub needed-later : (ssa : Ssa) (packs : List Packed) (n : ℕ) (needed : List ℕ) (v : ℕ) → TakeEarlier (arguments ssa) ssa.units → n ≤ v + 1 → In v (needed_behind ssa packs needed (units_below ssa n)) → In v needed
+pub needed-later : (ssa : Ssa) (packs : List Pack) (n : ℕ) (needed : List ℕ) (v : ℕ) → TakeEarlier (arguments ssa) ssa.units → n ≤ v + 1 → In v (needed_behind ssa packs needed (units_below ssa n)) → In v needed
 needed-later ssa packs zero needed v early low h = h
 needed-later ssa packs (suc m) needed v early low h =
     let kept = units_below ssa m in
@@ -106,12 +106,12 @@ needed-later ssa packs (suc m) needed v early low h =
       | inl t ↦ step (subst (λ l. In v (needed_behind ssa packs needed l)) (cond-true (is_unit ssa m) (m ∷ kept) kept t) h)
     ]
 
-scalar-from : (ssa : Ssa) (packs : List Packed) (needed : List ℕ) (v : ℕ) → is_packed packs v ≡ false → (is_some (access_at ssa v) ≡ true) ⊎ In v needed → is_scalar ssa packs needed v ≡ true
+scalar-from : (ssa : Ssa) (packs : List Pack) (needed : List ℕ) (v : ℕ) → is_packed packs v ≡ false → (is_some (access_at ssa v) ≡ true) ⊎ In v needed → is_scalar ssa packs needed v ≡ true
 scalar-from ssa packs needed v outside (inl a) = and_from (not (is_packed packs v)) _ (ap not outside) (or_left (is_some (access_at ssa v)) _ a)
 scalar-from ssa packs needed v outside (inr n) = and_from (not (is_packed packs v)) _ (ap not outside) (or_right (is_some (access_at ssa v)) _ (stands-in v needed n))
 
 -- what a unit uses that is emitted as a scalar is needed
-pub used-needed : (ssa : Ssa) (packs : List Packed) (n : ℕ) (needed : List ℕ) (v x : ℕ) → TakeEarlier (arguments ssa) ssa.units → v < n → is_unit ssa v ≡ true → is_packed packs v ≡ false
+pub used-needed : (ssa : Ssa) (packs : List Pack) (n : ℕ) (needed : List ℕ) (v x : ℕ) → TakeEarlier (arguments ssa) ssa.units → v < n → is_unit ssa v ≡ true → is_packed packs v ≡ false
     → (is_some (access_at ssa v) ≡ true) ⊎ In v (needed_behind ssa packs needed (units_below ssa n)) → In x (used_by (unit_at ssa v)) → In x (needed_behind ssa packs needed (units_below ssa n))
 used-needed ssa packs zero needed v x early low unit outside emitted used = absurd (omega arith)
 used-needed ssa packs (suc m) needed v x early low unit outside emitted used =

@@ -13,11 +13,11 @@ use Rattle.vg_shapes.specs.declared.operand.Slot.{Slot}
 use Rattle.vg_shapes.specs.declared.order.Node.{Node}
 use Rattle.vg_shapes.specs.declared.order.Node.TheVariants.{PackAt, UnitAt}
 use Rattle.vg_shapes.specs.declared.ssa.Ssa.{Ssa}
-use Rattle.vg_shapes.specs.declared.unit.Operands.{Operands}
-use Rattle.vg_shapes.specs.declared.unit.Operator.{Operator}
-use Rattle.vg_shapes.specs.declared.unit.Operator.TheVariants.{Two, Shift, Resize, Compare, Select}
-use Rattle.vg_shapes.specs.declared.unit.Unit.{Unit as Work}
-use Rattle.vg_shapes.specs.declared.unit.Unit.TheVariants.{Load, Store, Operation}
+use Rattle.vg_shapes.specs.declared.ssa_unit.Operands.{Operands}
+use Rattle.vg_shapes.specs.declared.ssa_unit.Operator.{Operator}
+use Rattle.vg_shapes.specs.declared.ssa_unit.Operator.TheVariants.{Two, Shift, Resize, Compare, Select}
+use Rattle.vg_shapes.specs.declared.ssa_unit.SsaUnit.{SsaUnit}
+use Rattle.vg_shapes.specs.declared.ssa_unit.SsaUnit.TheVariants.{Load, Store, Operation}
 use Rattle.vg_shapes.specs.declared.wanted.Wanted.{Wanted}
 use Rattle.vg_shapes.specs.declared.wanted.Wanted.TheVariants.{Value, Constant, Nothing}
 use Rattle.vg_shapes.specs.Layout.{access_at, access_of}
@@ -26,11 +26,11 @@ use Rattle.vg_shapes.specs.Operands.{AreSlots, IsSlot, MayBeWanted}
 use Rattle.vg_shapes.specs.Order.{one_if, Stands as In}
 use Rattle.vg_shapes.specs.Sound.{IsBit, IsNumber, IsOperation, IsUnit, value_bits}
 use Rattle.vg_shapes.specs.Units.{arguments, unit_at}
-use Rattle.vg_packing.specs.declared.recipe.Recipe.{Recipe}
-use Rattle.vg_packing.specs.declared.recipe.Recipe.TheVariants as recipe
-use Rattle.vg_packing.specs.Packing.{used_by}
-use Rattle.vg_packing.specs.Taken.{operands_of}
-use Rattle.vg_packing.specs.Wants.{value_of, wanted_values, wants_value}
+use Rattle.vg_kernel_plans.specs.declared.recipe.Recipe.{Recipe}
+use Rattle.vg_kernel_plans.specs.declared.recipe.Recipe.TheVariants as recipe
+use Rattle.vg_kernel_plans.specs.Packing.{used_by}
+use Rattle.vg_kernel_plans.specs.Taken.{operands_of}
+use Rattle.vg_kernel_plans.specs.Wants.{value_of, wanted_values, wants_value}
 use Rattle.vg_emission.specs.Emission.{Job, operand_at, pack_at, recipe_at, takes_at, width_for}
 use Rattle.vg_emission.specs.Planned.{IsPlanned, TakesGiven}
 use Rattle.vg_emission.specs.Program.{has_value}
@@ -87,12 +87,12 @@ needed-where j (Value z) bits marked =
 
 -- ---- units outside packs
 
-unit-in : (P : Work → Type 0) (us : List Work) (k : ℕ) (u : Work) → AllByRecursion P us → slice_get us k ≡ Some u → P u
+unit-in : (P : SsaUnit → Type 0) (us : List SsaUnit) (k : ℕ) (u : SsaUnit) → AllByRecursion P us → slice_get us k ≡ Some u → P u
 unit-in P [] k u all e = cc
 unit-in P (x ∷ us) zero u all e = let same : x ≡ u = cc in subst P same all.0
 unit-in P (x ∷ us) (suc k) u all e = unit-in P us k u all.1 e
 
-pub unit-is : (ssa : Ssa) (v : ℕ) (u : Work) → AllByRecursion (IsUnit ssa) ssa.units → unit_at ssa v ≡ Some u → IsUnit ssa u
+pub unit-is : (ssa : Ssa) (v : ℕ) (u : SsaUnit) → AllByRecursion (IsUnit ssa) ssa.units → unit_at ssa v ≡ Some u → IsUnit ssa u
 unit-is ssa v u all e = unit-in (IsUnit ssa) ssa.units (v - arguments ssa) u all (unit-in-list ssa v u e)
 
 value-used : (ys : List Wanted) (y : Wanted) (z : ℕ) → Has y ys → y ≡ Value z → In z (filter_map value_of ys)
@@ -120,10 +120,10 @@ operation-bits ssa Select w k xs is = record { first = bit-bits ssa xs.first is.
 unit-needs : (j : Job) (matches : List Match) (v : ℕ) → AllByRecursion (IsUnit j.ssa) j.ssa.units → IsJob j matches → is_packed j.packs v ≡ false → WorkNeeds j v (unit_at j.ssa v)
 unit-needs j matches v units job outside = by (unit_at j.ssa v) refl
   where
-    marked : (o : Option Work) (ys : List Wanted) (y : Wanted) → unit_at j.ssa v ≡ o → used_by o ≡ filter_map value_of ys → Has y ys → (is_some (access_at j.ssa v) ≡ true) ⊎ (j.needed v ≡ true) → (z : ℕ) → y ≡ Value z → has_value j.ssa z ≡ true → j.needed z ≡ true
+    marked : (o : Option SsaUnit) (ys : List Wanted) (y : Wanted) → unit_at j.ssa v ≡ o → used_by o ≡ filter_map value_of ys → Has y ys → (is_some (access_at j.ssa v) ≡ true) ⊎ (j.needed v ≡ true) → (z : ℕ) → y ≡ Value z → has_value j.ssa z ≡ true → j.needed z ≡ true
     marked o ys y e same has emitted z is value = job.used v z outside emitted (subst (In z) (sym (ap used_by e ∙ same)) (value-used ys y z has is)) value
 
-    by : (o : Option Work) → unit_at j.ssa v ≡ o → WorkNeeds j v o
+    by : (o : Option SsaUnit) → unit_at j.ssa v ≡ o → WorkNeeds j v o
     by None e = tt
     by (Some (Load a w)) e = tt
     by (Some (Store a w x)) e =

@@ -20,19 +20,19 @@ use Rattle.vg_program.specs.declared.line.Line.TheVariants as line
 use Rattle.vg_program.specs.declared.operand.Operand.{Operand as Number}
 use Rattle.vg_program.specs.Meaning.{State, Instructions, Inputs, operand_number, with_scalar, with_vector, with_memory, register_bits, widened, step, run}
 use Rattle.vg_program.specs.Vectors as vectors
-use Rattle.vg_shapes.specs.declared.pack.Pack.{Pack as Packed}
+use Rattle.vg_shapes.specs.declared.pack.Pack.{Pack}
 use Rattle.vg_shapes.specs.declared.pack.Pack.TheVariants.{Stores, Loads, Call}
 use Rattle.vg_shapes.specs.declared.ssa.Ssa.{Ssa}
-use Rattle.vg_shapes.specs.declared.unit.Operands.{Operands}
-use Rattle.vg_shapes.specs.declared.unit.Operator.{Operator}
-use Rattle.vg_shapes.specs.declared.unit.Operator.TheVariants.{Two, Shift, Resize, Compare, Select}
-use Rattle.vg_shapes.specs.declared.unit.Unit.{Unit as Work}
-use Rattle.vg_shapes.specs.declared.unit.Unit.TheVariants.{Load, Store, Operation}
+use Rattle.vg_shapes.specs.declared.ssa_unit.Operands.{Operands}
+use Rattle.vg_shapes.specs.declared.ssa_unit.Operator.{Operator}
+use Rattle.vg_shapes.specs.declared.ssa_unit.Operator.TheVariants.{Two, Shift, Resize, Compare, Select}
+use Rattle.vg_shapes.specs.declared.ssa_unit.SsaUnit.{SsaUnit}
+use Rattle.vg_shapes.specs.declared.ssa_unit.SsaUnit.TheVariants.{Load, Store, Operation}
 use Rattle.vg_shapes.specs.declared.wanted.Wanted.{Wanted}
 use Rattle.vg_shapes.specs.Operands.{lanes_of}
 use Rattle.vg_shapes.specs.Pack.{AreLoads, AreStores, is_pack_size}
 use Rattle.vg_shapes.specs.RunUnits.{number_of, operation_result}
-use Rattle.vg_packing.specs.Held.{lane_width_of}
+use Rattle.vg_kernel_plans.specs.Held.{lane_width_of}
 use Rattle.vg_order_laws.specs.Sequence.{run_steps}
 use Rattle.vg_order_laws.specs.Steps.{HasNumber, seen, step_of, unit_step, work_step}
 use Rattle.vg_order_laws.proofs.Accesses.{loaded-inside, stored-inside}
@@ -67,7 +67,7 @@ pub record AllKnown (j : Job) (d : Draft) (xs : Operands) : Type 0 where
   pub second : Known j d xs.second
   pub third : Known j d xs.third
 
-abbrev pub WorkReady : Job → Draft → ℕ → Work → Type 0
+abbrev pub WorkReady : Job → Draft → ℕ → SsaUnit → Type 0
 WorkReady j d v (Load a w) = Unit {0}
 WorkReady j d v (Store a w x) = Known j d x
 WorkReady j d v (Operation op w k xs) = j.needed v ≡ true → AllKnown j d xs
@@ -90,7 +90,7 @@ operation-step c i s (Resize op from) w k x y z = refl
 operation-step c i s (Compare op) w k x y z = refl
 operation-step c i s Select w k x y z = refl
 
-pub work-runs : (j : Job) (numbers : ℕ → ℕ) (c : Instructions) (i : Inputs) (d : Draft) (s : State) (v : ℕ) (u : Work) (after : List ℕ) → ArgumentsHave j numbers i → Stands j numbers d s → HasNumber numbers v u → WorkReady j d v u
+pub work-runs : (j : Job) (numbers : ℕ → ℕ) (c : Instructions) (i : Inputs) (d : Draft) (s : State) (v : ℕ) (u : SsaUnit) (after : List ℕ) → ArgumentsHave j numbers i → Stands j numbers d s → HasNumber numbers v u → WorkReady j d v u
     → work_step i.places numbers v u s.memory ≡ Some after → (t : State) × Moves j numbers c i s (unit_lines j d v (Some u)).lines (unit_lines j d v (Some u)).draft after t
 work-runs j numbers c i d s v (Load a w) after args h right ready e =
     let x = seen-loaded s.memory (place_of i.places a) (size_of w) (numbers v) after e in
@@ -126,7 +126,7 @@ work-runs j numbers c i d s v (Operation op w k xs) after args h right ready e =
 -- ---- packs that give a register
 
 -- operands are built, a line gives a register that holds the pack, and values are taken out of it
-pub holder-runs : (j : Job) (numbers : ℕ → ℕ) (c : Instructions) (i : Inputs) (d : Draft) (s s1 : State) (k : ℕ) (p : Packed) (l : Line) (reg : List ℕ) → pack_at j k ≡ p
+pub holder-runs : (j : Job) (numbers : ℕ → ℕ) (c : Instructions) (i : Inputs) (d : Draft) (s s1 : State) (k : ℕ) (p : Pack) (l : Line) (reg : List ℕ) → pack_at j k ≡ p
     → AllBuilt j numbers c i s (takes_at j k) (build_all j d (takes_at j k)) s1 → step c i l s1 ≡ Some (with_vector s1 reg)
     → Holds j.descriptions j.ssa numbers p reg → bits_of (width_for (lane_width_of j.descriptions j.ssa p)) ≡ lane_width_of j.descriptions j.ssa p
     → let made = build_all j d (takes_at j k) in

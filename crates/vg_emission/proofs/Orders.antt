@@ -19,12 +19,12 @@ use Rattle.vg_program.proofs.TrapLaws.{traps_outside}
 use Rattle.vg_shapes.specs.declared.match_table.Match.{Match}
 use Rattle.vg_shapes.specs.declared.operand.Operand.{Operand}
 use Rattle.vg_shapes.specs.declared.order.Node.{Node}
-use Rattle.vg_shapes.specs.declared.pack.Pack.{Pack as Packed}
+use Rattle.vg_shapes.specs.declared.pack.Pack.{Pack}
 use Rattle.vg_shapes.specs.declared.pack.Pack.TheVariants.{Stores, Loads, Call}
 use Rattle.vg_shapes.specs.declared.ssa.Ssa.{Ssa}
 use Rattle.vg_shapes.specs.declared.ssa.SsaParam.{SsaParam}
-use Rattle.vg_shapes.specs.declared.unit.Unit.{Unit as Work}
-use Rattle.vg_shapes.specs.declared.unit.Unit.TheVariants.{Store}
+use Rattle.vg_shapes.specs.declared.ssa_unit.SsaUnit.{SsaUnit}
+use Rattle.vg_shapes.specs.declared.ssa_unit.SsaUnit.TheVariants.{Store}
 use Rattle.vg_shapes.specs.declared.wanted.Wanted.{Wanted}
 use Rattle.vg_shapes.specs.declared.wanted.Wanted.TheVariants.{Value, Constant, Nothing}
 use Rattle.vg_shapes.specs.Layout.{Respects}
@@ -34,8 +34,8 @@ use Rattle.vg_shapes.specs.Pack.{AreStores}
 use Rattle.vg_shapes.specs.RunUnits.{number_of, Reached, run_units, start_of}
 use Rattle.vg_shapes.specs.Sound.{AreArguments, IsNumber, IsUnit}
 use Rattle.vg_shapes.specs.Units.{arguments, integers, unit_at}
-use Rattle.vg_packing.specs.Taken.{first_width, group_operand, operands_of, slots_from, stored}
-use Rattle.vg_packing.specs.Wants.{slot}
+use Rattle.vg_kernel_plans.specs.Taken.{first_width, group_operand, operands_of, slots_from, stored}
+use Rattle.vg_kernel_plans.specs.Wants.{slot}
 use Rattle.vg_order_laws.specs.Sequence.{run_steps}
 use Rattle.vg_order_laws.specs.Steps.{HasNumber, HaveNumbers, stays_inside, unit_numbers, unit_step}
 use Rattle.vg_order_laws.proofs.Plans.{plan-orders-run}
@@ -168,7 +168,7 @@ stores-right j matches numbers k (u ∷ us) job units low here is =
 
 -- ---- what is true where the values have the numbers of a run
 
-kind-right : (j : Job) (matches : List Match) (c : Instructions) (numbers : ℕ → ℕ) (k : ℕ) (p : Packed) → IsJob j matches → AllByRecursion (IsUnit j.ssa) j.ssa.units → KeepPromises j c numbers → k < length j.packs → pack_at j k ≡ p → IsPack j.descriptions j.ssa p → CallsOperations j.ssa p → KindRight j c numbers k p
+kind-right : (j : Job) (matches : List Match) (c : Instructions) (numbers : ℕ → ℕ) (k : ℕ) (p : Pack) → IsJob j matches → AllByRecursion (IsUnit j.ssa) j.ssa.units → KeepPromises j c numbers → k < length j.packs → pack_at j k ≡ p → IsPack j.descriptions j.ssa p → CallsOperations j.ssa p → KindRight j c numbers k p
 kind-right j matches c numbers k (Stores us) job units keeps low here is calls = stores-right j matches numbers k us job units low here is
 kind-right j matches c numbers k (Loads us) job units keeps low here is calls = record { width = is.0; address = is.1; are = is.2; some = (let two = is.3 in omega arith); size = is.4 }
 kind-right j matches c numbers k (Call e lanes) job units keeps low here is calls = record {
@@ -181,7 +181,7 @@ all-right : (j : Job) (c : Instructions) (numbers : ℕ → ℕ) (os : List ℕ)
 all-right j c numbers [] keeps low = tt
 all-right j c numbers (o ∷ os) keeps low = (keeps.recipes o low.0, all-right j c numbers os keeps low.1)
 
-numbers-at : (numbers : ℕ → ℕ) (first : ℕ) (us : List Work) (k : ℕ) (u : Work) → HaveNumbers numbers first us → slice_get us k ≡ Some u → HasNumber numbers (first + k) u
+numbers-at : (numbers : ℕ → ℕ) (first : ℕ) (us : List SsaUnit) (k : ℕ) (u : SsaUnit) → HaveNumbers numbers first us → slice_get us k ≡ Some u → HasNumber numbers (first + k) u
 numbers-at numbers first [] k u have e = cc
 numbers-at numbers first (x ∷ us) zero u have e =
     let same : x ≡ u = cc in
@@ -191,7 +191,7 @@ numbers-at numbers first (x ∷ us) (suc k) u have e =
     let next : first + 1 + k ≡ first + suc k = omega arith in
     subst (λ n. HasNumber numbers n u) next (numbers-at numbers (first + 1) us k u have.1 e)
 
-number-at : (ssa : Ssa) (numbers : ℕ → ℕ) (v : ℕ) (u : Work) → HaveNumbers numbers (arguments ssa) ssa.units → unit_at ssa v ≡ Some u → HasNumber numbers v u
+number-at : (ssa : Ssa) (numbers : ℕ → ℕ) (v : ℕ) (u : SsaUnit) → HaveNumbers numbers (arguments ssa) ssa.units → unit_at ssa v ≡ Some u → HasNumber numbers v u
 number-at ssa numbers v u have e =
     let low = (unit-number ssa v u e).0 in
     let same : arguments ssa + (v - arguments ssa) ≡ v = omega arith in
@@ -213,8 +213,8 @@ arguments-long (p ∷ ps) [] are = absurd are
 arguments-long (p ∷ ps) (n ∷ ns) are = ap suc (arguments-long ps ns are.1)
 
 -- some unit leaves the memory
-some-outside : (ssa : Ssa) (places : List ℕ) (long : ℕ) (done us : List Work) → ssa.units ≡ done ++ us → list_all (stays_inside places long) us ≡ false
-    → (k : ℕ) × (u : Work) × (k < length us) × (unit_at ssa (arguments ssa + length done + k) ≡ Some u) × (stays_inside places long u ≡ false)
+some-outside : (ssa : Ssa) (places : List ℕ) (long : ℕ) (done us : List SsaUnit) → ssa.units ≡ done ++ us → list_all (stays_inside places long) us ≡ false
+    → (k : ℕ) × (u : SsaUnit) × (k < length us) × (unit_at ssa (arguments ssa + length done + k) ≡ Some u) × (stays_inside places long u ≡ false)
 some-outside ssa places long done [] e h = cc
 some-outside ssa places long done (u ∷ us) e h = elim (cases_Bool (stays_inside places long u)) [
   | inr f ↦ (0, u, omega arith, unit-there ssa done u us (arguments ssa + length done + 0) e (omega arith), f)

@@ -17,8 +17,8 @@ use Rattle.vg_shapes.specs.declared.wanted.Wanted.{Wanted}
 use Rattle.vg_shapes.specs.declared.wanted.Wanted.TheVariants.{Value, Constant, Nothing}
 use Rattle.vg_shapes.specs.RunUnits.{number_of}
 use Rattle.vg_shapes.specs.Units.{arguments}
-use Rattle.vg_packing.specs.declared.recipe.Recipe.{Recipe}
-use Rattle.vg_packing.specs.declared.recipe.Recipe.TheVariants as recipe
+use Rattle.vg_kernel_plans.specs.declared.recipe.Recipe.{Recipe}
+use Rattle.vg_kernel_plans.specs.declared.recipe.Recipe.TheVariants as recipe
 use Rattle.vg_order_laws.proofs.Sequences.{bind_same, bind_twice}
 use Rattle.vg_emission.specs.Draft.{Draft, Made, found, with_name, with_vectors, with_built}
 use Rattle.vg_emission.specs.Emission.{Job, AllPlaced, Placed, build, build_all, call_of, constant_bytes, description_at, extracts, inserts, number_for, operand_at, place, place_once, recipe_at, registers_of, value_slots, width_for}

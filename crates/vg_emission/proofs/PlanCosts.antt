@@ -13,18 +13,18 @@ use Rattle.vg_shapes.specs.declared.match_table.Match.{Match}
 use Rattle.vg_shapes.specs.declared.operand.Operand.{Operand}
 use Rattle.vg_shapes.specs.declared.order.Node.{Node}
 use Rattle.vg_shapes.specs.declared.order.Node.TheVariants.{PackAt, UnitAt}
-use Rattle.vg_shapes.specs.declared.pack.Pack.{Pack as Packed}
+use Rattle.vg_shapes.specs.declared.pack.Pack.{Pack}
 use Rattle.vg_shapes.specs.declared.pack.Pack.TheVariants.{Stores}
 use Rattle.vg_shapes.specs.declared.ssa.Ssa.{Ssa}
 use Rattle.vg_shapes.specs.Description.{Description}
 use Rattle.vg_shapes.specs.Nodes.{IsOrder, nodes}
 use Rattle.vg_shapes.specs.Order.{numbers_from, one_if, Stands as In}
 use Rattle.vg_shapes.specs.Units.{unit_at}
-use Rattle.vg_packing.specs.declared.recipe.Recipe.{Recipe}
-use Rattle.vg_packing.specs.declared.recipe.Recipe.TheVariants as recipe
-use Rattle.vg_packing.specs.SameAs.{same_operand}
-use Rattle.vg_packing.specs.Taken.{operands_of}
-use Rattle.vg_packing.proofs.SameTests.{operand-is, operand-itself}
+use Rattle.vg_kernel_plans.specs.declared.recipe.Recipe.{Recipe}
+use Rattle.vg_kernel_plans.specs.declared.recipe.Recipe.TheVariants as recipe
+use Rattle.vg_kernel_plans.specs.SameAs.{same_operand}
+use Rattle.vg_kernel_plans.specs.Taken.{operands_of}
+use Rattle.vg_kernel_plans.proofs.SameTests.{operand-is, operand-itself}
 use Rattle.vg_emission.specs.Emission.{Job, pack_at, takes_at}
 use Rattle.vg_emission.specs.Program.{all_inserted, begin, inserted_by, job_of, number_in, operands_in}
 use Rattle.vg_emission.proofs.Built.{order-builds}
@@ -87,7 +87,7 @@ order-has j matches order n is has =
     at (m ∷ ns) all (inl e) = subst (λ q. Has q order) e all.0
     at (m ∷ ns) all (inr h) = at ns all.1 h
 
-pub operand-built : (ds : List Description) (matches : List Match) (ssa : Ssa) (packs : List Packed) (recipes : List Recipe) (order : List Node) (o : ℕ) → IsOrder ssa matches packs order → o < length (operands_in ds matches ssa packs)
+pub operand-built : (ds : List Description) (matches : List Match) (ssa : Ssa) (packs : List Pack) (recipes : List Recipe) (order : List Node) (o : ℕ) → IsOrder ssa matches packs order → o < length (operands_in ds matches ssa packs)
     → let j = job_of ds matches ssa packs recipes in Found (last_draft j (begin j) order).built o
 operand-built ds matches ssa packs recipes order o is low =
     let j = job_of ds matches ssa packs recipes in
@@ -110,7 +110,7 @@ operand-built ds matches ssa packs recipes order o is low =
     operand-there (x ∷ xs) zero d low = inl refl
     operand-there (x ∷ xs) (suc o) d low = inr (operand-there xs o d (omega arith))
 
-    mapped : (ps : List Packed) (k : ℕ) → k < length ps → slice_index_or (map (λ p. map (number_in (operands_in ds matches ssa packs)) (operands_of ds matches ssa p)) ps) k [] ≡ map (number_in (operands_in ds matches ssa packs)) (operands_of ds matches ssa (slice_index_or ps k (Stores [])))
+    mapped : (ps : List Pack) (k : ℕ) → k < length ps → slice_index_or (map (λ p. map (number_in (operands_in ds matches ssa packs)) (operands_of ds matches ssa p)) ps) k [] ≡ map (number_in (operands_in ds matches ssa packs)) (operands_of ds matches ssa (slice_index_or ps k (Stores [])))
     mapped [] k low = absurd (omega arith)
     mapped (p ∷ ps) zero low = refl
     mapped (p ∷ ps) (suc k) low = mapped ps k (omega arith)
@@ -152,7 +152,7 @@ pub nodes-total : (j : Job) (ns : List Node) → nodes_cost j ns ≡ total (node
 nodes-total j [] = refl
 nodes-total j (n ∷ ns) = ap (λ k. node_cost j n + k) (nodes-total j ns)
 
-pub packs-total : (j : Job) (done rest : List Packed) → j.packs ≡ done ++ rest → total (node_cost j) (map PackAt (numbers_from (length done) (length rest))) ≡ total (pack_cost j) rest
+pub packs-total : (j : Job) (done rest : List Pack) → j.packs ≡ done ++ rest → total (node_cost j) (map PackAt (numbers_from (length done) (length rest))) ≡ total (pack_cost j) rest
 packs-total j done [] e = refl
 packs-total j done (p ∷ rest) e =
     let here : pack_at j (length done) ≡ p = ap (λ l. slice_index_or l (length done) (Stores [])) e ∙ seam done in
@@ -160,7 +160,7 @@ packs-total j done (p ∷ rest) e =
     (λ i. pack_cost j (here i) + total (node_cost j) (map PackAt (numbers_from (next i) (length rest))))
     ∙ ap (λ n. pack_cost j p + n) (packs-total j (done ++ p ∷ []) rest (e ∙ sym (Rattle.std.proofs.Common.append_assoc done (p ∷ []) rest)))
   where
-    seam : (ds : List Packed) → slice_index_or (ds ++ p ∷ rest) (length ds) (Stores []) ≡ p
+    seam : (ds : List Pack) → slice_index_or (ds ++ p ∷ rest) (length ds) (Stores []) ≡ p
     seam [] = refl
     seam (q ∷ ds) = seam ds
 

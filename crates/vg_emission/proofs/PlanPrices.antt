@@ -10,11 +10,11 @@ use Rattle.vg_plans.specs.World.{is_in}
 use Rattle.vg_shapes.specs.declared.match_table.Match.{Match}
 use Rattle.vg_shapes.specs.declared.operand.Operand.{Operand}
 use Rattle.vg_shapes.specs.declared.operand.Slot.{Slot}
-use Rattle.vg_shapes.specs.declared.pack.Pack.{Pack as Packed}
+use Rattle.vg_shapes.specs.declared.pack.Pack.{Pack}
 use Rattle.vg_shapes.specs.declared.pack.Pack.TheVariants.{Stores, Loads, Call}
 use Rattle.vg_shapes.specs.declared.ssa.Ssa.{Ssa}
-use Rattle.vg_shapes.specs.declared.unit.Unit.{Unit as Work}
-use Rattle.vg_shapes.specs.declared.unit.Unit.TheVariants.{Load, Store, Operation}
+use Rattle.vg_shapes.specs.declared.ssa_unit.SsaUnit.{SsaUnit}
+use Rattle.vg_shapes.specs.declared.ssa_unit.SsaUnit.TheVariants.{Load, Store, Operation}
 use Rattle.vg_shapes.specs.declared.wanted.Wanted.{Wanted}
 use Rattle.vg_shapes.specs.declared.wanted.Wanted.TheVariants.{Value, Constant, Nothing}
 use Rattle.vg_shapes.specs.Description.{Description}
@@ -25,10 +25,10 @@ use Rattle.vg_shapes.specs.Order.{count_of, numbers_from, one_if, Stands as In}
 use Rattle.vg_shapes.specs.Pack.{units_of}
 use Rattle.vg_shapes.specs.Sound.{IsUnit, value_bits}
 use Rattle.vg_shapes.specs.Units.{arguments, is_unit, unit_at}
-use Rattle.vg_packing.specs.declared.recipe.Recipe.{Recipe}
-use Rattle.vg_packing.specs.declared.recipe.Recipe.TheVariants as recipe
-use Rattle.vg_packing.specs.Packing.{falling_units, used_by}
-use Rattle.vg_packing.specs.Wants.{value_of, wanted_values}
+use Rattle.vg_kernel_plans.specs.declared.recipe.Recipe.{Recipe}
+use Rattle.vg_kernel_plans.specs.declared.recipe.Recipe.TheVariants as recipe
+use Rattle.vg_kernel_plans.specs.Packing.{falling_units, used_by}
+use Rattle.vg_kernel_plans.specs.Wants.{value_of, wanted_values}
 use Rattle.vg_order_laws.specs.Steps.{unit_numbers}
 use Rattle.vg_order_laws.proofs.Sequences.{count_of-append}
 use Rattle.vg_emission.specs.Emission.{Job, pack_at}
@@ -49,7 +49,7 @@ use Rattle.vg_emission.proofs.Uses.{wanted-slot}
 abbrev pub UnitValued : Ssa → ℕ → Type 0
 UnitValued ssa x = is_unit ssa x ≡ true → Valued (unit_at ssa x)
 
-some-unit : (o : Option Work) → is_some o ≡ true → (u : Work) × (o ≡ Some u)
+some-unit : (o : Option SsaUnit) → is_some o ≡ true → (u : SsaUnit) × (o ≡ Some u)
 some-unit None h = cc
 some-unit (Some u) h = (u, refl)
 
@@ -80,7 +80,7 @@ used-valued ssa v x units h = by (unit_at ssa v) refl h
     from : (y : Wanted) → HasBits ssa y → y ≡ Value x → UnitValued ssa x
     from y bits e = let b = bits x e in bits-valued ssa x b.0 b.1
 
-    by : (o : Option Work) → unit_at ssa v ≡ o → In x (used_by o) → UnitValued ssa x
+    by : (o : Option SsaUnit) → unit_at ssa v ≡ o → In x (used_by o) → UnitValued ssa x
     by None e g = absurd (omega arith)
     by (Some (Load a w)) e g = absurd (omega arith)
     by (Some (Store a w y)) e g =
@@ -127,7 +127,7 @@ inserted-member (r ∷ rs) (q ∷ os) x d h = by r refl (inserted-member rs os x
       | inr none ↦ later (rest (let split = count_of-append x (wanted_values q) (all_inserted rs os) in omega arith))
     ]
 
-pub needed-all : (P : ℕ → Type 0) (ssa : Ssa) (packs : List Packed) (needed vs : List ℕ) → ((x : ℕ) → In x needed → P x) → ((v x : ℕ) → In x (used_by (unit_at ssa v)) → P x) → (x : ℕ) → In x (needed_behind ssa packs needed vs) → P x
+pub needed-all : (P : ℕ → Type 0) (ssa : Ssa) (packs : List Pack) (needed vs : List ℕ) → ((x : ℕ) → In x needed → P x) → ((v x : ℕ) → In x (used_by (unit_at ssa v)) → P x) → (x : ℕ) → In x (needed_behind ssa packs needed vs) → P x
 needed-all P ssa packs needed [] start used x h = start x h
 needed-all P ssa packs needed (v ∷ vs) start used x h =
     let own = used_by (unit_at ssa v) in
@@ -142,15 +142,15 @@ needed-all P ssa packs needed (v ∷ vs) start used x h =
 value-price : (ssa : Ssa) (last : List ℕ) (v : ℕ) → Valued (unit_at ssa v) → one_if (has_value ssa v && is_in v last) ≡ one_if (is_in v last)
 value-price ssa last v h = ap (λ b. one_if (b && is_in v last)) (some-valued (unit_at ssa v) h)
 
-packed-price : (ssa : Ssa) (packs : List Packed) (last : List ℕ) (v : ℕ) → is_packed packs v ≡ true → unit_price ssa packs last v ≡ one_if (is_in v last)
+packed-price : (ssa : Ssa) (packs : List Pack) (last : List ℕ) (v : ℕ) → is_packed packs v ≡ true → unit_price ssa packs last v ≡ one_if (is_in v last)
 packed-price ssa packs last v h = ap (λ b. one_if ((not b && is_some (access_at ssa v)) || is_in v last)) h
 
-in-packed : (packs : List Packed) (p : Packed) (x : ℕ) → Has p packs → In x (units_of p) → In x (packed packs)
+in-packed : (packs : List Pack) (p : Pack) (x : ℕ) → Has p packs → In x (units_of p) → In x (packed packs)
 in-packed [] p x has h = absurd has
 in-packed (q ∷ packs) p x (inl e) h = let split = count_of-append x (units_of q) (packed packs) in let here = ap (λ r. count_of x (units_of r)) e in omega arith
 in-packed (q ∷ packs) p x (inr more) h = let split = count_of-append x (units_of q) (packed packs) in let rest = in-packed packs p x more h in omega arith
 
-found-packed : (packs : List Packed) (x : ℕ) → In x (packed packs) → is_packed packs x ≡ true
+found-packed : (packs : List Pack) (x : ℕ) → In x (packed packs) → is_packed packs x ≡ true
 found-packed packs x h = elim (cases_Bool (is_packed packs x)) [
   | inl t ↦ t
   | inr f ↦ absurd (let none = stands-found x (packed packs) f in omega arith)
@@ -165,7 +165,7 @@ total-none f [] none = refl
 total-none f (v ∷ vs) none = let a = none v (inl refl) in let b = total-none f vs (λ x h. none x (inr h)) in omega arith
 
 -- what is taken out of the register of a pack
-pub pack-price : (ds : List Description) (matches : List Match) (ssa : Ssa) (packs : List Packed) (recipes : List Recipe) (k : ℕ) → let j = job_of ds matches ssa packs recipes in
+pub pack-price : (ds : List Description) (matches : List Match) (ssa : Ssa) (packs : List Pack) (recipes : List Recipe) (k : ℕ) → let j = job_of ds matches ssa packs recipes in
     let last = needed_behind ssa packs (all_inserted recipes (operands_in ds matches ssa packs)) (falling_units ssa) in
     IsPlanned j → ((x : ℕ) → In x last → UnitValued ssa x) → k < length packs → Has (pack_at j k) packs → needed_in j (values_of (pack_at j k)) ≡ total (unit_price ssa packs last) (units_of (pack_at j k))
 pack-price ds matches ssa packs recipes k planned valued low has = by (pack_at (job_of ds matches ssa packs recipes) k) refl
@@ -194,19 +194,19 @@ pack-price ds matches ssa packs recipes k planned valued low has = by (pack_at (
               let empty : In v (values_of (Stores us)) = subst (λ p. In v (values_of p)) (sym e) given_too in omega arith)
         ]
 
-    by : (p : Packed) → p ≡ pack_at (job_of ds matches ssa packs recipes) k → needed_in (job_of ds matches ssa packs recipes) (values_of p) ≡ total (unit_price ssa packs last) (units_of p)
+    by : (p : Pack) → p ≡ pack_at (job_of ds matches ssa packs recipes) k → needed_in (job_of ds matches ssa packs recipes) (values_of p) ≡ total (unit_price ssa packs last) (units_of p)
     by (Stores us) e = sym (total-none (unit_price ssa packs last) us (none us e))
     by (Loads us) e = ap (needed_in (job_of ds matches ssa packs recipes)) (values-loads us) ∙ same us (sym (values-loads us) ∙ ap values_of e) (ap units_of e)
     by (Call c lanes) e = same (units_of (Call c lanes)) (ap values_of e) (ap units_of e)
 
 -- a unit outside packs
-pub outside-price : (j : Job) (packs : List Packed) (last : List ℕ) (v : ℕ) → ((x : ℕ) → j.needed x ≡ (has_value j.ssa x && is_in x last)) → is_packed packs v ≡ false → is_unit j.ssa v ≡ true → work_cost j v (unit_at j.ssa v) ≡ unit_price j.ssa packs last v
+pub outside-price : (j : Job) (packs : List Pack) (last : List ℕ) (v : ℕ) → ((x : ℕ) → j.needed x ≡ (has_value j.ssa x && is_in x last)) → is_packed packs v ≡ false → is_unit j.ssa v ≡ true → work_cost j v (unit_at j.ssa v) ≡ unit_price j.ssa packs last v
 outside-price j packs last v marks outside unit = by (unit_at j.ssa v) refl
   where
     open_price : unit_price j.ssa packs last v ≡ one_if (is_some (access_at j.ssa v) || is_in v last)
     open_price = ap (λ b. one_if ((not b && is_some (access_at j.ssa v)) || is_in v last)) outside
 
-    by : (o : Option Work) → unit_at j.ssa v ≡ o → work_cost j v o ≡ unit_price j.ssa packs last v
+    by : (o : Option SsaUnit) → unit_at j.ssa v ≡ o → work_cost j v o ≡ unit_price j.ssa packs last v
     by None e = absurd (true≢false (sym unit ∙ ap is_some e))
     by (Some (Load a w)) e = sym (open_price ∙ ap (λ o. one_if (is_some (o >>= access_of) || is_in v last)) e)
     by (Some (Store a w x)) e = sym (open_price ∙ ap (λ o. one_if (is_some (o >>= access_of) || is_in v last)) e)

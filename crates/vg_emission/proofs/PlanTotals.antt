@@ -11,7 +11,7 @@ use Rattle.vg_shapes.specs.declared.match_table.Match.{Match}
 use Rattle.vg_shapes.specs.declared.operand.Operand.{Operand}
 use Rattle.vg_shapes.specs.declared.order.Node.{Node}
 use Rattle.vg_shapes.specs.declared.order.Node.TheVariants.{PackAt, UnitAt}
-use Rattle.vg_shapes.specs.declared.pack.Pack.{Pack as Packed}
+use Rattle.vg_shapes.specs.declared.pack.Pack.{Pack}
 use Rattle.vg_shapes.specs.declared.pack.Pack.TheVariants.{Stores}
 use Rattle.vg_shapes.specs.declared.ssa.Ssa.{Ssa}
 use Rattle.vg_shapes.specs.Description.{Description}
@@ -19,8 +19,8 @@ use Rattle.vg_shapes.specs.Nodes.{IsOrder, is_packed, nodes, packed}
 use Rattle.vg_shapes.specs.Order.{numbers_from}
 use Rattle.vg_shapes.specs.Pack.{units_of}
 use Rattle.vg_shapes.specs.Units.{arguments, unit_at}
-use Rattle.vg_packing.specs.declared.recipe.Recipe.{Recipe}
-use Rattle.vg_packing.specs.Packing.{falling_units, packing, price_of}
+use Rattle.vg_kernel_plans.specs.declared.recipe.Recipe.{Recipe}
+use Rattle.vg_kernel_plans.specs.Packing.{falling_units, packing, price_of}
 use Rattle.vg_order_laws.specs.Steps.{unit_numbers}
 use Rattle.vg_emission.specs.Costs.{EmittedCostsThePlan}
 use Rattle.vg_emission.specs.Emission.{Job, emitted, operand_at, pack_at, recipe_at}
@@ -36,7 +36,7 @@ use Rattle.vg_emission.proofs.Standing.{packed-outside}
 use Rattle.vg_emission.proofs.Totals.{falling-total, scalars-total, total, total-append, total-counted, total-flat, total-sum, unit_price}
 
 -- what is needed after all units has values
-last-valued : (ds : List Description) (matches : List Match) (ssa : Ssa) (packs : List Packed) (recipes : List Recipe) → IsPlanned (job_of ds matches ssa packs recipes) → (x : ℕ) → Rattle.vg_shapes.specs.Order.Stands x (needed_behind ssa packs (all_inserted recipes (operands_in ds matches ssa packs)) (falling_units ssa)) → UnitValued ssa x
+last-valued : (ds : List Description) (matches : List Match) (ssa : Ssa) (packs : List Pack) (recipes : List Recipe) → IsPlanned (job_of ds matches ssa packs recipes) → (x : ℕ) → Rattle.vg_shapes.specs.Order.Stands x (needed_behind ssa packs (all_inserted recipes (operands_in ds matches ssa packs)) (falling_units ssa)) → UnitValued ssa x
 last-valued ds matches ssa packs recipes planned x h =
     let os = operands_in ds matches ssa packs in
     let d : Operand = record { register = 0; slots = [] } in
@@ -46,7 +46,7 @@ last-valued ds matches ssa packs recipes planned x h =
     (λ v y g. used-valued ssa v y planned.sound.units g) x h
 
 -- the nodes cost what the plan counts for its packs and units
-nodes-cost : (ds : List Description) (matches : List Match) (ssa : Ssa) (deps : List (ℕ × ℕ)) (packs : List Packed) (recipes : List Recipe) (order : List Node) → let j = job_of ds matches ssa packs recipes in
+nodes-cost : (ds : List Description) (matches : List Match) (ssa : Ssa) (deps : List (ℕ × ℕ)) (packs : List Pack) (recipes : List Recipe) (order : List Node) → let j = job_of ds matches ssa packs recipes in
     IsPlanned j → IsOrder ssa matches packs order → nodes_cost j order ≡ sum_by (price_of ds) packs + scalar_lines (packing ds matches ssa deps) packs (all_inserted recipes (operands_in ds matches ssa packs)) (falling_units ssa)
 nodes-cost ds matches ssa deps packs recipes order planned is =
     let j = job_of ds matches ssa packs recipes in

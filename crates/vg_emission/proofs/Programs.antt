@@ -14,17 +14,17 @@ use Rattle.vg_bits.proofs.ByteLists.{IsBytes-bytes}
 use Rattle.vg_program.specs.Meaning.{State, Instructions, Inputs, run}
 use Rattle.vg_shapes.specs.declared.order.Node.{Node}
 use Rattle.vg_shapes.specs.declared.order.Node.TheVariants.{PackAt, UnitAt}
-use Rattle.vg_shapes.specs.declared.pack.Pack.{Pack as Packed}
+use Rattle.vg_shapes.specs.declared.pack.Pack.{Pack}
 use Rattle.vg_shapes.specs.declared.pack.Pack.TheVariants.{Stores, Loads, Call}
 use Rattle.vg_shapes.specs.declared.ssa.Ssa.{Ssa}
-use Rattle.vg_shapes.specs.declared.unit.Unit.{Unit as Work}
-use Rattle.vg_shapes.specs.declared.unit.Unit.TheVariants.{Load, Store, Operation}
+use Rattle.vg_shapes.specs.declared.ssa_unit.SsaUnit.{SsaUnit}
+use Rattle.vg_shapes.specs.declared.ssa_unit.SsaUnit.TheVariants.{Load, Store, Operation}
 use Rattle.vg_shapes.specs.declared.wanted.Wanted.{Wanted}
 use Rattle.vg_shapes.specs.Layout.{access_at, access_of}
 use Rattle.vg_shapes.specs.Pack.{AreLoads, AreStores, is_pack_size, units_of}
 use Rattle.vg_shapes.specs.RunUnits.{number_of}
 use Rattle.vg_shapes.specs.Units.{unit_at}
-use Rattle.vg_packing.specs.Held.{lane_width_of}
+use Rattle.vg_kernel_plans.specs.Held.{lane_width_of}
 use Rattle.vg_order_laws.specs.Sequence.{run_steps}
 use Rattle.vg_order_laws.specs.Steps.{HasNumber, step_of, unit_step}
 use Rattle.vg_order_laws.proofs.Runs.{went_well}
@@ -54,7 +54,7 @@ stored-bytes m (negsuc a) new after p q e = cc
 step-bytes : (ssa : Ssa) (places : List ℕ) (numbers : ℕ → ℕ) (v : ℕ) (m after : List ℕ) → IsBytes m → unit_step ssa places numbers v m ≡ Some after → IsBytes after
 step-bytes ssa places numbers v m after are e = by (unit_at ssa v) e
   where
-    by : (o : Option Work) → step_of o places numbers v m ≡ Some after → IsBytes after
+    by : (o : Option SsaUnit) → step_of o places numbers v m ≡ Some after → IsBytes after
     by None g = subst IsBytes (let same : m ≡ after = cc in same) are
     by (Some (Load a w)) g = let x = seen-loaded m (place_of places a) (size_of w) (numbers v) after g in subst IsBytes (sym x.3) are
     by (Some (Store a w x)) g = stored-bytes m (place_of places a) (bytes (size_of w) (number_of numbers x)) after (IsBytes-bytes (size_of w) (number_of numbers x)) are g
@@ -93,19 +93,19 @@ pub record CallRight (j : Job) (c : Instructions) (numbers : ℕ → ℕ) (k e :
   pub operations : AllByRecursion (λ v. access_at j.ssa v ≡ None) (units_of (Call e lanes))
   pub holds : CallHolds j c numbers (takes_at j k) e lanes
 
-abbrev pub KindRight : Job → Instructions → (ℕ → ℕ) → ℕ → Packed → Type 0
+abbrev pub KindRight : Job → Instructions → (ℕ → ℕ) → ℕ → Pack → Type 0
 KindRight j c numbers k (Stores us) = StoresRight j numbers k us
 KindRight j c numbers k (Loads us) = LoadsRight j us
 KindRight j c numbers k (Call e lanes) = CallRight j c numbers k e lanes
 
 pub record IsFounded (j : Job) (c : Instructions) (numbers : ℕ → ℕ) (i : Inputs) : Type 0 where
   pub arguments : ArgumentsHave j numbers i
-  pub works : (v : ℕ) (u : Work) → unit_at j.ssa v ≡ Some u → HasNumber numbers v u
+  pub works : (v : ℕ) (u : SsaUnit) → unit_at j.ssa v ≡ Some u → HasNumber numbers v u
   pub recipes : (k : ℕ) → k < length j.packs → AllRight j c numbers (takes_at j k)
   pub packs : (k : ℕ) → k < length j.packs → KindRight j c numbers k (pack_at j k)
 
 -- what has to have run before a node
-abbrev pub UnitReady : Job → Draft → ℕ → Option Work → Type 0
+abbrev pub UnitReady : Job → Draft → ℕ → Option SsaUnit → Type 0
 UnitReady j d v None = Unit {0}
 UnitReady j d v (Some u) = WorkReady j d v u
 
@@ -125,7 +125,7 @@ node_units j (UnitAt v) = v ∷ []
 -- ---- a node
 
 -- a unit without an access leaves memory
-no-access : (places : List ℕ) (numbers : ℕ → ℕ) (v : ℕ) (m : List ℕ) (o : Option Work) → (o >>= access_of) ≡ None → step_of o places numbers v m ≡ Some m
+no-access : (places : List ℕ) (numbers : ℕ → ℕ) (v : ℕ) (m : List ℕ) (o : Option SsaUnit) → (o >>= access_of) ≡ None → step_of o places numbers v m ≡ Some m
 no-access places numbers v m None h = refl
 no-access places numbers v m (Some (Load a w)) h = cc
 no-access places numbers v m (Some (Store a w x)) h = cc
@@ -142,11 +142,11 @@ unit-runs : (j : Job) (numbers : ℕ → ℕ) (c : Instructions) (i : Inputs) (d
     → unit_step j.ssa i.places numbers v s.memory ≡ Some after → (t : State) × Moves j numbers c i s (unit_lines j d v (unit_at j.ssa v)).lines (unit_lines j d v (unit_at j.ssa v)).draft after t
 unit-runs j numbers c i d s v after all h ready e = by (unit_at j.ssa v) refl ready e
   where
-    by : (o : Option Work) → unit_at j.ssa v ≡ o → UnitReady j d v o → step_of o i.places numbers v s.memory ≡ Some after → (t : State) × Moves j numbers c i s (unit_lines j d v o).lines (unit_lines j d v o).draft after t
+    by : (o : Option SsaUnit) → unit_at j.ssa v ≡ o → UnitReady j d v o → step_of o i.places numbers v s.memory ≡ Some after → (t : State) × Moves j numbers c i s (unit_lines j d v o).lines (unit_lines j d v o).draft after t
     by None g r f = (s, moves-nowhere j numbers c i d s after h (let same : s.memory ≡ after = cc in same))
     by (Some u) g r f = work-runs j numbers c i d s v u after all.arguments h (all.works v u g) r f
 
-pack-runs : (j : Job) (numbers : ℕ → ℕ) (c : Instructions) (i : Inputs) (d : Draft) (s : State) (k : ℕ) (p : Packed) (after : List ℕ) → pack_at j k ≡ p → IsFounded j c numbers i → k < length j.packs → IsBytes s.memory → Stands j numbers d s → KindRight j c numbers k p → AllReady j d (takes_at j k)
+pack-runs : (j : Job) (numbers : ℕ → ℕ) (c : Instructions) (i : Inputs) (d : Draft) (s : State) (k : ℕ) (p : Pack) (after : List ℕ) → pack_at j k ≡ p → IsFounded j c numbers i → k < length j.packs → IsBytes s.memory → Stands j numbers d s → KindRight j c numbers k p → AllReady j d (takes_at j k)
     → run_steps (unit_step j.ssa i.places numbers) (units_of p) s.memory ≡ Some after → (t : State) × Moves j numbers c i s (pack_lines j d k p).lines (pack_lines j d k p).draft after t
 pack-runs j numbers c i d s k (Loads []) after here all low are h right ready e = absurd (let some = right.some in omega arith)
 pack-runs j numbers c i d s k (Loads (u ∷ us)) after here all low are h right ready e = loads-pack-runs j numbers c i d s k right.width right.address u us after all.arguments h are here right.are right.size (all.recipes k low) ready e

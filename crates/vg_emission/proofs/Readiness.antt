@@ -10,20 +10,20 @@ use Rattle.vg_shapes.specs.declared.operand.Operand.{Operand}
 use Rattle.vg_shapes.specs.declared.operand.Slot.{Slot}
 use Rattle.vg_shapes.specs.declared.order.Node.{Node}
 use Rattle.vg_shapes.specs.declared.order.Node.TheVariants.{PackAt, UnitAt}
-use Rattle.vg_shapes.specs.declared.pack.Pack.{Pack as Packed}
+use Rattle.vg_shapes.specs.declared.pack.Pack.{Pack}
 use Rattle.vg_shapes.specs.declared.pack.Pack.TheVariants.{Stores, Loads, Call}
-use Rattle.vg_shapes.specs.declared.unit.Unit.{Unit as Work}
-use Rattle.vg_shapes.specs.declared.unit.Unit.TheVariants.{Load, Store, Operation}
+use Rattle.vg_shapes.specs.declared.ssa_unit.SsaUnit.{SsaUnit}
+use Rattle.vg_shapes.specs.declared.ssa_unit.SsaUnit.TheVariants.{Load, Store, Operation}
 use Rattle.vg_shapes.specs.declared.wanted.Wanted.{Wanted}
 use Rattle.vg_shapes.specs.declared.wanted.Wanted.TheVariants.{Value, Constant, Nothing}
 use Rattle.vg_shapes.specs.Operands.{lanes_of}
 use Rattle.vg_shapes.specs.Order.{all_units, count_of, Follows, one_if, Stands as In}
 use Rattle.vg_shapes.specs.Pack.{units_of}
 use Rattle.vg_shapes.specs.Units.{arguments, unit_at}
-use Rattle.vg_packing.specs.declared.recipe.Recipe.{Recipe}
-use Rattle.vg_packing.specs.declared.recipe.Recipe.TheVariants as recipe
-use Rattle.vg_packing.specs.Held.{lane_width_of}
-use Rattle.vg_packing.specs.Wants.{wanted_values}
+use Rattle.vg_kernel_plans.specs.declared.recipe.Recipe.{Recipe}
+use Rattle.vg_kernel_plans.specs.declared.recipe.Recipe.TheVariants as recipe
+use Rattle.vg_kernel_plans.specs.Held.{lane_width_of}
+use Rattle.vg_kernel_plans.specs.Wants.{wanted_values}
 use Rattle.vg_order_laws.proofs.Legal.{all_units-push}
 use Rattle.vg_order_laws.proofs.Sequences.{count_of-append}
 use Rattle.vg_emission.specs.Draft.{Draft, Made, found, with_held, with_name}
@@ -106,13 +106,13 @@ builds-grown j d (o ∷ os) =
 -- ---- after a node
 
 -- a unit with a value
-abbrev pub Valued : Option Work → Type 0
+abbrev pub Valued : Option SsaUnit → Type 0
 Valued None = ⊥
 Valued (Some (Load a w)) = Unit {0}
 Valued (Some (Store a w x)) = ⊥
 Valued (Some (Operation op w k xs)) = Unit {0}
 
-work-grown : (j : Job) (d : Draft) (v : ℕ) (o : Option Work) → Grown d (unit_lines j d v o).draft
+work-grown : (j : Job) (d : Draft) (v : ℕ) (o : Option SsaUnit) → Grown d (unit_lines j d v o).draft
 work-grown j d v None = grown-same d d refl refl
 work-grown j d v (Some (Load a w)) = grown-name d v
 work-grown j d v (Some (Store a w x)) = grown-same d d refl refl
@@ -123,7 +123,7 @@ work-grown j d v (Some (Operation op w k xs)) =
       | inr f ↦ subst Goal (sym (cond-false _ _ _ f)) (grown-same d d refl refl)
     ]
 
-work-named : (j : Job) (d : Draft) (v : ℕ) (o : Option Work) → Valued o → j.needed v ≡ true → v < length d.names → Found (unit_lines j d v o).draft.names v
+work-named : (j : Job) (d : Draft) (v : ℕ) (o : Option SsaUnit) → Valued o → j.needed v ≡ true → v < length d.names → Found (unit_lines j d v o).draft.names v
 work-named j d v None h n l = absurd h
 work-named j d v (Some (Load a w)) h n l = found-here d.names v d.scalars l
 work-named j d v (Some (Store a w x)) h n l = absurd h
@@ -131,18 +131,18 @@ work-named j d v (Some (Operation op w k xs)) h n l =
     let Goal : Made → Type 0 = λ made. Found made.draft.names v in
     subst Goal (sym (cond-true _ _ _ n)) (found-here d.names v d.scalars l)
 
-with-pack-grown : (d : Draft) (k : ℕ) (p : Packed) → Grown d (with_pack d k p)
+with-pack-grown : (d : Draft) (k : ℕ) (p : Pack) → Grown d (with_pack d k p)
 with-pack-grown d k (Stores us) = grown-same d d refl refl
 with-pack-grown d k (Loads us) = grown-held d k
 with-pack-grown d k (Call e us) = grown-held d k
 
-pack-grown : (j : Job) (d : Draft) (k : ℕ) (p : Packed) → Grown d (pack_lines j d k p).draft
+pack-grown : (j : Job) (d : Draft) (k : ℕ) (p : Pack) → Grown d (pack_lines j d k p).draft
 pack-grown j d k p =
     let f = (build_all j d (takes_at j k)).draft in
     grown-then d f _ (builds-grown j d (takes_at j k)) (grown-then f (with_pack f k p) _ (with-pack-grown f k p)
     (extracts-grown j (with_pack f k p) f.vectors (width_for (lane_width_of j.descriptions j.ssa p)) 0 (lanes_of p)))
 
-pack-named : (j : Job) (d : Draft) (k : ℕ) (p : Packed) (v : ℕ) → In v (values_of p) → j.needed v ≡ true → v < length d.names → Found (pack_lines j d k p).draft.names v
+pack-named : (j : Job) (d : Draft) (k : ℕ) (p : Pack) (v : ℕ) → In v (values_of p) → j.needed v ≡ true → v < length d.names → Found (pack_lines j d k p).draft.names v
 pack-named j d k p v h n l =
     let f = (build_all j d (takes_at j k)).draft in
     let a = (builds-grown j d (takes_at j k)).long_names in
@@ -150,13 +150,13 @@ pack-named j d k p v h n l =
     extracts-named j (with_pack f k p) f.vectors (width_for (lane_width_of j.descriptions j.ssa p)) 0 (lanes_of p) v h n (omega arith)
 
 -- a pack whose register others may take
-abbrev pub IsHolder : Packed → Type 0
+abbrev pub IsHolder : Pack → Type 0
 IsHolder (Stores us) = ⊥
 IsHolder (Loads us) = Unit {0}
 IsHolder (Call e us) = Unit {0}
 
 -- a pack that gives a value has a register, and the value is one of its units
-pub gives-holder : (p : Packed) (x : ℕ) → In x (values_of p) → IsHolder p
+pub gives-holder : (p : Pack) (x : ℕ) → In x (values_of p) → IsHolder p
 gives-holder (Stores us) x h = absurd (omega arith)
 gives-holder (Loads us) x h = tt
 gives-holder (Call e us) x h = tt
@@ -165,17 +165,17 @@ pub values-loads : (us : List ℕ) → filter_map (λ v. v) (map Some us) ≡ us
 values-loads [] = refl
 values-loads (u ∷ us) = ap (λ l. u ∷ l) (values-loads us)
 
-pub gives-unit : (p : Packed) (x : ℕ) → In x (values_of p) → In x (units_of p)
+pub gives-unit : (p : Pack) (x : ℕ) → In x (values_of p) → In x (units_of p)
 gives-unit (Stores us) x h = absurd (omega arith)
 gives-unit (Loads us) x h = subst (In x) (values-loads us) h
 gives-unit (Call e us) x h = h
 
-held-with : (d : Draft) (k : ℕ) (p : Packed) → IsHolder p → k < length d.held → Found (with_pack d k p).held k
+held-with : (d : Draft) (k : ℕ) (p : Pack) → IsHolder p → k < length d.held → Found (with_pack d k p).held k
 held-with d k (Stores us) h l = absurd h
 held-with d k (Loads us) h l = found-here d.held k d.vectors l
 held-with d k (Call e us) h l = found-here d.held k d.vectors l
 
-pack-held : (j : Job) (d : Draft) (k : ℕ) (p : Packed) → IsHolder p → k < length d.held → Found (pack_lines j d k p).draft.held k
+pack-held : (j : Job) (d : Draft) (k : ℕ) (p : Pack) → IsHolder p → k < length d.held → Found (pack_lines j d k p).draft.held k
 pack-held j d k p h l =
     let f = (build_all j d (takes_at j k)).draft in
     let a = (builds-grown j d (takes_at j k)).long_held in
@@ -327,20 +327,20 @@ all-ready j d done (o ∷ os) valued only ran needs behind =
     (recipe-ready j d done (operand_at j o) (recipe_at j o) valued only ran (λ x a b. behind x a (inl b)) needs.0, all-ready j d done os valued only ran needs.1 (λ x a b. behind x a (inr b)))
 
 -- a unit outside packs uses a value
-abbrev pub WorkUses : Option Work → ℕ → Type 0
+abbrev pub WorkUses : Option SsaUnit → ℕ → Type 0
 WorkUses None x = ⊥
 WorkUses (Some (Load a w)) x = ⊥
 WorkUses (Some (Store a w y)) x = Is y x
 WorkUses (Some (Operation op w k ys)) x = Is ys.first x ⊎ (Is ys.second x ⊎ Is ys.third x)
 
 -- what a unit outside packs takes is needed
-abbrev pub WorkNeeds : Job → ℕ → Option Work → Type 0
+abbrev pub WorkNeeds : Job → ℕ → Option SsaUnit → Type 0
 WorkNeeds j v None = Unit {0}
 WorkNeeds j v (Some (Load a w)) = Unit {0}
 WorkNeeds j v (Some (Store a w x)) = TakenNeeded j x
 WorkNeeds j v (Some (Operation op w k xs)) = j.needed v ≡ true → TakenNeeded j xs.first × TakenNeeded j xs.second × TakenNeeded j xs.third
 
-work-ready : (j : Job) (d : Draft) (done : List Node) (v : ℕ) (o : Option Work) → AreValued j → Ran j d done → ((x : ℕ) → Valued (unit_at j.ssa x) → WorkUses o x → In x (all_units (node_units j) done)) → WorkNeeds j v o → UnitReady j d v o
+work-ready : (j : Job) (d : Draft) (done : List Node) (v : ℕ) (o : Option SsaUnit) → AreValued j → Ran j d done → ((x : ℕ) → Valued (unit_at j.ssa x) → WorkUses o x → In x (all_units (node_units j) done)) → WorkNeeds j v o → UnitReady j d v o
 work-ready j d done v None valued ran behind needs = tt
 work-ready j d done v (Some (Load a w)) valued ran behind needs = tt
 work-ready j d done v (Some (Store a w x)) valued ran behind needs = taken-known j d done x valued ran behind needs

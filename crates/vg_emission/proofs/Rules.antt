@@ -17,18 +17,18 @@ use Rattle.vg_shapes.specs.declared.match_table.Match.{Match}
 use Rattle.vg_shapes.specs.declared.operand.Operand.{Operand}
 use Rattle.vg_shapes.specs.declared.order.Node.{Node}
 use Rattle.vg_shapes.specs.declared.order.Node.TheVariants.{PackAt, UnitAt}
-use Rattle.vg_shapes.specs.declared.pack.Pack.{Pack as Packed}
+use Rattle.vg_shapes.specs.declared.pack.Pack.{Pack}
 use Rattle.vg_shapes.specs.declared.pack.Pack.TheVariants.{Stores, Loads, Call}
 use Rattle.vg_shapes.specs.declared.ssa.SsaParam.{SsaParam}
-use Rattle.vg_shapes.specs.declared.unit.Unit.{Unit as Work}
-use Rattle.vg_shapes.specs.declared.unit.Unit.TheVariants.{Load, Store}
+use Rattle.vg_shapes.specs.declared.ssa_unit.SsaUnit.{SsaUnit}
+use Rattle.vg_shapes.specs.declared.ssa_unit.SsaUnit.TheVariants.{Load, Store}
 use Rattle.vg_shapes.specs.declared.wanted.Wanted.{Wanted}
 use Rattle.vg_shapes.specs.Operands.{lanes_of}
 use Rattle.vg_shapes.specs.Pack.{AreStores, bounds_from}
 use Rattle.vg_shapes.specs.Sound.{IsSound, IsUnit, is_store}
 use Rattle.vg_shapes.specs.Units.{unit_at}
-use Rattle.vg_packing.specs.Held.{lane_width_of, register_of}
-use Rattle.vg_packing.specs.Taken.{group_operand, operands_of, params_of}
+use Rattle.vg_kernel_plans.specs.Held.{lane_width_of, register_of}
+use Rattle.vg_kernel_plans.specs.Taken.{group_operand, operands_of, params_of}
 use Rattle.vg_emission.specs.Draft.{Draft}
 use Rattle.vg_emission.specs.Emission.{Job, build_all, call_of, description_at, emitted, first_address, joint_size, no_description, node_lines, operand_at, pack_at, pack_lines, takes_at, width_for}
 use Rattle.vg_emission.specs.Fit.{AreFit, EmittedKeepsRules, HasHeader, LaneFits}
@@ -49,7 +49,7 @@ first-wide : (vs : List ℕ) (rs : List ℕ) (w : ℕ) (ws : List ℕ) → map (
 first-wide vs [] w ws e = cc
 first-wide vs (r ∷ rs) w ws e = cc
 
-pack-types : (j : Job) (matches : List Match) (headers : List Header) (d : Draft) (b : Before) (k : ℕ) (p : Packed) → AreFit j headers → IsPlanned j → IsJob j matches → b.headers ≡ headers → k < length j.packs → pack_at j k ≡ p → IsPack j.descriptions j.ssa p → Typed j d b → AllReady j d (takes_at j k)
+pack-types : (j : Job) (matches : List Match) (headers : List Header) (d : Draft) (b : Before) (k : ℕ) (p : Pack) → AreFit j headers → IsPlanned j → IsJob j matches → b.headers ≡ headers → k < length j.packs → pack_at j k ≡ p → IsPack j.descriptions j.ssa p → Typed j d b → AllReady j d (takes_at j k)
     → (after : Before) × Types j b (pack_lines j d k p).lines (pack_lines j d k p).draft after
 pack-types j matches headers d b k (Loads []) fit planned job same low here is h ready = absurd (let two = is.3 in omega arith)
 pack-types j matches headers d b k (Loads (u ∷ us)) fit planned job same low here is h ready =
@@ -132,7 +132,7 @@ names-are : (ps : List SsaParam) → AllByRecursion (λ (p : SsaParam). IsTrue (
 names-are [] all = tt
 names-are (p ∷ ps) all = (all.0, names-are ps all.1)
 
-split-count : (test : Work → Bool) (us : List Work) → length us ≡ length (filter test us) + length (filter (λ u. not (test u)) us)
+split-count : (test : SsaUnit → Bool) (us : List SsaUnit) → length us ≡ length (filter test us) + length (filter (λ u. not (test u)) us)
 split-count test [] = refl
 split-count test (u ∷ us) =
     let rest = split-count test us in

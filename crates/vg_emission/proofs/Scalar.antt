@@ -10,8 +10,8 @@ use Rattle.vg_program.specs.declared.operand.Operand.{Operand as Number}
 use Rattle.vg_program.specs.declared.operand.Operand.TheVariants.{Register, Argument}
 use Rattle.vg_program.specs.Cost.{line_cost}
 use Rattle.vg_shapes.specs.declared.order.Node.TheVariants.{UnitAt}
-use Rattle.vg_shapes.specs.declared.unit.Unit.{Unit as Work}
-use Rattle.vg_shapes.specs.declared.unit.Unit.TheVariants.{Load, Store, Operation}
+use Rattle.vg_shapes.specs.declared.ssa_unit.SsaUnit.{SsaUnit}
+use Rattle.vg_shapes.specs.declared.ssa_unit.SsaUnit.TheVariants.{Load, Store, Operation}
 use Rattle.vg_shapes.specs.declared.wanted.Wanted.{Wanted}
 use Rattle.vg_shapes.specs.declared.wanted.Wanted.TheVariants.{Value, Constant, Nothing}
 use Rattle.vg_shapes.specs.Order.{numbers_from}
@@ -86,20 +86,20 @@ stand-more j d names k h scalars low high v = elim (cases_lt v (length names)) [
 ]
 
 -- the lines of the first of units, and those of the others
-first-unit : (j : Job) (d : Draft) (done : List Work) (u : Work) (us : List Work) (v : ℕ) → j.ssa.units ≡ done ++ u ∷ us → v ≡ arguments j.ssa + length done
+first-unit : (j : Job) (d : Draft) (done : List SsaUnit) (u : SsaUnit) (us : List SsaUnit) (v : ℕ) → j.ssa.units ≡ done ++ u ∷ us → v ≡ arguments j.ssa + length done
     → emitted j d (map UnitAt (numbers_from v (suc (length us)))) ≡ (unit_lines j d v (Some u)).lines ++ emitted j (unit_lines j d v (Some u)).draft (map UnitAt (numbers_from (v + 1) (length us)))
 first-unit j d done u us v whole long =
     ap (λ o. (unit_lines j d v o).lines ++ emitted j (unit_lines j d v o).draft (map UnitAt (numbers_from (v + 1) (length us)))) (unit-there j.ssa done u us v whole long)
 
 -- what a walk over units keeps
-pub record Walked (j : Job) (d : Draft) (k : ℕ) (names : List Number) (done us : List Work) : Type 0 where
+pub record Walked (j : Job) (d : Draft) (k : ℕ) (names : List Number) (done us : List SsaUnit) : Type 0 where
   pub whole : j.ssa.units ≡ done ++ us
   pub long : length names ≡ arguments j.ssa + length done
   pub scalars : d.scalars ≡ k
   pub room : length d.names ≡ arguments j.ssa + length j.ssa.units
   pub stand : Stand j d names
 
-walked-none : (j : Job) (d : Draft) (k : ℕ) (names : List Number) (done : List Work) (u : Work) (us : List Work) → Walked j d k names done (u ∷ us) → Walked j d k (names ++ Register 0 ∷ []) (done ++ u ∷ []) us
+walked-none : (j : Job) (d : Draft) (k : ℕ) (names : List Number) (done : List SsaUnit) (u : SsaUnit) (us : List SsaUnit) → Walked j d k names done (u ∷ us) → Walked j d k (names ++ Register 0 ∷ []) (done ++ u ∷ []) us
 walked-none j d k names done u us h = record {
   whole = h.whole ∙ sym (append_assoc done (u ∷ []) us);
   long = (let a = length_push names (Register 0) in let b = length_push done u in let c = h.long in omega arith);
@@ -108,7 +108,7 @@ walked-none j d k names done u us h = record {
   stand = stand-none j d names h.stand;
 }
 
-walked-more : (j : Job) (d : Draft) (k : ℕ) (names : List Number) (done : List Work) (u : Work) (us : List Work) → Walked j d k names done (u ∷ us) → Walked j (with_name d (length names)) (k + 1) (names ++ Register k ∷ []) (done ++ u ∷ []) us
+walked-more : (j : Job) (d : Draft) (k : ℕ) (names : List Number) (done : List SsaUnit) (u : SsaUnit) (us : List SsaUnit) → Walked j d k names done (u ∷ us) → Walked j (with_name d (length names)) (k + 1) (names ++ Register k ∷ []) (done ++ u ∷ []) us
 walked-more j d k names done u us h =
     let size : length j.ssa.units ≡ length done + suc (length us) = ap length h.whole ∙ length-append done (u ∷ us) in
     let long = h.long in
@@ -124,7 +124,7 @@ walked-more j d k names done u us h =
 next-number : (names : List Number) (x : Number) → length names + 1 ≡ length (names ++ x ∷ [])
 next-number names x = let a = length_push names x in omega arith
 
-scalar-from : (j : Job) (needed : ℕ → Bool) → ((v : ℕ) → (has_value j.ssa v ≡ true) → j.needed v ≡ needed v) → (d : Draft) (k : ℕ) (names : List Number) (done us : List Work) → Walked j d k names done us
+scalar-from : (j : Job) (needed : ℕ → Bool) → ((v : ℕ) → (has_value j.ssa v ≡ true) → j.needed v ≡ needed v) → (d : Draft) (k : ℕ) (names : List Number) (done us : List SsaUnit) → Walked j d k names done us
     → emitted j d (map UnitAt (numbers_from (length names) (length us))) ≡ scalar_lines needed k names us
 scalar-from j needed marks d k names done [] h = refl
 scalar-from j needed marks d k names done (Load a w ∷ us) h =
@@ -138,7 +138,7 @@ scalar-from j needed marks d k names done (Store a w x ∷ us) h =
 scalar-from j needed marks d k names done (Operation op w n xs ∷ us) h =
     let v = length names in
     let u = Operation op w n xs in
-    let valued : has_value j.ssa v ≡ true = ap (λ (o : Option Work). is_some (o >>= unit_bits)) (unit-there j.ssa done u us v h.whole h.long) in
+    let valued : has_value j.ssa v ≡ true = ap (λ (o : Option SsaUnit). is_some (o >>= unit_bits)) (unit-there j.ssa done u us v h.whole h.long) in
     let mark = marks v valued in
     let same : operation_line op w n (number_for j d xs.first) (number_for j d xs.second) (number_for j d xs.third) ≡ operation_line op w n (scalar_operand names xs.first) (scalar_operand names xs.second) (scalar_operand names xs.third) =
     (λ i. operation_line op w n (operand-same j d names xs.first h.stand i) (operand-same j d names xs.second h.stand i) (operand-same j d names xs.third h.stand i)) in

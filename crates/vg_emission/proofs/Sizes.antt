@@ -11,7 +11,7 @@ use Rattle.vg_program.specs.Vectors.{bytes_of, register_of}
 use Rattle.vg_shapes.specs.declared.ssa.Ssa.{Ssa}
 use Rattle.vg_shapes.specs.declared.wanted.Wanted.{Wanted}
 use Rattle.vg_shapes.specs.Pack.{AreLoads, AreStores, is_pack_size}
-use Rattle.vg_packing.specs.Taken.{first_width, register_of_bytes, unit_width}
+use Rattle.vg_kernel_plans.specs.Taken.{first_width, register_of_bytes, unit_width}
 use Rattle.vg_emission.specs.Emission.{address_of, first_address, joint_size, size_for, width_for}
 
 pub eight : (w : Width) → bits_of w ≡ 8 * size_of w

@@ -4,7 +4,7 @@ use Rattle.std.specs.Prelude.{filter, not, ◌==◌}
 use Rattle.std.proofs.lemmas.Bool.{cases_Bool, cond-true, cond-false, eqb-true}
 use Rattle.vg_shapes.specs.declared.match_table.Match.{Match}
 use Rattle.vg_shapes.specs.declared.order.Node.{Node}
-use Rattle.vg_shapes.specs.declared.pack.Pack.{Pack as Packed}
+use Rattle.vg_shapes.specs.declared.pack.Pack.{Pack}
 use Rattle.vg_shapes.specs.declared.ssa.Ssa.{Ssa}
 use Rattle.vg_shapes.specs.Nodes.{ArePacks, is_packed, IsOrder, nodes, packed, units_at}
 use Rattle.vg_shapes.specs.Order.{all_units, count_of, one_if, Stands}
@@ -30,7 +30,7 @@ kept-stands test x (y ∷ ys) t h =
           ]
     ]
 
-pub stands-in-order : (ssa : Ssa) (matches : List Match) (packs : List Packed) (order : List Node) (x : ℕ) → IsOrder ssa matches packs order → Stands x (unit_numbers ssa) → Stands x (all_units (units_at packs) order)
+pub stands-in-order : (ssa : Ssa) (matches : List Match) (packs : List Pack) (order : List Node) (x : ℕ) → IsOrder ssa matches packs order → Stands x (unit_numbers ssa) → Stands x (all_units (units_at packs) order)
 stands-in-order ssa matches packs order x legal there =
     let outside = filter (λ v. not (is_packed packs v)) (unit_numbers ssa) in
     let all : count_of x (all_units (units_at packs) order) ≡ count_of x (packed packs) + count_of x outside =
@@ -42,10 +42,10 @@ stands-in-order ssa matches packs order x legal there =
 
 -- ---- and it stands there once
 
-pub orders-have_units : (ssa : Ssa) (matches : List Match) (packs : List Packed) (order : List Node) → ArePacks ssa packs → IsOrder ssa matches packs order → AreUnits ssa (all_units (units_at packs) order)
+pub orders-have_units : (ssa : Ssa) (matches : List Match) (packs : List Pack) (order : List Node) → ArePacks ssa packs → IsOrder ssa matches packs order → AreUnits ssa (all_units (units_at packs) order)
 orders-have_units ssa matches packs order good legal = nodes-have_units ssa packs order good legal.once
 
 -- the units in packs and those outside are all units, each once
-pub packed-outside : (ssa : Ssa) (matches : List Match) (packs : List Packed) (order : List Node) → ArePacks ssa packs → IsOrder ssa matches packs order → (x : ℕ) → count_of x (packed packs ++ filter (λ v. not (is_packed packs v)) (unit_numbers ssa)) ≡ count_of x (unit_numbers ssa)
+pub packed-outside : (ssa : Ssa) (matches : List Match) (packs : List Pack) (order : List Node) → ArePacks ssa packs → IsOrder ssa matches packs order → (x : ℕ) → count_of x (packed packs ++ filter (λ v. not (is_packed packs v)) (unit_numbers ssa)) ≡ count_of x (unit_numbers ssa)
 packed-outside ssa matches packs order good legal x =
     ap (count_of x) (sym (node-units ssa packs)) ∙ sym (count_of-permuted (units_at packs) x (nodes ssa packs) order legal.once) ∙ orders-have_units ssa matches packs order good legal x

@@ -9,7 +9,7 @@ use Rattle.std.proofs.lemmas.List.Sums.{sum_by-cons}
 use Rattle.vg_plans.specs.World.{is_emitted, is_in, scalar_lines}
 use Rattle.vg_plans.specs.World as world
 use Rattle.vg_shapes.specs.declared.match_table.Match.{Match}
-use Rattle.vg_shapes.specs.declared.pack.Pack.{Pack as Packed}
+use Rattle.vg_shapes.specs.declared.pack.Pack.{Pack}
 use Rattle.vg_shapes.specs.declared.ssa.Ssa.{Ssa}
 use Rattle.vg_shapes.specs.Description.{Description}
 use Rattle.vg_shapes.specs.Layout.{access_at}
@@ -18,7 +18,7 @@ use Rattle.vg_shapes.specs.Order.{count_of, numbers_from, one_if}
 use Rattle.vg_shapes.specs.Pack.{units_of}
 use Rattle.vg_shapes.specs.Sound.{TakeEarlier}
 use Rattle.vg_shapes.specs.Units.{arguments, is_unit, unit_at}
-use Rattle.vg_packing.specs.Packing.{packing, used_by}
+use Rattle.vg_kernel_plans.specs.Packing.{packing, used_by}
 use Rattle.vg_order_laws.specs.Sequence.{in_order, put_in}
 use Rattle.vg_order_laws.proofs.Sequences.{in_order-numbers}
 use Rattle.vg_emission.specs.Program.{is_scalar, needed_behind}
@@ -65,7 +65,7 @@ numbers-end : (f : ℕ → ℕ) (first n : ℕ) → total f (numbers_from first 
 numbers-end f first zero = let here : first ≡ first + 0 = omega arith in let same = ap f here in omega arith
 numbers-end f first (suc n) = let rest = numbers-end f (first + 1) n in let here : first + 1 + n ≡ first + suc n = omega arith in let same = ap f here in omega arith
 
-some-unit : (o : Option Rattle.vg_shapes.specs.declared.unit.Unit.Unit) → is_some o ≡ true → (u : Rattle.vg_shapes.specs.declared.unit.Unit.Unit) × (o ≡ Some u)
+some-unit : (o : Option Rattle.vg_shapes.specs.declared.ssa_unit.SsaUnit.SsaUnit) → is_some o ≡ true → (u : Rattle.vg_shapes.specs.declared.ssa_unit.SsaUnit.SsaUnit) × (o ≡ Some u)
 some-unit None h = cc
 some-unit (Some u) h = (u, refl)
 
@@ -80,7 +80,7 @@ none-below f ssa (suc n) low =
 
 pub unit-here : (ssa : Ssa) (n : ℕ) → n < length ssa.units → is_unit ssa (arguments ssa + n) ≡ true
 unit-here ssa n low =
-    let d : Rattle.vg_shapes.specs.declared.unit.Unit.Unit = Rattle.std.specs.Prelude.slice_index_or ssa.units n (Rattle.vg_shapes.specs.declared.unit.Unit.TheVariants.Load (record { pointer = 0; offset = Rattle.std.proofs.Common.pos 0 }) Rattle.vg_base.specs.declared.width.Width.TheVariants.W8) in
+    let d : Rattle.vg_shapes.specs.declared.ssa_unit.SsaUnit.SsaUnit = Rattle.std.specs.Prelude.slice_index_or ssa.units n (Rattle.vg_shapes.specs.declared.ssa_unit.SsaUnit.TheVariants.Load (record { pointer = 0; offset = Rattle.std.proofs.Common.pos 0 }) Rattle.vg_base.specs.declared.width.Width.TheVariants.W8) in
     let same : arguments ssa + n - arguments ssa ≡ n = omega arith in
     ap is_some (cond-false _ _ _ (le-ltb (arguments ssa + n) (arguments ssa) (omega arith)) ∙ ap (slice_get ssa.units) same ∙ get-there ssa.units n d low)
 
@@ -101,10 +101,10 @@ falling-total f ssa = below-total f ssa (length ssa.units) (omega arith)
 -- ---- what a plan counts for units
 
 -- 1 for a unit that is emitted as a scalar, or taken out of the register of its pack
-abbrev pub unit_price : Ssa → List Packed → List ℕ → ℕ → ℕ
+abbrev pub unit_price : Ssa → List Pack → List ℕ → ℕ → ℕ
 unit_price ssa packs needed v = one_if ((not (is_packed packs v) && is_some (access_at ssa v)) || is_in v needed)
 
-pub packed-same : (packs : List Packed) (v : ℕ) → list_any (λ p. is_in v (units_of p)) packs ≡ is_packed packs v
+pub packed-same : (packs : List Pack) (v : ℕ) → list_any (λ p. is_in v (units_of p)) packs ≡ is_packed packs v
 packed-same [] v = refl
 packed-same (p ∷ packs) v = ap (λ b. is_in v (units_of p) || b) (packed-same packs v) ∙ sym (list_any-append (nat_eq v) (units_of p) (packed packs))
 
@@ -127,7 +127,7 @@ same-bools true false f g = sym (f refl)
 same-bools false true f g = g refl
 same-bools false false f g = refl
 
-pub scalars-total : (ds : List Description) (matches : List Match) (ssa : Ssa) (deps : List (ℕ × ℕ)) (packs : List Packed) (n : ℕ) (needed : List ℕ) → TakeEarlier (arguments ssa) ssa.units
+pub scalars-total : (ds : List Description) (matches : List Match) (ssa : Ssa) (deps : List (ℕ × ℕ)) (packs : List Pack) (n : ℕ) (needed : List ℕ) → TakeEarlier (arguments ssa) ssa.units
     → scalar_lines (packing ds matches ssa deps) packs needed (units_below ssa n) ≡ total (unit_price ssa packs (needed_behind ssa packs needed (units_below ssa n))) (units_below ssa n)
 scalars-total ds matches ssa deps packs zero needed early = refl
 scalars-total ds matches ssa deps packs (suc m) needed early =

@@ -16,18 +16,18 @@ use Rattle.vg_program.specs.Accesses as program
 use Rattle.vg_program.specs.Vectors.{bytes_of}
 use Rattle.vg_shapes.specs.declared.order.Node.{Node}
 use Rattle.vg_shapes.specs.declared.order.Node.TheVariants.{PackAt, UnitAt}
-use Rattle.vg_shapes.specs.declared.pack.Pack.{Pack as Packed}
+use Rattle.vg_shapes.specs.declared.pack.Pack.{Pack}
 use Rattle.vg_shapes.specs.declared.pack.Pack.TheVariants.{Stores, Loads, Call}
 use Rattle.vg_shapes.specs.declared.ssa.Ssa.{Ssa}
-use Rattle.vg_shapes.specs.declared.unit.Unit.{Unit as Work}
-use Rattle.vg_shapes.specs.declared.unit.Unit.TheVariants.{Load, Store, Operation}
+use Rattle.vg_shapes.specs.declared.ssa_unit.SsaUnit.{SsaUnit}
+use Rattle.vg_shapes.specs.declared.ssa_unit.SsaUnit.TheVariants.{Load, Store, Operation}
 use Rattle.vg_shapes.specs.declared.wanted.Wanted.{Wanted}
 use Rattle.vg_shapes.specs.Layout.{access_at, access_of}
 use Rattle.vg_shapes.specs.Order.{all_units, count_of, one_if, Stands as In}
 use Rattle.vg_shapes.specs.Pack.{AreLoads, AreStores, behind, is_pack_size, units_of}
 use Rattle.vg_shapes.specs.Units.{unit_at}
 use Rattle.vg_shapes.specs.Operands.{lanes_of}
-use Rattle.vg_packing.specs.Held.{lane_width_of}
+use Rattle.vg_kernel_plans.specs.Held.{lane_width_of}
 use Rattle.vg_order_laws.specs.Steps.{is_inside, stays_inside}
 use Rattle.vg_order_laws.proofs.Sequences.{count_of-append}
 use Rattle.vg_emission.specs.Draft.{Draft}
@@ -74,7 +74,7 @@ behind-twice a m n = let e : (behind (behind a m) n).offset ≡ (behind a (m + n
 at_start : (a : Address) → behind a 0 ≡ a
 at_start a = let e : (behind a 0).offset ≡ a.offset = omega (arith, ints) in ap (λ (z : ℤ). let b : Address = record { pointer = a.pointer; offset = z } in b) e
 
-loads-outside : (ssa : Ssa) (places : List ℕ) (long : ℕ) (w : Width) (a : Address) (skip whole : ℕ) (us : List ℕ) (v : ℕ) (u : Work) → AreLoads ssa w (behind a skip) us → skip + length us * size_of w ≤ whole → In v us → unit_at ssa v ≡ Some u → stays_inside places long u ≡ false → is_inside long (place_of places a) whole ≡ false
+loads-outside : (ssa : Ssa) (places : List ℕ) (long : ℕ) (w : Width) (a : Address) (skip whole : ℕ) (us : List ℕ) (v : ℕ) (u : SsaUnit) → AreLoads ssa w (behind a skip) us → skip + length us * size_of w ≤ whole → In v us → unit_at ssa v ≡ Some u → stays_inside places long u ≡ false → is_inside long (place_of places a) whole ≡ false
 loads-outside ssa places long w a skip whole [] v u are fits h e out = absurd (omega arith)
 loads-outside ssa places long w a skip whole (x ∷ us) v u are fits h e out = elim (cases_Bool (v == x)) [
   | inl t ↦
@@ -85,7 +85,7 @@ loads-outside ssa places long w a skip whole (x ∷ us) v u are fits h e out = e
   | inr f ↦ loads-outside ssa places long w a (skip + size_of w) whole us v u (subst (λ b. AreLoads ssa w b us) (behind-twice a skip (size_of w)) are.1) (omega arith) (let none : one_if (v == x) ≡ 0 = ap one_if f in omega arith) e out
 ]
 
-stores-outside : (ssa : Ssa) (places : List ℕ) (long : ℕ) (w : Width) (a : Address) (skip whole : ℕ) (us : List ℕ) (xs : List Wanted) (v : ℕ) (u : Work) → AreStores ssa w (behind a skip) us xs → skip + length us * size_of w ≤ whole → In v us → unit_at ssa v ≡ Some u → stays_inside places long u ≡ false → is_inside long (place_of places a) whole ≡ false
+stores-outside : (ssa : Ssa) (places : List ℕ) (long : ℕ) (w : Width) (a : Address) (skip whole : ℕ) (us : List ℕ) (xs : List Wanted) (v : ℕ) (u : SsaUnit) → AreStores ssa w (behind a skip) us xs → skip + length us * size_of w ≤ whole → In v us → unit_at ssa v ≡ Some u → stays_inside places long u ≡ false → is_inside long (place_of places a) whole ≡ false
 stores-outside ssa places long w a skip whole [] xs v u are fits h e out = absurd (omega arith)
 stores-outside ssa places long w a skip whole (x ∷ us) [] v u are fits h e out = absurd are
 stores-outside ssa places long w a skip whole (x ∷ us) (y ∷ ys) v u are fits h e out = elim (cases_Bool (v == x)) [
@@ -100,18 +100,18 @@ stores-outside ssa places long w a skip whole (x ∷ us) (y ∷ ys) v u are fits
 -- ---- nodes
 
 -- what is true of a pack whatever the numbers are
-abbrev pub PackSides : Ssa → Packed → Type 0
+abbrev pub PackSides : Ssa → Pack → Type 0
 PackSides ssa (Loads us) = (w : Width) × (a : Address) × AreLoads ssa w a us × (is_pack_size (length us * size_of w) ≡ true)
 PackSides ssa (Stores us) = (w : Width) × (a : Address) × (xs : List Wanted) × AreStores ssa w a us xs × (is_pack_size (length us * size_of w) ≡ true)
 PackSides ssa (Call e lanes) = AllByRecursion (λ v. access_at ssa v ≡ None) (units_of (Call e lanes))
 
 -- a unit that stays nowhere has an access
-none-inside : (places : List ℕ) (long : ℕ) (u : Work) → access_of u ≡ None → stays_inside places long u ≡ true
+none-inside : (places : List ℕ) (long : ℕ) (u : SsaUnit) → access_of u ≡ None → stays_inside places long u ≡ true
 none-inside places long (Load a w) h = cc
 none-inside places long (Store a w x) h = cc
 none-inside places long (Operation op w k xs) h = refl
 
-operations-inside : (ssa : Ssa) (places : List ℕ) (long : ℕ) (us : List ℕ) (v : ℕ) (u : Work) → AllByRecursion (λ x. access_at ssa x ≡ None) us → In v us → unit_at ssa v ≡ Some u → stays_inside places long u ≡ true
+operations-inside : (ssa : Ssa) (places : List ℕ) (long : ℕ) (us : List ℕ) (v : ℕ) (u : SsaUnit) → AllByRecursion (λ x. access_at ssa x ≡ None) us → In v us → unit_at ssa v ≡ Some u → stays_inside places long u ≡ true
 operations-inside ssa places long [] v u all h e = absurd (omega arith)
 operations-inside ssa places long (x ∷ us) v u all h e = elim (cases_Bool (v == x)) [
   | inl t ↦
@@ -120,7 +120,7 @@ operations-inside ssa places long (x ∷ us) v u all h e = elim (cases_Bool (v =
   | inr f ↦ operations-inside ssa places long us v u all.1 (let none : one_if (v == x) ≡ 0 = ap one_if f in omega arith) e
 ]
 
-pack-outside : (j : Job) (places : List ℕ) (long : ℕ) (d : Draft) (k : ℕ) (p : Packed) (v : ℕ) (u : Work) → PackSides j.ssa p → In v (units_of p) → unit_at j.ssa v ≡ Some u → stays_inside places long u ≡ false → Leaves places long (pack_lines j d k p).lines
+pack-outside : (j : Job) (places : List ℕ) (long : ℕ) (d : Draft) (k : ℕ) (p : Pack) (v : ℕ) (u : SsaUnit) → PackSides j.ssa p → In v (units_of p) → unit_at j.ssa v ≡ Some u → stays_inside places long u ≡ false → Leaves places long (pack_lines j d k p).lines
 pack-outside j places long d k (Loads []) v u sides h e out = absurd (omega arith)
 pack-outside j places long d k (Loads (x ∷ us)) v u sides h e out =
     let all = x ∷ us in
@@ -146,12 +146,12 @@ pack-outside j places long d k (Stores (x ∷ us)) v u sides h e out = by sides.
         (inside-same long (place_of places (first_address j.ssa (x ∷ us))) n ∙ ap (λ b. is_inside long (place_of places b) n) (stores-address j.ssa sides.0 sides.1 x us y ys are) ∙ outside))
 pack-outside j places long d k (Call c lanes) v u sides h e out = absurd (true≢false (sym (operations-inside j.ssa places long (units_of (Call c lanes)) v u sides h e) ∙ out))
 
-work-outside : (j : Job) (places : List ℕ) (long : ℕ) (d : Draft) (v : ℕ) (u : Work) → stays_inside places long u ≡ false → Leaves places long (unit_lines j d v (Some u)).lines
+work-outside : (j : Job) (places : List ℕ) (long : ℕ) (d : Draft) (v : ℕ) (u : SsaUnit) → stays_inside places long u ≡ false → Leaves places long (unit_lines j d v (Some u)).lines
 work-outside j places long d v (Load a w) out = leaves-first places long (line.Load w a) [] (inside-same long (place_of places a) (size_of w) ∙ out)
 work-outside j places long d v (Store a w x) out = leaves-first places long (line.Store w a (number_for j d x)) [] (inside-same long (place_of places a) (size_of w) ∙ out)
 work-outside j places long d v (Operation op w k xs) out = absurd (true≢false out)
 
-node-outside : (j : Job) (places : List ℕ) (long : ℕ) (d : Draft) (n : Node) (v : ℕ) (u : Work) → ((k : ℕ) → k < length j.packs → PackSides j.ssa (pack_at j k)) → (In v (node_units j n) → (k : ℕ) → n ≡ PackAt k → k < length j.packs) → In v (node_units j n) → unit_at j.ssa v ≡ Some u → stays_inside places long u ≡ false
+node-outside : (j : Job) (places : List ℕ) (long : ℕ) (d : Draft) (n : Node) (v : ℕ) (u : SsaUnit) → ((k : ℕ) → k < length j.packs → PackSides j.ssa (pack_at j k)) → (In v (node_units j n) → (k : ℕ) → n ≡ PackAt k → k < length j.packs) → In v (node_units j n) → unit_at j.ssa v ≡ Some u → stays_inside places long u ≡ false
     → Leaves places long (node_lines j d n).lines
 node-outside j places long d (PackAt k) v u sides low is e out = pack-outside j places long d k (pack_at j k) v u (sides k (low is k refl)) is e out
 node-outside j places long d (UnitAt x) v u sides low is e out = elim (cases_Bool (v == x)) [
@@ -165,13 +165,13 @@ node-outside j places long d (UnitAt x) v u sides low is e out = elim (cases_Boo
 pub in-range : (j : Job) (v : ℕ) (n : Node) → In v (node_units j n) → (k : ℕ) → n ≡ PackAt k → k < length j.packs
 in-range j v n is k e = low j.packs k (subst (λ m. In v (node_units j m)) e is)
   where
-    low : (packs : List Packed) (k : ℕ) → In v (units_of (Rattle.std.specs.Prelude.slice_index_or packs k (Stores []))) → k < length packs
+    low : (packs : List Pack) (k : ℕ) → In v (units_of (Rattle.std.specs.Prelude.slice_index_or packs k (Stores []))) → k < length packs
     low [] k h = absurd (omega arith)
     low (p ∷ packs) zero h = omega arith
     low (p ∷ packs) (suc k) h = let rest = low packs k h in omega arith
 
 -- the lines of an order leave the memory where a unit does
-pub emitted-outside : (j : Job) (places : List ℕ) (long : ℕ) (d : Draft) (order : List Node) (v : ℕ) (u : Work) → ((k : ℕ) → k < length j.packs → PackSides j.ssa (pack_at j k))
+pub emitted-outside : (j : Job) (places : List ℕ) (long : ℕ) (d : Draft) (order : List Node) (v : ℕ) (u : SsaUnit) → ((k : ℕ) → k < length j.packs → PackSides j.ssa (pack_at j k))
     → In v (all_units (node_units j) order) → unit_at j.ssa v ≡ Some u → stays_inside places long u ≡ false → Leaves places long (emitted j d order)
 emitted-outside j places long d [] v u sides is e out = absurd (omega arith)
 emitted-outside j places long d (n ∷ ns) v u sides is e out =

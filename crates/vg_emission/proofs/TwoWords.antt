@@ -18,7 +18,7 @@ use Rattle.vg_bits.proofs.ByteLists.{IsBits-bits_of_bytes, length-bits_of_bytes,
 use Rattle.vg_bits.proofs.Ranges.{length-range}
 use Rattle.vg_program.specs.Meaning.{Instructions}
 use Rattle.vg_shapes.specs.declared.pack.Pack.TheVariants.{Call}
-use Rattle.vg_shapes.specs.declared.unit.Unit.TheVariants.{Load, Store}
+use Rattle.vg_shapes.specs.declared.ssa_unit.SsaUnit.TheVariants.{Load, Store}
 use Rattle.vg_shapes.specs.declared.wanted.Wanted.{Wanted}
 use Rattle.vg_shapes.specs.declared.wanted.Wanted.TheVariants.{Value}
 use Rattle.vg_shapes.specs.Depends.{depends_on}
@@ -27,7 +27,7 @@ use Rattle.vg_shapes.specs.Order.{count_of, one_if, Stands as In}
 use Rattle.vg_shapes.specs.RunUnits.{number_of, Reached, reached, run_units, start_of, unit_run}
 use Rattle.vg_shapes.specs.Sound.{environment, IsSound, term_at, TermsMean}
 use Rattle.vg_shapes.specs.Units.{is_unit}
-use Rattle.vg_packing.proofs.SameTests.{both-true}
+use Rattle.vg_kernel_plans.proofs.SameTests.{both-true}
 use Rattle.vg_terms.specs.Term.{Tree, constant, leaf}
 use Rattle.vg_terms.specs.Value.{value}
 use Rattle.vg_order_laws.proofs.Accesses.{loaded-inside, loaded-outside}

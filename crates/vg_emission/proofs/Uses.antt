@@ -14,11 +14,11 @@ use Rattle.vg_shapes.specs.declared.operand.Operand.{Operand}
 use Rattle.vg_shapes.specs.declared.operand.Slot.{Slot}
 use Rattle.vg_shapes.specs.declared.order.Node.{Node}
 use Rattle.vg_shapes.specs.declared.order.Node.TheVariants.{PackAt, UnitAt}
-use Rattle.vg_shapes.specs.declared.pack.Pack.{Pack as Packed}
+use Rattle.vg_shapes.specs.declared.pack.Pack.{Pack}
 use Rattle.vg_shapes.specs.declared.pack.Pack.TheVariants.{Stores, Loads, Call}
 use Rattle.vg_shapes.specs.declared.ssa.Ssa.{Ssa}
-use Rattle.vg_shapes.specs.declared.unit.Unit.{Unit as Work}
-use Rattle.vg_shapes.specs.declared.unit.Unit.TheVariants.{Load, Store, Operation}
+use Rattle.vg_shapes.specs.declared.ssa_unit.SsaUnit.{SsaUnit}
+use Rattle.vg_shapes.specs.declared.ssa_unit.SsaUnit.TheVariants.{Load, Store, Operation}
 use Rattle.vg_shapes.specs.declared.wanted.Wanted.{Wanted}
 use Rattle.vg_shapes.specs.declared.wanted.Wanted.TheVariants.{Value, Constant, Nothing}
 use Rattle.vg_shapes.specs.Depends.{conflict_at, depends_on, uses_at}
@@ -28,16 +28,16 @@ use Rattle.vg_shapes.specs.Order.{one_if, Stands as In}
 use Rattle.vg_shapes.specs.Pack.{bounds_from}
 use Rattle.vg_shapes.specs.Sound.{IsEarlier, TakeEarlier, TakesEarlier}
 use Rattle.vg_shapes.specs.Units.{arguments, is_unit, is_value, unit_at, uses_value}
-use Rattle.vg_packing.specs.SameAs.{same_slot}
-use Rattle.vg_packing.specs.Taken.{first_width, operands_from, operands_of, params_of, slot_of, slots_from, slots_of, stored}
-use Rattle.vg_packing.specs.Wants.{value_of, wanted_values}
+use Rattle.vg_kernel_plans.specs.SameAs.{same_slot}
+use Rattle.vg_kernel_plans.specs.Taken.{first_width, operands_from, operands_of, params_of, slot_of, slots_from, slots_of, stored}
+use Rattle.vg_kernel_plans.specs.Wants.{value_of, wanted_values}
 use Rattle.vg_emission.specs.Emission.{Job, operand_at, pack_at, takes_at}
 use Rattle.vg_emission.proofs.Jobs.{get-there, unit-number, valued-is}
 use Rattle.vg_emission.proofs.Readiness.{Is, NodeUses, OperandsWant, Valued, WorkUses}
 
 -- ---- units take earlier values
 
-earlier-from : (us : List Work) (first k : ℕ) (u : Work) → TakeEarlier first us → slice_get us k ≡ Some u → TakesEarlier (first + k) u
+earlier-from : (us : List SsaUnit) (first k : ℕ) (u : SsaUnit) → TakeEarlier first us → slice_get us k ≡ Some u → TakesEarlier (first + k) u
 earlier-from [] first k u early e = cc
 earlier-from (x ∷ us) first zero u early e =
     let same : x ≡ u = cc in
@@ -47,10 +47,10 @@ earlier-from (x ∷ us) first (suc k) u early e =
     let next : first + 1 + k ≡ first + suc k = omega arith in
     subst (λ n. TakesEarlier n u) next (earlier-from us (first + 1) k u early.1 e)
 
-pub unit-in-list : (ssa : Ssa) (v : ℕ) (u : Work) → unit_at ssa v ≡ Some u → slice_get ssa.units (v - arguments ssa) ≡ Some u
+pub unit-in-list : (ssa : Ssa) (v : ℕ) (u : SsaUnit) → unit_at ssa v ≡ Some u → slice_get ssa.units (v - arguments ssa) ≡ Some u
 unit-in-list ssa v u e = sym (Rattle.std.proofs.lemmas.Bool.cond-false _ _ _ (Rattle.std.proofs.lemmas.Bool.le-ltb v (arguments ssa) (unit-number ssa v u e).0)) ∙ e
 
-pub takes-earlier : (ssa : Ssa) (v : ℕ) (u : Work) → TakeEarlier (arguments ssa) ssa.units → unit_at ssa v ≡ Some u → TakesEarlier v u
+pub takes-earlier : (ssa : Ssa) (v : ℕ) (u : SsaUnit) → TakeEarlier (arguments ssa) ssa.units → unit_at ssa v ≡ Some u → TakesEarlier v u
 takes-earlier ssa v u early e =
     let low = (unit-number ssa v u e).0 in
     let same : arguments ssa + (v - arguments ssa) ≡ v = omega arith in
@@ -77,7 +77,7 @@ work-depends ssa v x early valued uses = by (unit_at ssa v) refl uses
     unit : is_unit ssa x ≡ true
     unit = valued-is (unit_at ssa x) valued
 
-    by : (o : Option Work) → unit_at ssa v ≡ o → WorkUses o x → depends_on ssa v x ≡ true
+    by : (o : Option SsaUnit) → unit_at ssa v ≡ o → WorkUses o x → depends_on ssa v x ≡ true
     by None e h = absurd h
     by (Some (Load a w)) e h = absurd h
     by (Some (Store a w y)) e h = use-depends ssa v x unit (is-earlier v y x (takes-earlier ssa v (Store a w y) early e) h) (ap (λ o. option_map_or (uses_value x) o false) e ∙ is-value y x h)
@@ -110,7 +110,7 @@ wanted-slot (s ∷ ss) x h = by s.wanted refl (wanted-slot ss x) h
 
 -- ---- packs
 
-stored-uses : (ssa : Ssa) (u x : ℕ) (o : Option Work) → unit_at ssa u ≡ o → stored o ≡ Value x → WorkUses o x
+stored-uses : (ssa : Ssa) (u x : ℕ) (o : Option SsaUnit) → unit_at ssa u ≡ o → stored o ≡ Value x → WorkUses o x
 stored-uses ssa u x None e h = cc
 stored-uses ssa u x (Some (Load a w)) e h = cc
 stored-uses ssa u x (Some (Store a w y)) e h = subst (λ z. Is z x) (sym h) refl
@@ -143,7 +143,7 @@ params-bound bounds k (r ∷ params) o x s (inl here) slot e =
     every-one (λ s. s.wanted ≡ Value x → list_any (λ b. is_value x b.wanted) bounds ≡ true) (slots_of bounds k) s (slots-bound bounds k x) (subst (λ (q : Operand). Has s q.slots) (sym here) slot) e
 params-bound bounds k (r ∷ params) o x s (inr more) slot e = params-bound bounds (suc k) params o x s more slot e
 
-pack-wants : (ds : List Description) (matches : List Match) (ssa : Ssa) (p : Packed) (o : Operand) (x : ℕ) → TakeEarlier (arguments ssa) ssa.units → Valued (unit_at ssa x) → Has o (operands_of ds matches ssa p) → In x (wanted_values o) → pack_depends ssa matches p x ≡ true
+pack-wants : (ds : List Description) (matches : List Match) (ssa : Ssa) (p : Pack) (o : Operand) (x : ℕ) → TakeEarlier (arguments ssa) ssa.units → Valued (unit_at ssa x) → Has o (operands_of ds matches ssa p) → In x (wanted_values o) → pack_depends ssa matches p x ≡ true
 pack-wants ds matches ssa (Loads us) o x early valued has h = absurd has
 pack-wants ds matches ssa (Stores us) o x early valued (inr none) h = absurd none
 pack-wants ds matches ssa (Stores us) o x early valued (inl here) h =

@@ -21,10 +21,10 @@ use Rattle.vg_shapes.specs.declared.wanted.Wanted.{Wanted}
 use Rattle.vg_shapes.specs.declared.wanted.Wanted.TheVariants.{Value, Constant, Nothing}
 use Rattle.vg_shapes.specs.Description.{Description}
 use Rattle.vg_shapes.specs.Operands.{AreSlots, IsSlot, MayBeWanted}
-use Rattle.vg_packing.specs.declared.recipe.Recipe.{Recipe}
-use Rattle.vg_packing.specs.declared.recipe.Recipe.TheVariants as recipe
-use Rattle.vg_packing.specs.Held.{register_of}
-use Rattle.vg_packing.specs.Wants.{wants_value}
+use Rattle.vg_kernel_plans.specs.declared.recipe.Recipe.{Recipe}
+use Rattle.vg_kernel_plans.specs.declared.recipe.Recipe.TheVariants as recipe
+use Rattle.vg_kernel_plans.specs.Held.{register_of}
+use Rattle.vg_kernel_plans.specs.Wants.{wants_value}
 use Rattle.vg_emission.specs.Draft.{Draft, found, with_built, with_vectors}
 use Rattle.vg_emission.specs.Emission.{Job, build, build_all, call_of, constant_bytes, constants_of, description_at, inserts, no_description, number_for, operand_at, pack_at, place, place_once, recipe_at, registers_of, value_slots, width_for}
 use Rattle.vg_emission.specs.Fit.{AreFit, HasHeader, IsCalled, RecipeFits}

@@ -23,7 +23,7 @@ use Rattle.vg_shapes.specs.declared.wanted.Wanted.{Wanted}
 use Rattle.vg_shapes.specs.declared.wanted.Wanted.TheVariants.{Value, Constant, Nothing}
 use Rattle.vg_shapes.specs.Sound.{kind_bits, value_bits}
 use Rattle.vg_shapes.specs.Units.{arguments, integers_of, is_integer}
-use Rattle.vg_packing.specs.Held.{register_of}
+use Rattle.vg_kernel_plans.specs.Held.{register_of}
 use Rattle.vg_emission.specs.Draft.{Draft, Made, found, with_built, with_held, with_name, with_vectors}
 use Rattle.vg_emission.specs.Emission.{Job, extracts, number_for, operand_at, pack_at, width_for}
 use Rattle.vg_emission.specs.Fit.{LaneFits}

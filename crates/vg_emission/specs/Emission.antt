@@ -14,23 +14,23 @@ use Rattle.vg_shapes.specs.declared.operand.Operand.{Operand}
 use Rattle.vg_shapes.specs.declared.operand.Slot.{Slot}
 use Rattle.vg_shapes.specs.declared.order.Node.{Node}
 use Rattle.vg_shapes.specs.declared.order.Node.TheVariants.{PackAt, UnitAt}
-use Rattle.vg_shapes.specs.declared.pack.Pack.{Pack as Packed}
+use Rattle.vg_shapes.specs.declared.pack.Pack.{Pack}
 use Rattle.vg_shapes.specs.declared.pack.Pack.TheVariants.{Stores, Loads, Call}
 use Rattle.vg_shapes.specs.declared.ssa.Ssa.{Ssa}
-use Rattle.vg_shapes.specs.declared.unit.Operator.{Operator}
-use Rattle.vg_shapes.specs.declared.unit.Operator.TheVariants.{Two, Shift, Resize, Compare, Select}
-use Rattle.vg_shapes.specs.declared.unit.Unit.{Unit as Work}
-use Rattle.vg_shapes.specs.declared.unit.Unit.TheVariants.{Load, Store, Operation}
+use Rattle.vg_shapes.specs.declared.ssa_unit.Operator.{Operator}
+use Rattle.vg_shapes.specs.declared.ssa_unit.Operator.TheVariants.{Two, Shift, Resize, Compare, Select}
+use Rattle.vg_shapes.specs.declared.ssa_unit.SsaUnit.{SsaUnit}
+use Rattle.vg_shapes.specs.declared.ssa_unit.SsaUnit.TheVariants.{Load, Store, Operation}
 use Rattle.vg_shapes.specs.declared.wanted.Wanted.{Wanted}
 use Rattle.vg_shapes.specs.declared.wanted.Wanted.TheVariants.{Value, Constant, Nothing}
 use Rattle.vg_shapes.specs.Description.{Description}
 use Rattle.vg_shapes.specs.Operands.{lanes_of}
 use Rattle.vg_shapes.specs.Units.{arguments, unit_at}
-use Rattle.vg_packing.specs.declared.recipe.Recipe.{Recipe}
-use Rattle.vg_packing.specs.declared.recipe.Recipe.TheVariants as recipe
-use Rattle.vg_packing.specs.Held.{lane_width_of}
-use Rattle.vg_packing.specs.Taken.{first_width}
-use Rattle.vg_packing.specs.Wants.{wants_value}
+use Rattle.vg_kernel_plans.specs.declared.recipe.Recipe.{Recipe}
+use Rattle.vg_kernel_plans.specs.declared.recipe.Recipe.TheVariants as recipe
+use Rattle.vg_kernel_plans.specs.Held.{lane_width_of}
+use Rattle.vg_kernel_plans.specs.Taken.{first_width}
+use Rattle.vg_kernel_plans.specs.Wants.{wants_value}
 use Rattle.vg_emission.specs.Draft.{Draft, Made, found, with_name, with_held, with_vectors, with_built}
 
 -- What lines are emitted from: a kernel, the descriptions of instances, packs, for each pack the
@@ -39,7 +39,7 @@ use Rattle.vg_emission.specs.Draft.{Draft, Made, found, with_name, with_held, wi
 pub record Job : Type 0 where
   pub ssa : Ssa
   pub descriptions : List Description
-  pub packs : List Packed
+  pub packs : List Pack
   pub takes : List (List ℕ)
   pub operands : List Operand
   pub recipes : List Recipe
@@ -61,7 +61,7 @@ no_description = record {
 abbrev pub description_at : Job → ℕ → Description
 description_at j e = slice_index_or j.descriptions e no_description
 
-abbrev pub pack_at : Job → ℕ → Packed
+abbrev pub pack_at : Job → ℕ → Pack
 pack_at j k = slice_index_or j.packs k (Stores [])
 
 abbrev pub takes_at : Job → ℕ → List ℕ
@@ -96,7 +96,7 @@ number_for j d (Constant w n) = Literal (width_for w) n
 number_for j d Nothing = Literal W8 0
 
 -- the address of a load or a store
-abbrev pub address_of : Option Work → Address
+abbrev pub address_of : Option SsaUnit → Address
 address_of None = record { pointer = 0; offset = pos 0 }
 address_of (Some (Load a w)) = a
 address_of (Some (Store a w x)) = a
@@ -225,7 +225,7 @@ operation_line (Compare op) w k a b c = line.Compare op w a b
 operation_line Select w k a b c = line.Select w a b c
 
 -- a load, a store, or an operation that is needed
-abbrev pub unit_lines : Job → Draft → ℕ → Option Work → Made
+abbrev pub unit_lines : Job → Draft → ℕ → Option SsaUnit → Made
 unit_lines j d v None = record { lines = []; draft = d }
 unit_lines j d v (Some (Load a w)) = record { lines = line.Load w a ∷ []; draft = with_name d v }
 unit_lines j d v (Some (Store a w x)) =
@@ -244,20 +244,20 @@ unit_lines j d v (Some (Operation op w k xs)) =
 -- ---- packs
 
 -- the line of a pack on the registers of its operands
-abbrev pub pack_line : Job → Packed → List ℕ → Line
+abbrev pub pack_line : Job → Pack → List ℕ → Line
 pack_line j (Stores us) registers =
     line.VectorStore (joint_size j.ssa us) (first_address j.ssa us) (slice_index registers 0)
 pack_line j (Loads us) registers = line.VectorLoad (joint_size j.ssa us) (first_address j.ssa us)
 pack_line j (Call e lanes) registers = call_of (description_at j e) registers
 
 -- what the line gives: a store gives nothing
-abbrev pub with_pack : Draft → ℕ → Packed → Draft
+abbrev pub with_pack : Draft → ℕ → Pack → Draft
 with_pack d k (Stores us) = d
 with_pack d k (Loads us) = with_held d k
 with_pack d k (Call e lanes) = with_held d k
 
 -- the operands, the line, and after it what is taken out of its register
-abbrev pub pack_lines : Job → Draft → ℕ → Packed → Made
+abbrev pub pack_lines : Job → Draft → ℕ → Pack → Made
 pack_lines j d k p =
     let operands = build_all j d (takes_at j k) in
     let behind = with_pack operands.draft k p in

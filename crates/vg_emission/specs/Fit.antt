@@ -10,16 +10,16 @@ use Rattle.vg_program.specs.Vectors.{constant_bits}
 use Rattle.vg_shapes.specs.declared.match_table.Match.{Match}
 use Rattle.vg_shapes.specs.declared.operand.Operand.{Operand}
 use Rattle.vg_shapes.specs.declared.order.Node.{Node}
-use Rattle.vg_shapes.specs.declared.pack.Pack.{Pack as Packed}
+use Rattle.vg_shapes.specs.declared.pack.Pack.{Pack}
 use Rattle.vg_shapes.specs.declared.pack.Pack.TheVariants.{Call}
 use Rattle.vg_shapes.specs.declared.ssa.Ssa.{Ssa}
 use Rattle.vg_shapes.specs.Description.{Description}
 use Rattle.vg_shapes.specs.Nodes.{IsOrder}
 use Rattle.vg_shapes.specs.Sound.{value_bits}
 use Rattle.vg_text.specs.Byte.{is_name_text}
-use Rattle.vg_packing.specs.declared.recipe.Recipe.{Recipe}
-use Rattle.vg_packing.specs.declared.recipe.Recipe.TheVariants as recipe
-use Rattle.vg_packing.specs.Held.{lane_width_of, register_of}
+use Rattle.vg_kernel_plans.specs.declared.recipe.Recipe.{Recipe}
+use Rattle.vg_kernel_plans.specs.declared.recipe.Recipe.TheVariants as recipe
+use Rattle.vg_kernel_plans.specs.Held.{lane_width_of, register_of}
 use Rattle.vg_emission.specs.Emission.{Job, description_at, operand_at, pack_at, recipe_at}
 use Rattle.vg_emission.specs.Planned.{IsPlanned}
 use Rattle.vg_emission.specs.Program.{job_of, program_of}
@@ -68,7 +68,7 @@ pub record AreFit (j : Job) (headers : List Header) : Type 0 where
 abbrev pub EmittedKeepsRules : Type 0
 EmittedKeepsRules =
     (headers : List Header) (ds : List Description) (matches : List Match) (ssa : Ssa)
-    (packs : List Packed) (recipes : List Recipe) (order : List Node) →
+    (packs : List Pack) (recipes : List Recipe) (order : List Node) →
     IsPlanned (job_of ds matches ssa packs recipes) → IsOrder ssa matches packs order →
     AreFit (job_of ds matches ssa packs recipes) headers →
     cost_of (program_of ds matches ssa packs recipes order) < 2 ^ 32 →
@@ -87,7 +87,7 @@ CallsDescribed ds ls = AllByRecursion (IsDescribed ds) ls
 abbrev pub EmittedCallsDescribed : Type 0
 EmittedCallsDescribed =
     (headers : List Header) (ds : List Description) (matches : List Match) (ssa : Ssa)
-    (packs : List Packed) (recipes : List Recipe) (order : List Node) →
+    (packs : List Pack) (recipes : List Recipe) (order : List Node) →
     IsPlanned (job_of ds matches ssa packs recipes) → IsOrder ssa matches packs order →
     AreFit (job_of ds matches ssa packs recipes) headers →
     CallsDescribed ds (program_of ds matches ssa packs recipes order).lines

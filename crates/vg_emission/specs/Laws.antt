@@ -6,7 +6,7 @@ use Rattle.vg_program.specs.declared.program.Program.{Program}
 use Rattle.vg_program.specs.Meaning.{Instructions, meaning}
 use Rattle.vg_shapes.specs.declared.match_table.Match.{Match}
 use Rattle.vg_shapes.specs.declared.order.Node.{Node}
-use Rattle.vg_shapes.specs.declared.pack.Pack.{Pack as Packed}
+use Rattle.vg_shapes.specs.declared.pack.Pack.{Pack}
 use Rattle.vg_shapes.specs.declared.ssa.Ssa.{Ssa}
 use Rattle.vg_shapes.specs.Description.{Description}
 use Rattle.vg_shapes.specs.Layout.{Respects}
@@ -14,7 +14,7 @@ use Rattle.vg_shapes.specs.Nodes.{IsOrder}
 use Rattle.vg_shapes.specs.RunUnits.{Reached, run_units, start_of}
 use Rattle.vg_shapes.specs.Sound.{AreArguments}
 use Rattle.vg_shapes.specs.Units.{integers}
-use Rattle.vg_packing.specs.declared.recipe.Recipe.{Recipe}
+use Rattle.vg_kernel_plans.specs.declared.recipe.Recipe.{Recipe}
 use Rattle.vg_emission.specs.Emission.{Job}
 use Rattle.vg_emission.specs.Planned.{IsPlanned}
 use Rattle.vg_emission.specs.Program.{job_of, program_of}
@@ -47,7 +47,7 @@ MeansUnits called p ssa =
 abbrev pub EmittedMeansUnits : Type 0
 EmittedMeansUnits =
     (called : Instructions) (ds : List Description) (matches : List Match) (ssa : Ssa)
-    (packs : List Packed) (recipes : List Recipe) (order : List Node) →
+    (packs : List Pack) (recipes : List Recipe) (order : List Node) →
     IsPlanned (job_of ds matches ssa packs recipes) → IsOrder ssa matches packs order →
     AlwaysKeep (job_of ds matches ssa packs recipes) called →
     MeansUnits called (program_of ds matches ssa packs recipes order) ssa

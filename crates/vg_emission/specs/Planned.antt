@@ -2,7 +2,7 @@
 use Rattle.std.specs.Prelude.{◌<◌, ℕ, List, [], ◌∷◌, length, filter_map, nat_eq, IsTrue}
 use Rattle.std.specs.List.{AllByRecursion, list_any}
 use Rattle.vg_shapes.specs.declared.operand.Operand.{Operand}
-use Rattle.vg_shapes.specs.declared.pack.Pack.{Pack as Packed}
+use Rattle.vg_shapes.specs.declared.pack.Pack.{Pack}
 use Rattle.vg_shapes.specs.declared.pack.Pack.TheVariants.{Stores, Loads, Call}
 use Rattle.vg_shapes.specs.declared.ssa.Ssa.{Ssa}
 use Rattle.vg_shapes.specs.Description.{Description}
@@ -11,10 +11,10 @@ use Rattle.vg_shapes.specs.Operands.{IsOperand, lanes_of}
 use Rattle.vg_shapes.specs.Order.{Stands}
 use Rattle.vg_shapes.specs.Pack.{IsLoadPack, IsStoreGroup}
 use Rattle.vg_shapes.specs.Sound.{IsSound}
-use Rattle.vg_packing.specs.declared.recipe.Recipe.{Recipe}
-use Rattle.vg_packing.specs.declared.recipe.Recipe.TheVariants as recipe
-use Rattle.vg_packing.specs.Held.{lane_width_of}
-use Rattle.vg_packing.specs.Wants.{wanted_values}
+use Rattle.vg_kernel_plans.specs.declared.recipe.Recipe.{Recipe}
+use Rattle.vg_kernel_plans.specs.declared.recipe.Recipe.TheVariants as recipe
+use Rattle.vg_kernel_plans.specs.Held.{lane_width_of}
+use Rattle.vg_kernel_plans.specs.Wants.{wanted_values}
 use Rattle.vg_emission.specs.Emission.{Job, operand_at, pack_at, recipe_at}
 
 -- the width of a lane
@@ -22,13 +22,13 @@ abbrev pub IsLaneWidth : ℕ → Type 0
 IsLaneWidth n = IsTrue (list_any (nat_eq n) (8 ∷ 16 ∷ 32 ∷ 64 ∷ []))
 
 -- a store group, consecutive loads, or a call of a description
-abbrev pub IsPack : List Description → Ssa → Packed → Type 0
+abbrev pub IsPack : List Description → Ssa → Pack → Type 0
 IsPack ds ssa (Stores us) = IsStoreGroup ssa us
 IsPack ds ssa (Loads us) = IsLoadPack ssa us
 IsPack ds ssa (Call e lanes) = (e < length ds) × IsLaneWidth (lane_width_of ds ssa (Call e lanes))
 
 -- the values that a pack gives, lane 0 first
-abbrev pub values_of : Packed → List ℕ
+abbrev pub values_of : Pack → List ℕ
 values_of p = filter_map (λ v. v) (lanes_of p)
 
 -- a pack gives a value that an operand wants

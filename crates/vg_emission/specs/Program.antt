@@ -13,7 +13,7 @@ use Rattle.vg_shapes.specs.declared.match_table.Match.{Match}
 use Rattle.vg_shapes.specs.declared.operand.Operand.{Operand}
 use Rattle.vg_shapes.specs.declared.order.Node.{Node}
 use Rattle.vg_shapes.specs.declared.order.Node.TheVariants.{UnitAt}
-use Rattle.vg_shapes.specs.declared.pack.Pack.{Pack as Packed}
+use Rattle.vg_shapes.specs.declared.pack.Pack.{Pack}
 use Rattle.vg_shapes.specs.declared.ssa.Ssa.{Ssa}
 use Rattle.vg_shapes.specs.declared.ssa.SsaParam.{SsaParam}
 use Rattle.vg_shapes.specs.declared.ssa.SsaParamKind.{SsaParamKind}
@@ -24,19 +24,19 @@ use Rattle.vg_shapes.specs.Nodes.{is_packed}
 use Rattle.vg_shapes.specs.Order.{numbers_from}
 use Rattle.vg_shapes.specs.Sound.{unit_bits}
 use Rattle.vg_shapes.specs.Units.{arguments, unit_at}
-use Rattle.vg_packing.specs.declared.recipe.Recipe.{Recipe}
-use Rattle.vg_packing.specs.declared.recipe.Recipe.TheVariants as recipe
-use Rattle.vg_packing.specs.Packing.{falling_units, used_by}
-use Rattle.vg_packing.specs.SameAs.{same_operand}
-use Rattle.vg_packing.specs.Taken.{operands_of}
-use Rattle.vg_packing.specs.Wants.{wanted_values}
+use Rattle.vg_kernel_plans.specs.declared.recipe.Recipe.{Recipe}
+use Rattle.vg_kernel_plans.specs.declared.recipe.Recipe.TheVariants as recipe
+use Rattle.vg_kernel_plans.specs.Packing.{falling_units, used_by}
+use Rattle.vg_kernel_plans.specs.SameAs.{same_operand}
+use Rattle.vg_kernel_plans.specs.Taken.{operands_of}
+use Rattle.vg_kernel_plans.specs.Wants.{wanted_values}
 use Rattle.vg_emission.specs.Draft.{Draft, blank}
 use Rattle.vg_emission.specs.Emission.{Job, emitted}
 
 -- ---- operands
 
 -- the operands of packs, each once, in the order in which the packs take them
-abbrev pub operands_in : List Description → List Match → Ssa → List Packed → List Operand
+abbrev pub operands_in : List Description → List Match → Ssa → List Pack → List Operand
 operands_in ds matches ssa packs = distinct same_operand (flat_map (operands_of ds matches ssa) packs)
 
 -- the number of an operand among them
@@ -45,7 +45,7 @@ number_in [] o = 0
 number_in (x ∷ xs) o = if same_operand x o then 0 else suc (number_in xs o)
 
 -- for each pack the numbers of the operands that it takes
-abbrev pub takes_in : List Description → List Match → Ssa → List Packed → List Operand → List (List ℕ)
+abbrev pub takes_in : List Description → List Match → Ssa → List Pack → List Operand → List (List ℕ)
 takes_in ds matches ssa packs operands =
     map (λ p. map (number_in operands) (operands_of ds matches ssa p)) packs
 
@@ -65,13 +65,13 @@ all_inserted (r ∷ rs) [] = []
 all_inserted (r ∷ rs) (o ∷ os) = inserted_by r o ++ all_inserted rs os
 
 -- a unit that is emitted as a scalar: outside all packs, an access or a value that is needed
-abbrev pub is_scalar : Ssa → List Packed → List ℕ → ℕ → Bool
+abbrev pub is_scalar : Ssa → List Pack → List ℕ → ℕ → Bool
 is_scalar ssa packs needed v =
     not (is_packed packs v) && (is_some (access_at ssa v) || is_in v needed)
 
 -- what is needed after units by falling number: what is needed before, and what units use that are
 -- emitted as scalars
-abbrev pub needed_behind : Ssa → List Packed → List ℕ → List ℕ → List ℕ
+abbrev pub needed_behind : Ssa → List Pack → List ℕ → List ℕ → List ℕ
 needed_behind ssa packs needed [] = needed
 needed_behind ssa packs needed (v ∷ vs) =
     needed_behind ssa packs
@@ -84,7 +84,7 @@ has_value ssa v = is_some (unit_at ssa v >>= unit_bits)
 -- ---- the program
 
 -- what the lines of packs are emitted from
-abbrev pub job_of : List Description → List Match → Ssa → List Packed → List Recipe → Job
+abbrev pub job_of : List Description → List Match → Ssa → List Pack → List Recipe → Job
 job_of ds matches ssa packs recipes =
     let operands = operands_in ds matches ssa packs in
     let needed = needed_behind ssa packs (all_inserted recipes operands) (falling_units ssa) in
@@ -99,7 +99,7 @@ job_of ds matches ssa packs recipes =
     }
 
 -- without packs the units stand in the order of their numbers, whatever order is given
-abbrev pub ordered : Ssa → List Packed → List Node → List Node
+abbrev pub ordered : Ssa → List Pack → List Node → List Node
 ordered ssa [] order = map UnitAt (numbers_from (arguments ssa) (length ssa.units))
 ordered ssa (p ∷ packs) order = order
 
@@ -127,5 +127,5 @@ program_from j order = record {
   scalar = length j.ssa.units;
 }
 
-abbrev pub program_of : List Description → List Match → Ssa → List Packed → List Recipe → List Node → Program
+abbrev pub program_of : List Description → List Match → Ssa → List Pack → List Recipe → List Node → Program
 program_of ds matches ssa packs recipes order = program_from (job_of ds matches ssa packs recipes) order

@@ -8,7 +8,7 @@ use Rattle.vg_bits.specs.Range.{range, replaced}
 use Rattle.vg_program.specs.Meaning.{Instructions, lane_number}
 use Rattle.vg_shapes.specs.declared.operand.Operand.{Operand}
 use Rattle.vg_shapes.specs.declared.operand.Slot.{Slot}
-use Rattle.vg_shapes.specs.declared.pack.Pack.{Pack as Packed}
+use Rattle.vg_shapes.specs.declared.pack.Pack.{Pack}
 use Rattle.vg_shapes.specs.declared.pack.Pack.TheVariants.{Call}
 use Rattle.vg_shapes.specs.declared.ssa.Ssa.{Ssa}
 use Rattle.vg_shapes.specs.declared.wanted.Wanted.{Wanted}
@@ -16,9 +16,9 @@ use Rattle.vg_shapes.specs.declared.wanted.Wanted.TheVariants.{Value, Constant, 
 use Rattle.vg_shapes.specs.Description.{Description}
 use Rattle.vg_shapes.specs.Operands.{lanes_of}
 use Rattle.vg_shapes.specs.RunUnits.{number_of}
-use Rattle.vg_packing.specs.declared.recipe.Recipe.{Recipe}
-use Rattle.vg_packing.specs.declared.recipe.Recipe.TheVariants as recipe
-use Rattle.vg_packing.specs.Held.{lane_width_of, register_of}
+use Rattle.vg_kernel_plans.specs.declared.recipe.Recipe.{Recipe}
+use Rattle.vg_kernel_plans.specs.declared.recipe.Recipe.TheVariants as recipe
+use Rattle.vg_kernel_plans.specs.Held.{lane_width_of, register_of}
 use Rattle.vg_emission.specs.Emission.{Job, constant_bytes, description_at, operand_at, pack_at, recipe_at, takes_at, value_slots}
 
 -- the lanes of a register from this one on, each of so many bits, have the numbers of their values
@@ -29,7 +29,7 @@ LanesHave numbers w n (Some v ∷ lanes) register =
     (lane_number w n register ≡ numbers v) × LanesHave numbers w (n + 1) lanes register
 
 -- a register holds a pack: it has as many bits as the pack's, and in its lanes the pack's values
-pub record Holds (ds : List Description) (ssa : Ssa) (numbers : ℕ → ℕ) (p : Packed) (register : List ℕ) : Type 0 where
+pub record Holds (ds : List Description) (ssa : Ssa) (numbers : ℕ → ℕ) (p : Pack) (register : List ℕ) : Type 0 where
   pub long : length register ≡ register_of ds ssa p
   pub bits : IsBits register
   pub lanes : LanesHave numbers (lane_width_of ds ssa p) 0 (lanes_of p) register

@@ -12,13 +12,13 @@ use Rattle.vg_program.specs.Cost.{line_cost}
 use Rattle.vg_shapes.specs.declared.match_table.Match.{Match}
 use Rattle.vg_shapes.specs.declared.order.Node.{Node}
 use Rattle.vg_shapes.specs.declared.ssa.Ssa.{Ssa}
-use Rattle.vg_shapes.specs.declared.unit.Unit.{Unit as Work}
-use Rattle.vg_shapes.specs.declared.unit.Unit.TheVariants.{Load, Store, Operation}
+use Rattle.vg_shapes.specs.declared.ssa_unit.SsaUnit.{SsaUnit}
+use Rattle.vg_shapes.specs.declared.ssa_unit.SsaUnit.TheVariants.{Load, Store, Operation}
 use Rattle.vg_shapes.specs.declared.wanted.Wanted.{Wanted}
 use Rattle.vg_shapes.specs.declared.wanted.Wanted.TheVariants.{Value, Constant, Nothing}
 use Rattle.vg_shapes.specs.Description.{Description}
 use Rattle.vg_shapes.specs.Units.{arguments}
-use Rattle.vg_packing.specs.Packing.{falling_units}
+use Rattle.vg_kernel_plans.specs.Packing.{falling_units}
 use Rattle.vg_emission.specs.Emission.{operation_line, width_for}
 use Rattle.vg_emission.specs.Program.{needed_behind, param_of, program_of}
 
@@ -38,7 +38,7 @@ argument_names k (suc n) = Argument k ∷ argument_names (k + 1) n
 
 -- The lines of units after lines that gave so many scalars. Nothing stands for the value of a store or
 -- of an operation that is not needed; the first register is named in its place.
-abbrev pub scalar_lines : (ℕ → Bool) → ℕ → List Number → List Work → List Line
+abbrev pub scalar_lines : (ℕ → Bool) → ℕ → List Number → List SsaUnit → List Line
 scalar_lines needed k names [] = []
 scalar_lines needed k names (Load a w ∷ us) =
     line.Load w a ∷ scalar_lines needed (k + 1) (names ++ Register k ∷ []) us

@@ -7,15 +7,15 @@ use Rattle.vg_program.specs.declared.vector_size.VectorSize.TheVariants.{B8}
 use Rattle.vg_program.specs.Meaning.{Instructions}
 use Rattle.vg_shapes.specs.declared.order.Node.{Node}
 use Rattle.vg_shapes.specs.declared.order.Node.TheVariants.{PackAt}
-use Rattle.vg_shapes.specs.declared.pack.Pack.{Pack as Packed}
+use Rattle.vg_shapes.specs.declared.pack.Pack.{Pack}
 use Rattle.vg_shapes.specs.declared.pack.Pack.TheVariants.{Stores, Loads}
 use Rattle.vg_shapes.specs.declared.ssa.Ssa.{Ssa}
 use Rattle.vg_shapes.specs.declared.ssa.SsaParamKind.TheVariants.{Pointer}
-use Rattle.vg_shapes.specs.declared.unit.Unit.TheVariants.{Load, Store}
+use Rattle.vg_shapes.specs.declared.ssa_unit.SsaUnit.TheVariants.{Load, Store}
 use Rattle.vg_shapes.specs.declared.wanted.Wanted.TheVariants.{Value}
 use Rattle.vg_shapes.specs.Sound.{load_key}
-use Rattle.vg_packing.specs.declared.recipe.Recipe.{Recipe}
-use Rattle.vg_packing.specs.declared.recipe.Recipe.TheVariants as recipe
+use Rattle.vg_kernel_plans.specs.declared.recipe.Recipe.{Recipe}
+use Rattle.vg_kernel_plans.specs.declared.recipe.Recipe.TheVariants as recipe
 use Rattle.vg_terms.specs.declared.term.Term.TheVariants.{Leaf, Const}
 use Rattle.vg_emission.specs.Laws.{MeansUnits}
 use Rattle.vg_emission.specs.Program.{job_of, lines_of, program_of}
@@ -46,7 +46,7 @@ two_words = record {
   cuts = [];
 }
 
-abbrev pub two_packs : List Packed
+abbrev pub two_packs : List Pack
 two_packs = Loads (0 ∷ 1 ∷ []) ∷ Stores (2 ∷ 3 ∷ []) ∷ []
 
 -- the operand of the stores stands in the register of the loads

@@ -8,8 +8,8 @@ use Rattle.vg_shapes.specs.declared.operand.Operand.{Operand}
 use Rattle.vg_shapes.specs.declared.operand.Slot.{Slot}
 use Rattle.vg_shapes.specs.declared.wanted.Wanted.{Wanted}
 use Rattle.vg_shapes.specs.declared.wanted.Wanted.TheVariants.{Value, Constant, Nothing}
-use Rattle.vg_packing.specs.declared.recipe.Recipe.TheVariants as recipe
-use Rattle.vg_packing.specs.Wants.{slot, wants_value}
+use Rattle.vg_kernel_plans.specs.declared.recipe.Recipe.TheVariants as recipe
+use Rattle.vg_kernel_plans.specs.Wants.{slot, wants_value}
 use Rattle.vg_emission.specs.Draft.{Draft, with_built, with_vectors}
 use Rattle.vg_emission.specs.Emission.{constant_bytes, inserts, Job, number_for, operand_at, place, Placed, value_slots, width_for}
 use Rattle.vg_emit.specs.Placing.{put_in, put_inserts}

@@ -6,17 +6,17 @@ use Rattle.std.proofs.lemmas.Option.{slice_get_within}
 use Rattle.vg_plans.specs.World.{is_in}
 use Rattle.vg_shapes.specs.declared.match_table.Match.{Match}
 use Rattle.vg_shapes.specs.declared.operand.Operand.{Operand}
-use Rattle.vg_shapes.specs.declared.pack.Pack.{Pack as Packed}
+use Rattle.vg_shapes.specs.declared.pack.Pack.{Pack}
 use Rattle.vg_shapes.specs.declared.ssa.Ssa.{Ssa}
-use Rattle.vg_shapes.specs.declared.unit.Unit.{Unit as Work}
+use Rattle.vg_shapes.specs.declared.ssa_unit.SsaUnit.{SsaUnit}
 use Rattle.vg_shapes.specs.Description.{Description}
 use Rattle.vg_shapes.specs.Units.{arguments, unit_at}
-use Rattle.vg_packing.specs.declared.recipe.Recipe.{Recipe}
-use Rattle.vg_packing.specs.Packing.{falling_units}
+use Rattle.vg_kernel_plans.specs.declared.recipe.Recipe.{Recipe}
+use Rattle.vg_kernel_plans.specs.Packing.{falling_units}
 use Rattle.vg_emission.specs.Program.{all_inserted, has_value, job_of, needed_behind, operands_in, takes_in}
 use Rattle.vg_emit.specs.Marks.{is_marked, Mark}
 
-unit-inside : (ssa : Ssa) (v : ℕ) (u : Work) → unit_at ssa v ≡ Some u → v < arguments ssa + length ssa.units
+unit-inside : (ssa : Ssa) (v : ℕ) (u : SsaUnit) → unit_at ssa v ≡ Some u → v < arguments ssa + length ssa.units
 unit-inside ssa v u e = elim (cases_lt v (arguments ssa)) [
   | inl a ↦ omega arith
   | inr a ↦
@@ -28,11 +28,11 @@ needed-same : (ssa : Ssa) (marks : List Bool) (needed : List ℕ) → Mark (argu
     → (v : ℕ) → (has_value ssa v && is_marked marks v) ≡ (has_value ssa v && is_in v needed)
 needed-same ssa marks needed m v = by (unit_at ssa v) refl
   where
-    by : (u : Option Work) → unit_at ssa v ≡ u → (has_value ssa v && is_marked marks v) ≡ (has_value ssa v && is_in v needed)
+    by : (u : Option SsaUnit) → unit_at ssa v ≡ u → (has_value ssa v && is_marked marks v) ≡ (has_value ssa v && is_in v needed)
     by None e = rw e refl
     by (Some u) e = ap (λ b. has_value ssa v && b) (m.at v (unit-inside ssa v u e))
 
-pub job-is : (ds : List Description) (matches : List Match) (ssa : Ssa) (packs : List Packed) (recipes : List Recipe) (operands : List Operand) (takes : List (List ℕ)) (marks : List Bool)
+pub job-is : (ds : List Description) (matches : List Match) (ssa : Ssa) (packs : List Pack) (recipes : List Recipe) (operands : List Operand) (takes : List (List ℕ)) (marks : List Bool)
     → operands ≡ operands_in ds matches ssa packs
     → takes ≡ takes_in ds matches ssa packs operands
     → Mark (arguments ssa + length ssa.units) marks (needed_behind ssa packs (all_inserted recipes operands) (falling_units ssa))

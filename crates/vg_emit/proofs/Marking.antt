@@ -6,16 +6,16 @@ use Rattle.std.proofs.lemmas.Bool.{cases_Bool, cases_lt, cond-true, cond-false, 
 use Rattle.std.proofs.lemmas.List.{drop_all, length-set, get_or-set_same, get_or-set_other, get_or-replicate, length-replicate}
 use Rattle.vg_plans.specs.World.{is_in}
 use Rattle.vg_shapes.specs.declared.operand.Operand.{Operand}
-use Rattle.vg_shapes.specs.declared.pack.Pack.{Pack as Packed}
+use Rattle.vg_shapes.specs.declared.pack.Pack.{Pack}
 use Rattle.vg_shapes.specs.declared.ssa.Ssa.{Ssa}
-use Rattle.vg_shapes.specs.declared.unit.Unit.{Unit as Work}
+use Rattle.vg_shapes.specs.declared.ssa_unit.SsaUnit.{SsaUnit}
 use Rattle.vg_shapes.specs.Depends.{numbers_below}
 use Rattle.vg_shapes.specs.Layout.{access_at}
 use Rattle.vg_shapes.specs.Nodes.{packed}
 use Rattle.vg_shapes.specs.Pack.{units_of}
 use Rattle.vg_shapes.specs.Units.{arguments, is_unit, unit_at}
-use Rattle.vg_packing.specs.declared.recipe.Recipe.{Recipe}
-use Rattle.vg_packing.specs.Packing.{falling_units, used_by}
+use Rattle.vg_kernel_plans.specs.declared.recipe.Recipe.{Recipe}
+use Rattle.vg_kernel_plans.specs.Packing.{falling_units, used_by}
 use Rattle.vg_emission.specs.Program.{all_inserted, inserted_by, is_scalar, needed_behind}
 use Rattle.vg_emit.specs.Marks.{is_marked, is_marked_scalar, Mark, marked, with_uses, with_uses_below}
 use Rattle.vg_emit.proofs.Drops.{flat_map-next, next-is}
@@ -25,7 +25,7 @@ marked-append marks [] ys = refl
 marked-append marks (x ∷ xs) ys = marked-append (slice_set marks x true) xs ys
 
 -- the marks of one pack more
-pub marked-packs : (marks new : List Bool) (packs : List Packed) (k : ℕ) (p : Packed) → k < length packs → p ≡ get_or packs k p → new ≡ marked marks (units_of p)
+pub marked-packs : (marks new : List Bool) (packs : List Pack) (k : ℕ) (p : Pack) → k < length packs → p ≡ get_or packs k p → new ≡ marked marks (units_of p)
     → marked new (flat_map units_of (drop (k + 1) packs)) ≡ marked marks (flat_map units_of (drop k packs))
 marked-packs marks new packs k p inside is e =
     ap (λ m. marked m (flat_map units_of (drop (k + 1) packs))) e
@@ -92,7 +92,7 @@ all-marks n more = record {
     or-none false = refl
 
 -- marks stand for numbers where these do
-uses-same : (ssa : Ssa) (packs : List Packed) (n : ℕ) (in_packs marks : List Bool) (needed : List ℕ) (v : ℕ) → v < n → Mark n in_packs (packed packs) → Mark n marks needed
+uses-same : (ssa : Ssa) (packs : List Pack) (n : ℕ) (in_packs marks : List Bool) (needed : List ℕ) (v : ℕ) → v < n → Mark n in_packs (packed packs) → Mark n marks needed
     → Mark n (with_uses ssa in_packs marks v) (if is_scalar ssa packs needed v then used_by (unit_at ssa v) ++ needed else needed)
 uses-same ssa packs n in_packs marks needed v inside p m =
     let same : is_marked_scalar ssa in_packs marks v ≡ is_scalar ssa packs needed v =
@@ -112,14 +112,14 @@ uses-same ssa packs n in_packs marks needed v inside p m =
 no-uses : (ssa : Ssa) (in_packs marks : List Bool) (v : ℕ) → is_unit ssa v ≡ false → with_uses ssa in_packs marks v ≡ marks
 no-uses ssa in_packs marks v h = by (unit_at ssa v) refl
   where
-    by : (u : Option Work) → unit_at ssa v ≡ u → with_uses ssa in_packs marks v ≡ marks
+    by : (u : Option SsaUnit) → unit_at ssa v ≡ u → with_uses ssa in_packs marks v ≡ marks
     by None e = elim (cases_Bool (is_marked_scalar ssa in_packs marks v)) [
       | inl t ↦ cond-true _ _ _ t ∙ ap (λ w. marked marks (used_by w)) e
       | inr f ↦ cond-false _ _ _ f
     ]
     by (Some u) e = absurd (false≢true (sym h ∙ ap is_some e))
 
-below-same : (ssa : Ssa) (packs : List Packed) (n : ℕ) (in_packs marks : List Bool) (needed : List ℕ) (k : ℕ) → k ≤ n → Mark n in_packs (packed packs) → Mark n marks needed
+below-same : (ssa : Ssa) (packs : List Pack) (n : ℕ) (in_packs marks : List Bool) (needed : List ℕ) (k : ℕ) → k ≤ n → Mark n in_packs (packed packs) → Mark n marks needed
     → Mark n (with_uses_below ssa in_packs marks k) (needed_behind ssa packs needed (filter (is_unit ssa) (numbers_below k)))
 below-same ssa packs n in_packs marks needed zero h p m = m
 below-same ssa packs n in_packs marks needed (suc k) h p m = elim (cases_Bool (is_unit ssa k)) [
@@ -135,7 +135,7 @@ below-same ssa packs n in_packs marks needed (suc k) h p m = elim (cases_Bool (i
 ]
 
 -- what is marked at the end is what is needed
-pub needed-marks : (ssa : Ssa) (packs : List Packed) (n : ℕ) (wanted : List ℕ) → n ≡ arguments ssa + length ssa.units
+pub needed-marks : (ssa : Ssa) (packs : List Pack) (n : ℕ) (wanted : List ℕ) → n ≡ arguments ssa + length ssa.units
     → Mark n
     (with_uses_below ssa (marked (replicate n false) (packed packs)) (marked (replicate n false) wanted) n)
     (needed_behind ssa packs wanted (falling_units ssa))

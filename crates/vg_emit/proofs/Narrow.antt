@@ -7,11 +7,11 @@ use Rattle.vg_base.specs.declared.width.Width.{Width}
 use Rattle.vg_base.specs.declared.width.Width.TheVariants.{W8, W16, W32, W64}
 use Rattle.vg_base.specs.Width.{bits_of}
 use Rattle.vg_shapes.specs.declared.ssa.Ssa.{Ssa}
-use Rattle.vg_shapes.specs.declared.unit.Operands.{Operands}
-use Rattle.vg_shapes.specs.declared.unit.Operator.{Operator}
-use Rattle.vg_shapes.specs.declared.unit.Operator.TheVariants.{Two, Shift, Resize, Compare, Select}
-use Rattle.vg_shapes.specs.declared.unit.Unit.{Unit as Work}
-use Rattle.vg_shapes.specs.declared.unit.Unit.TheVariants.{Load, Store, Operation}
+use Rattle.vg_shapes.specs.declared.ssa_unit.Operands.{Operands}
+use Rattle.vg_shapes.specs.declared.ssa_unit.Operator.{Operator}
+use Rattle.vg_shapes.specs.declared.ssa_unit.Operator.TheVariants.{Two, Shift, Resize, Compare, Select}
+use Rattle.vg_shapes.specs.declared.ssa_unit.SsaUnit.{SsaUnit}
+use Rattle.vg_shapes.specs.declared.ssa_unit.SsaUnit.TheVariants.{Load, Store, Operation}
 use Rattle.vg_shapes.specs.declared.wanted.Wanted.{Wanted}
 use Rattle.vg_shapes.specs.declared.wanted.Wanted.TheVariants.{Value, Constant, Nothing}
 use Rattle.vg_shapes.specs.Sound.{IsBit, IsNumber, IsOperation, IsSound, IsUnit}
@@ -44,12 +44,12 @@ operation-narrow ssa (Resize op v) w k xs h = (number-narrow ssa v xs.first h.2,
 operation-narrow ssa (Compare op) w k xs h = (number-narrow ssa w xs.first h.1, number-narrow ssa w xs.second h.2, none-narrow xs.third h.3)
 operation-narrow ssa Select w k xs h = (bit-narrow ssa xs.first h.1, number-narrow ssa w xs.second h.2, number-narrow ssa w xs.third h.3)
 
-unit-narrow : (ssa : Ssa) (u : Work) → IsUnit ssa u → TakesNarrow (Some u)
+unit-narrow : (ssa : Ssa) (u : SsaUnit) → IsUnit ssa u → TakesNarrow (Some u)
 unit-narrow ssa (Load a w) h = tt
 unit-narrow ssa (Store a w x) h = number-narrow ssa w x h.1
 unit-narrow ssa (Operation op w k xs) h = operation-narrow ssa op w k xs h
 
-listed : (ssa : Ssa) (us : List Work) (k : ℕ) → AllByRecursion (IsUnit ssa) us → TakesNarrow (slice_get us k)
+listed : (ssa : Ssa) (us : List SsaUnit) (k : ℕ) → AllByRecursion (IsUnit ssa) us → TakesNarrow (slice_get us k)
 listed ssa [] k all = tt
 listed ssa (u ∷ us) zero all = unit-narrow ssa u all.0
 listed ssa (u ∷ us) (suc k) all = listed ssa us k all.1

@@ -5,7 +5,7 @@ use Rattle.std.specs.List.{position, position_or_len}
 use Rattle.std.proofs.lemmas.Bool.{cases_Bool, cases_lt, cond-true, cond-false, lt-ltb, le-ltb}
 use Rattle.std.proofs.lemmas.List.Recursion.{is_position_or_len}
 use Rattle.vg_shapes.specs.declared.operand.Operand.{Operand}
-use Rattle.vg_packing.specs.SameAs.{same_operand}
+use Rattle.vg_kernel_plans.specs.SameAs.{same_operand}
 use Rattle.vg_emission.specs.Program.{number_in}
 
 number-within : (xs : List Operand) (o : Operand) → number_in xs o ≤ length xs

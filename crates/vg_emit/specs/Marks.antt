@@ -5,7 +5,7 @@ use Rattle.vg_plans.specs.World.{is_in}
 use Rattle.vg_shapes.specs.declared.ssa.Ssa.{Ssa}
 use Rattle.vg_shapes.specs.Layout.{access_at}
 use Rattle.vg_shapes.specs.Units.{unit_at}
-use Rattle.vg_packing.specs.Packing.{used_by}
+use Rattle.vg_kernel_plans.specs.Packing.{used_by}
 
 -- a number is marked; one past the end is not
 abbrev pub is_marked : List Bool → ℕ → Bool

@@ -1,7 +1,7 @@
 -- What the types of the code stand for.
 use Rattle.std.specs.Prelude.{ℕ, ◌<◌, ◌^◌, ◌&&◌, List, ◌++◌, map, Option, Some, None}
-use Rattle.vg_shapes.specs.declared.unit.Unit.{Unit as Work}
-use Rattle.vg_shapes.specs.declared.unit.Unit.TheVariants.{Load, Store, Operation}
+use Rattle.vg_shapes.specs.declared.ssa_unit.SsaUnit.{SsaUnit}
+use Rattle.vg_shapes.specs.declared.ssa_unit.SsaUnit.TheVariants.{Load, Store, Operation}
 use Rattle.vg_shapes.specs.declared.wanted.Wanted.{Wanted}
 use Rattle.vg_shapes.specs.declared.wanted.Wanted.TheVariants.{Value, Constant, Nothing}
 use Rattle.vg_shapes.specs.Description.{description_of}
@@ -68,7 +68,7 @@ IsNarrow (Constant w n) = n < 2 ^ 64
 IsNarrow Nothing = Unit {0}
 
 -- of the operands of a unit
-abbrev pub TakesNarrow : Option Work → Type 0
+abbrev pub TakesNarrow : Option SsaUnit → Type 0
 TakesNarrow None = Unit {0}
 TakesNarrow (Some (Load a w)) = Unit {0}
 TakesNarrow (Some (Store a w x)) = IsNarrow x

@@ -4,12 +4,12 @@ ghost use Rattle.std.specs.Prelude.{◌≡◌, ◌<◌, ◌^◌, ℕ, List, IfOk
 ghost use Rattle.std.specs.List.{AllByRecursion};
 ghost use Rattle.vg_shapes.specs.Description.{description_of};
 ghost use Rattle.vg_shapes.specs.Sound.{IsSound};
-ghost use Rattle.vg_packing.specs.Taken.{IsShort, MatchesNear};
+ghost use Rattle.vg_kernel_plans.specs.Taken.{IsShort, MatchesNear};
 ghost use Rattle.vg_emission.specs.Program.{job_of as job_for, operands_in};
 ghost use Rattle.vg_emission.specs.Fit.{AreFit, CallsDescribed};
 ghost use Rattle.vg_emission.specs.Laws.{AlwaysKeep, MeansUnits};
 ghost use Rattle.vg_emission.specs.Planned.{IsPlanned};
-ghost use Rattle.vg_packing.specs.Packing.{packing};
+ghost use Rattle.vg_kernel_plans.specs.Packing.{packing};
 ghost use Rattle.vg_plans.specs.World.{plan_cost};
 ghost use Rattle.vg_program.specs.Cost.{cost_of};
 ghost use Rattle.vg_program.specs.Meaning.{Instructions};
@@ -25,8 +25,8 @@ use crate::program::program_from;
 use crate::takes::takes_in;
 use std::alloc::{AllocError, Global};
 use vg_gather::recipes_of;
-use vg_packing::Recipe;
-use vg_packing::plan_operands::plan_operands;
+use vg_kernel_plans::Recipe;
+use vg_kernel_plans::plan_operands::plan_operands;
 use vg_program::Program;
 use vg_shapes::{Description, MatchTable, Operand, Order, Pack, Plan, Ssa};
 

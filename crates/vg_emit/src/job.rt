@@ -6,9 +6,9 @@ ghost use Rattle.vg_emit.specs.Views.{job_of};
 
 use crate::marks::Marks;
 use vg_base::Items;
-use vg_packing::Recipe;
-use vg_packing::units::unit_at;
-use vg_shapes::{Description, Operand, Pack, Ssa, Unit};
+use vg_kernel_plans::Recipe;
+use vg_kernel_plans::units::unit_at;
+use vg_shapes::{Description, Operand, Pack, Ssa, SsaUnit};
 
 /// A kernel, the descriptions of instances, packs, for each pack the numbers of the operands that
 /// it takes, these operands with a recipe for each, and marks on the values that are needed as
@@ -30,9 +30,9 @@ fn has_value(ssa: &Ssa, number: u32) -> bool
 {
     match unit_at(ssa, number) {
         None => false,
-        Some(Unit::Load { .. }) => true,
-        Some(Unit::Store { .. }) => false,
-        Some(Unit::Operation { .. }) => true,
+        Some(SsaUnit::Load { .. }) => true,
+        Some(SsaUnit::Store { .. }) => false,
+        Some(SsaUnit::Operation { .. }) => true,
     }
 }
 

@@ -3,7 +3,7 @@
 ghost use Rattle.std.specs.Prelude.{◌≡◌, ◌∷◌, [], IfOk, false, flat_map, replicate, slice_set, true};
 ghost use Rattle.std.specs.List.{filter_map};
 ghost use Rattle.vg_shapes.specs.Pack.{units_of};
-ghost use Rattle.vg_packing.specs.Wants.{value_of};
+ghost use Rattle.vg_kernel_plans.specs.Wants.{value_of};
 ghost use Rattle.vg_emit.specs.Marks.{is_marked, marked};
 
 use std::alloc::{AllocError, Global};

@@ -4,16 +4,16 @@ ghost use Rattle.std.specs.Prelude.{◌≡◌, ◌+◌, length, is_some, IfOk, O
 ghost use Rattle.vg_shapes.specs.Layout.{access_at};
 ghost use Rattle.vg_shapes.specs.Sound.{IsSound};
 ghost use Rattle.vg_shapes.specs.Units.{arguments};
-ghost use Rattle.vg_packing.specs.Packing.{falling_units, used_by};
+ghost use Rattle.vg_kernel_plans.specs.Packing.{falling_units, used_by};
 ghost use Rattle.vg_emission.specs.Program.{all_inserted, inserted_by, needed_behind};
 ghost use Rattle.vg_emit.specs.Marks.{is_marked_scalar, Mark, marked, with_uses, with_uses_below};
 
 use crate::marks::Marks;
 use std::alloc::{AllocError, Global};
-use vg_packing::Recipe;
-use vg_packing::units::unit_at;
-use vg_packing::wants::wanted_values;
-use vg_shapes::{Operand, Pack, Ssa, Unit};
+use vg_kernel_plans::Recipe;
+use vg_kernel_plans::units::unit_at;
+use vg_kernel_plans::wants::wanted_values;
+use vg_shapes::{Operand, Pack, Ssa, SsaUnit};
 
 /// How many numbers values have: one for each integer parameter and each unit.
 pub(crate) fn count_values(ssa: &Ssa) -> u32
@@ -66,9 +66,9 @@ fn is_access(ssa: &Ssa, number: u32) -> bool
 {
     match unit_at(ssa, number) {
         None => false,
-        Some(Unit::Load { .. }) => true,
-        Some(Unit::Store { .. }) => true,
-        Some(Unit::Operation { .. }) => false,
+        Some(SsaUnit::Load { .. }) => true,
+        Some(SsaUnit::Store { .. }) => true,
+        Some(SsaUnit::Operation { .. }) => false,
     }
 }
 
@@ -80,14 +80,14 @@ fn is_scalar(ssa: &Ssa, packed: &Marks, marks: &Marks, number: u32) -> bool
 }
 
 /// Marks the values that a unit uses.
-fn mark_used(marks: &mut Marks, unit: Option<Unit>)
+fn mark_used(marks: &mut Marks, unit: Option<SsaUnit>)
     ensures { marks.new ≡ marked marks.old (used_by unit) }
 {
     match unit {
         None => {}
-        Some(Unit::Load { .. }) => {}
-        Some(Unit::Store { value, .. }) => marks.mark_wanted(value),
-        Some(Unit::Operation { operands, .. }) => {
+        Some(SsaUnit::Load { .. }) => {}
+        Some(SsaUnit::Store { value, .. }) => marks.mark_wanted(value),
+        Some(SsaUnit::Operation { operands, .. }) => {
             marks.mark_wanted(operands.first);
             marks.mark_wanted(operands.second);
             marks.mark_wanted(operands.third);

@@ -2,7 +2,7 @@
 
 ghost use Rattle.std.specs.Prelude.{◌≡◌, ◌<◌, ◌^◌, ◌∷◌, [], OnOk, slice_index, slice_index_or};
 ghost use Rattle.std.specs.List.{AllByRecursion};
-ghost use Rattle.vg_packing.specs.Taken.{IsShort};
+ghost use Rattle.vg_kernel_plans.specs.Taken.{IsShort};
 ghost use Rattle.vg_emission.specs.Emission.{address_of, first_address, joint_size, pack_at, pack_line, pack_lines, size_for, takes_at};
 ghost use Rattle.vg_emit.specs.Packing.{own_lines};
 ghost use Rattle.vg_emit.specs.Views.{behind, job_of, known, made_of};
@@ -14,11 +14,11 @@ use crate::placing::{build_all, call_of};
 use crate::scalars::width_for;
 use std::alloc::{AllocError, Global};
 use vg_base::Address;
-use vg_packing::held::lane_width_of;
-use vg_packing::lane::some_lanes;
-use vg_packing::units::{first_width, unit_at};
+use vg_kernel_plans::held::lane_width_of;
+use vg_kernel_plans::lane::some_lanes;
+use vg_kernel_plans::units::{first_width, unit_at};
 use vg_program::{Line, VectorSize};
-use vg_shapes::{Pack, Ssa, Unit};
+use vg_shapes::{Pack, Ssa, SsaUnit};
 
 /// The size of so many bytes: 4, 8, 16 or 32, else 64.
 fn size_for(bytes: u128) -> VectorSize
@@ -34,13 +34,13 @@ fn size_for(bytes: u128) -> VectorSize
 }
 
 /// The address of a load or a store.
-fn address_of(unit: Option<Unit>) -> Address
+fn address_of(unit: Option<SsaUnit>) -> Address
     ensures { result ≡ address_of unit }
 {
     match unit {
-        Some(Unit::Load { address, .. }) => address,
-        Some(Unit::Store { address, .. }) => address,
-        Some(Unit::Operation { .. }) => nowhere(),
+        Some(SsaUnit::Load { address, .. }) => address,
+        Some(SsaUnit::Store { address, .. }) => address,
+        Some(SsaUnit::Operation { .. }) => nowhere(),
         None => nowhere(),
     }
 }

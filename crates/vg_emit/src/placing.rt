@@ -2,7 +2,7 @@
 
 ghost use Rattle.std.specs.Prelude.{◌≡◌, ◌∷◌, [], IfOk, map, slice_index_or, unwrap_or};
 ghost use Rattle.vg_shapes.specs.Description.{description_of};
-ghost use Rattle.vg_packing.specs.declared.recipe.Recipe.TheVariants as recipe;
+ghost use Rattle.vg_kernel_plans.specs.declared.recipe.Recipe.TheVariants as recipe;
 ghost use Rattle.vg_emission.specs.Draft.{found, with_built, with_vectors};
 ghost use Rattle.vg_emission.specs.Emission.{build, build_all, call_of, no_description, place, recipe_at, registers_of};
 ghost use Rattle.vg_emit.specs.Placing.{put_in, put_inserts, put_one};
@@ -14,7 +14,7 @@ use crate::scalars::{number_for, width_for};
 use std::alloc::{AllocError, Global};
 use vg_base::{Items, Name};
 use vg_gather::constant_bytes::constant_bytes;
-use vg_packing::Recipe;
+use vg_kernel_plans::Recipe;
 use vg_program::Line;
 use vg_shapes::{Description, Operand, Slot, Wanted};
 

@@ -6,7 +6,7 @@ ghost use Rattle.vg_shapes.specs.declared.order.Node.TheVariants.{UnitAt};
 ghost use Rattle.vg_shapes.specs.Order.{numbers_from};
 ghost use Rattle.vg_shapes.specs.Sound.{IsSound};
 ghost use Rattle.vg_shapes.specs.Units.{arguments};
-ghost use Rattle.vg_packing.specs.Taken.{IsShort};
+ghost use Rattle.vg_kernel_plans.specs.Taken.{IsShort};
 ghost use Rattle.vg_program.specs.Cost.{cost_of};
 ghost use Rattle.vg_emission.specs.Emission.{emitted, node_lines};
 ghost use Rattle.vg_emission.specs.Program.{begin, kind_of, lines_of, ordered, param_of, program_from};
@@ -19,7 +19,7 @@ use crate::packs::put_pack;
 use crate::scalars::put_unit;
 use std::alloc::{AllocError, Global};
 use vg_base::Items;
-use vg_packing::units::unit_at;
+use vg_kernel_plans::units::unit_at;
 use vg_program::{Line, Param, ParamKind, Program, cost};
 use vg_shapes::{Node, Ssa, SsaParam, SsaParamKind};
 

@@ -9,7 +9,7 @@ use crate::job::{Job, is_needed};
 use std::alloc::AllocError;
 use vg_base::Width;
 use vg_program::{Line, Operand};
-use vg_shapes::{Operator, Unit, Wanted};
+use vg_shapes::{Operator, SsaUnit, Wanted};
 
 /// The width of so many bits: 8, 16 or 32, else 64.
 pub(crate) fn width_for(bits: u32) -> Width
@@ -97,7 +97,7 @@ pub(crate) fn put_unit(
     job: &Job,
     draft: &mut Draft,
     number: u32,
-    unit: Option<Unit>,
+    unit: Option<SsaUnit>,
 ) -> Result<(), AllocError>
     requires { TakesNarrow unit }
     ensures { OnOk result (made_of draft.new
@@ -105,11 +105,11 @@ pub(crate) fn put_unit(
 {
     match unit {
         None => Ok(()),
-        Some(Unit::Load { address, width }) => {
+        Some(SsaUnit::Load { address, width }) => {
             put_named(draft, Line::Load { width, address }, number)
         }
         Some(
-            Unit::Store {
+            SsaUnit::Store {
                 address,
                 width,
                 value,
@@ -126,7 +126,7 @@ pub(crate) fn put_unit(
             )
         }
         Some(
-            Unit::Operation {
+            SsaUnit::Operation {
                 op,
                 width,
                 amount,

@@ -2,15 +2,15 @@
 
 ghost use Rattle.std.specs.Prelude.{◌≡◌, IfOk, map};
 ghost use Rattle.std.specs.List.{AllByRecursion, position};
-ghost use Rattle.vg_packing.specs.SameAs.{same_operand};
+ghost use Rattle.vg_kernel_plans.specs.SameAs.{same_operand};
 ghost use Rattle.vg_shapes.specs.Description.{description_of};
-ghost use Rattle.vg_packing.specs.Taken.{IsShort, MatchesNear};
+ghost use Rattle.vg_kernel_plans.specs.Taken.{IsShort, MatchesNear};
 ghost use Rattle.vg_emission.specs.Program.{number_in, takes_in};
 
 use std::alloc::{AllocError, Global};
 use vg_base::Items;
-use vg_packing::same::is_same_operand;
-use vg_packing::taken::operands_of;
+use vg_kernel_plans::same::is_same_operand;
+use vg_kernel_plans::taken::operands_of;
 use vg_shapes::{Description, MatchTable, Operand, Pack, Ssa};
 
 /// Where an operand stands among others, if it does.

@@ -2,7 +2,7 @@
 
 ghost use Rattle.std.specs.Prelude.{◌≡◌, IfOk, true};
 ghost use Rattle.std.specs.List.{AllByRecursion};
-ghost use Rattle.vg_packing.specs.Taken.{AreNear, IsShort, MatchesNear};
+ghost use Rattle.vg_kernel_plans.specs.Taken.{AreNear, IsShort, MatchesNear};
 ghost use Rattle.vg_shapes.specs.Sound.{IsSound};
 
 use std::alloc::{AllocError, Global};

@@ -7,11 +7,11 @@ use Rattle.vg_program.specs.Valid.{KeepsRules}
 use Rattle.vg_program.proofs.TextSizes.{short_fits}
 use Rattle.vg_pseudo.specs.declared.header.Header.{Header}
 use Rattle.vg_shapes.specs.declared.match_table.Match.{Match}
-use Rattle.vg_shapes.specs.declared.pack.Pack.{Pack as Packed}
+use Rattle.vg_shapes.specs.declared.pack.Pack.{Pack}
 use Rattle.vg_shapes.specs.declared.ssa.Ssa.{Ssa}
 use Rattle.vg_shapes.specs.Depends.{dependences}
 use Rattle.vg_shapes.specs.Description.{Description, IsPackable}
-use Rattle.vg_packing.specs.Fed.{IsFedPlanFor, fed}
+use Rattle.vg_kernel_plans.specs.Fed.{IsFedPlanFor, fed}
 use Rattle.vg_emission.specs.Fit.{HasHeader}
 use Rattle.vg_emission.specs.Truth.{IsCallable}
 use Rattle.vg_gather.specs.Recipes.{planned_program}
@@ -31,7 +31,7 @@ packable [] all = tt
 packable (d ∷ ds) all = (all.0.packable, packable ds all.1)
 
 -- it grows from the empty plan, by the list of all dependences
-grows : (ds : List Description) (matches : List Match) (ssa : Ssa) (plan : List Packed) → AreKnown ds matches ssa
+grows : (ds : List Description) (matches : List Match) (ssa : Ssa) (plan : List Pack) → AreKnown ds matches ssa
     → IsFedPlanByNodes ds matches ssa plan → IsFedPlanFor ds matches ssa (dependences ssa) plan
 grows ds matches ssa plan known is = (plans-by-nodes-by fed ds matches ssa plan (packable ds known.described)
     known.matched).1 is

@@ -12,7 +12,7 @@ use Rattle.vg_base.specs.declared.width.Width.TheVariants.{W8, W16, W32, W64}
 use Rattle.vg_terms.specs.Term.{Tree}
 use Rattle.vg_shapes.specs.declared.match_table.Bound.{Bound}
 use Rattle.vg_shapes.specs.declared.match_table.Match.{Match}
-use Rattle.vg_shapes.specs.declared.pack.Pack.{Pack as Packed}
+use Rattle.vg_shapes.specs.declared.pack.Pack.{Pack}
 use Rattle.vg_shapes.specs.declared.pack.Pack.TheVariants.{Stores, Loads, Call}
 use Rattle.vg_shapes.specs.declared.ssa.Ssa.{Ssa}
 use Rattle.vg_shapes.specs.Description.{Description, IsLane}
@@ -21,8 +21,8 @@ use Rattle.vg_shapes.specs.Leaves.{bit_number}
 use Rattle.vg_shapes.specs.Matches.{IsMatch, lane_at}
 use Rattle.vg_shapes.specs.Pack.{is_pack_size}
 use Rattle.vg_match.proofs.Laws.{wide-alone}
-use Rattle.vg_packing.specs.Taken.{AreNear, IsShort, MatchesNear}
-use Rattle.vg_packing.proofs.FedPlans.{may-be-fed}
+use Rattle.vg_kernel_plans.specs.Taken.{AreNear, IsShort, MatchesNear}
+use Rattle.vg_kernel_plans.proofs.FedPlans.{may-be-fed}
 use Rattle.vg_emission.specs.Truth.{IsCallable, IsRegisterWidth}
 use Rattle.vg_plan_laws.specs.Made.{IsMade}
 use Rattle.vg_plan_laws.proofs.Filled.{all-get}
@@ -131,7 +131,7 @@ units-few n w is = grind (arith, size-few (n * size_of w) is, some-size w)
 quotient-few : (n w : ℕ) → n ≤ 512 → n / w ≤ 512
 quotient-few n w few = let most = div-le_self n w in omega (arith, few, most)
 
-made-short : (ds : List Description) (matches : List Match) (ssa : Ssa) (p : Packed) → AllByRecursion IsCallable ds
+made-short : (ds : List Description) (matches : List Match) (ssa : Ssa) (p : Pack) → AllByRecursion IsCallable ds
     → IsMade ds matches ssa p → IsShort p
 made-short ds matches ssa (Stores us) all is = units-few (length us) is.0 is.7
 made-short ds matches ssa (Loads us) all is = units-few (length us) is.0 is.4
@@ -139,7 +139,7 @@ made-short ds matches ssa (Call d lanes) all is =
     let few = register-few is.entry.register (all-get IsCallable ds d is.entry all is.there).register in
     omega (arith, is.long, quotient-few is.entry.register is.entry.lane_width few)
 
-all-short : (ds : List Description) (matches : List Match) (ssa : Ssa) (plan : List Packed)
+all-short : (ds : List Description) (matches : List Match) (ssa : Ssa) (plan : List Pack)
     → AllByRecursion IsCallable ds → AllByRecursion (IsMade ds matches ssa) plan → AllByRecursion IsShort plan
 all-short ds matches ssa [] all are = tt
 all-short ds matches ssa (p ∷ plan) all are = (

@@ -10,17 +10,17 @@ use Rattle.vg_program.specs.Valid.{IsValid, KeepsRules}
 use Rattle.vg_pseudo.specs.declared.header.Header.{Header}
 use Rattle.vg_shapes.specs.declared.match_table.Match.{Match}
 use Rattle.vg_shapes.specs.declared.order.Node.{Node}
-use Rattle.vg_shapes.specs.declared.pack.Pack.{Pack as Packed}
+use Rattle.vg_shapes.specs.declared.pack.Pack.{Pack}
 use Rattle.vg_shapes.specs.declared.ssa.Ssa.{Ssa}
 use Rattle.vg_shapes.specs.Depends.{dependences}
 use Rattle.vg_shapes.specs.Description.{Description}
 use Rattle.vg_shapes.specs.Nodes.{IsOrder}
 use Rattle.vg_shapes.specs.Sound.{IsSound}
-use Rattle.vg_packing.specs.declared.choice.Choice.{Choice}
-use Rattle.vg_packing.specs.Fed.{IsFedPlanFor, IsPlanBy}
-use Rattle.vg_packing.specs.Laws.{MatchUnits}
-use Rattle.vg_packing.specs.Packing.{packing}
-use Rattle.vg_packing.specs.Taken.{IsShort, MatchesNear}
+use Rattle.vg_kernel_plans.specs.declared.choice.Choice.{Choice}
+use Rattle.vg_kernel_plans.specs.Fed.{IsFedPlanFor, IsPlanBy}
+use Rattle.vg_kernel_plans.specs.Laws.{MatchUnits}
+use Rattle.vg_kernel_plans.specs.Packing.{packing}
+use Rattle.vg_kernel_plans.specs.Taken.{IsShort, MatchesNear}
 use Rattle.vg_emission.specs.Fit.{AreFit, CallsDescribed, HasHeader}
 use Rattle.vg_emission.specs.Laws.{AlwaysKeep, MeansUnits}
 use Rattle.vg_emission.specs.Planned.{IsPlanned}
@@ -34,14 +34,14 @@ use Rattle.vg_plan_relations.specs.Plans.{IsFedPlanByNodes}
 abbrev pub PacksAreShort : Type 0
 PacksAreShort =
     (ds : List Description) (matches : List Match) (ssa : Ssa) (deps : List (ℕ × ℕ))
-    (plan : List Packed) → AreKnown ds matches ssa → IsFedPlanFor ds matches ssa deps plan →
+    (plan : List Pack) → AreKnown ds matches ssa → IsFedPlanFor ds matches ssa deps plan →
     AllByRecursion IsShort plan
 
 -- so are those of plans by any choice of the packs that are tried, as a search over these plans asks
 abbrev pub PacksByChoiceAreShort : Type 0
 PacksByChoiceAreShort =
     (c : Choice) (ds : List Description) (matches : List Match) (ssa : Ssa) (deps : List (ℕ × ℕ)) →
-    AreKnown ds matches ssa → (plan : List Packed) → IsPlanBy c ds matches ssa deps plan →
+    AreKnown ds matches ssa → (plan : List Pack) → IsPlanBy c ds matches ssa deps plan →
     AllByRecursion IsShort plan
 
 -- the leaves that matches bind begin near
@@ -60,7 +60,7 @@ MatchesAreOfUnits =
 
 -- What emission asks of a plan and of the matches, and what its clauses ask of recipes and calls.
 pub record CanBeEmitted
-    (ds : List Description) (matches : List Match) (ssa : Ssa) (plan : List Packed)
+    (ds : List Description) (matches : List Match) (ssa : Ssa) (plan : List Pack)
     : Type 0 where
   pub sound : IsSound ssa
   pub short : AllByRecursion IsShort plan
@@ -74,7 +74,7 @@ pub record CanBeEmitted
 -- so of each plan by its packs, units and nodes, in which load groups may feed operands
 abbrev pub PlansCanBeEmitted : Type 0
 PlansCanBeEmitted =
-    (ds : List Description) (matches : List Match) (ssa : Ssa) (plan : List Packed) →
+    (ds : List Description) (matches : List Match) (ssa : Ssa) (plan : List Pack) →
     AreKnown ds matches ssa → IsFedPlanByNodes ds matches ssa plan →
     CanBeEmitted ds matches ssa plan
 
@@ -88,7 +88,7 @@ CostSome headers = AllByRecursion (λ h. 1 ≤ h.cost) headers
 -- on programs, if its cost is small, and has a text within the bound, if it costs at most a line for
 -- each unit.
 pub record IsProgramOf
-    (ds : List Description) (matches : List Match) (ssa : Ssa) (plan : List Packed) (p : Program)
+    (ds : List Description) (matches : List Match) (ssa : Ssa) (plan : List Pack) (p : Program)
     : Type 0 where
   pub means : (called : Instructions) → AreTrue called ds → MeansUnits called p ssa
   pub cost : cost_of p ≡ plan_cost (packing ds matches ssa (dependences ssa)) plan
@@ -103,7 +103,7 @@ pub record IsProgramOf
 -- feed operands, in any legal order
 abbrev pub EmittedProgramsAreRight : Type 0
 EmittedProgramsAreRight =
-    (ds : List Description) (matches : List Match) (ssa : Ssa) (plan : List Packed)
+    (ds : List Description) (matches : List Match) (ssa : Ssa) (plan : List Pack)
     (order : List Node) →
     AreKnown ds matches ssa → IsFedPlanByNodes ds matches ssa plan →
     IsOrder ssa matches plan order →

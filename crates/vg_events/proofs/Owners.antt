@@ -8,7 +8,7 @@ use Rattle.vg_base.specs.Trap.{◌>>=◌}
 use Rattle.vg_base.specs.declared.address.Address.{Address}
 use Rattle.vg_shapes.specs.declared.access.Access.{Access}
 use Rattle.vg_shapes.specs.declared.ssa.Ssa.{Ssa}
-use Rattle.vg_shapes.specs.declared.unit.Unit.{Unit as Work}
+use Rattle.vg_shapes.specs.declared.ssa_unit.SsaUnit.{SsaUnit}
 use Rattle.vg_shapes.specs.Layout.{access_at, access_of}
 use Rattle.vg_shapes.specs.Order.{numbers_from, Stands}
 use Rattle.vg_shapes.specs.Units.{arguments, unit_at}
@@ -130,7 +130,7 @@ pub record Owned (ssa : Ssa) (e v : ℕ) : Type 0 where
   pub label : label_at (kernel_labels ssa) e ≡ record { writes = access.writes; address = moved access.address byte }
   pub stands : Stands e (unit_events ssa v)
 
-accessed : (us : List Work) (k : ℕ) (x : Access) → slice_get (map access_of us) k ≡ Some (Some x) → (slice_get us k >>= access_of) ≡ Some x
+accessed : (us : List SsaUnit) (k : ℕ) (x : Access) → slice_get (map access_of us) k ≡ Some (Some x) → (slice_get us k >>= access_of) ≡ Some x
 accessed [] k x e = absurd (cc)
 accessed (u ∷ us) zero x e = cc
 accessed (u ∷ us) (suc k) x e = accessed us k x e

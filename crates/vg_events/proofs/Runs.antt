@@ -14,8 +14,8 @@ use Rattle.vg_base.specs.Width.{bits_of, size_of}
 use Rattle.vg_bits.specs.BitList.{IsBytes}
 use Rattle.vg_bits.specs.Range.{replaced}
 use Rattle.vg_bits.proofs.ByteLists.{bytes-number, IsBytes-bytes, length-bytes}
-use Rattle.vg_shapes.specs.declared.unit.Unit.{Unit as Work}
-use Rattle.vg_shapes.specs.declared.unit.Unit.TheVariants.{Load, Store, Operation}
+use Rattle.vg_shapes.specs.declared.ssa_unit.SsaUnit.{SsaUnit}
+use Rattle.vg_shapes.specs.declared.ssa_unit.SsaUnit.TheVariants.{Load, Store, Operation}
 use Rattle.vg_shapes.specs.declared.wanted.Wanted.{Wanted}
 use Rattle.vg_shapes.specs.declared.wanted.Wanted.TheVariants.{Value, Constant, Nothing}
 use Rattle.vg_shapes.specs.Layout.{access_of}
@@ -70,12 +70,12 @@ stored-bytes m (pos a) bs t are new e = elim (cases_Bool (nat_le (a + length bs)
 -- ---- one unit of a run
 
 -- what one unit does: its number, and a memory of bytes
-pub record Did (u : Work) (r t : Reached) : Type 0 where
+pub record Did (u : SsaUnit) (r t : Reached) : Type 0 where
   pub given : ℕ
   pub numbers : t.numbers ≡ r.numbers ++ given ∷ []
   pub are : IsBytes t.memory
 
-pub one-unit : (places : List ℕ) (u : Work) (r t : Reached) → IsBytes r.memory → unit_run places u r ≡ Some t → Did u r t
+pub one-unit : (places : List ℕ) (u : SsaUnit) (r t : Reached) → IsBytes r.memory → unit_run places u r ≡ Some t → Did u r t
 one-unit places (Load a w) r t are e =
     let went = went_well (loaded r.memory (place_of places a) (size_of w)) _ e in
     let same : reached r.memory r.numbers (number went.0) ≡ t = (let k : Some (reached r.memory r.numbers (number went.0)) ≡ Some t = went.2 in cc) in
@@ -96,12 +96,12 @@ earlier-number numbers more (Constant w n) h = refl
 earlier-number numbers more Nothing h = refl
 
 -- the chain of the bytes of a unit, where the values have the numbers of the whole run
-abbrev Chained : List ℕ → (ℕ → ℕ) → ℕ → Work → List ℕ → List ℕ → Type 0
+abbrev Chained : List ℕ → (ℕ → ℕ) → ℕ → SsaUnit → List ℕ → List ℕ → Type 0
 Chained places numbers v (Load a w) m t = chain false (place_of places a) (bytes (size_of w) (numbers v)) m ≡ Some t
 Chained places numbers v (Store a w x) m t = chain true (place_of places a) (bytes (size_of w) (number_of numbers x)) m ≡ Some t
 Chained places numbers v (Operation op w k xs) m t = m ≡ t
 
-unit-chained : (places : List ℕ) (u : Work) (r t : Reached) (more all : List ℕ) → TakesEarlier (length r.numbers) u → IsBytes r.memory → unit_run places u r ≡ Some t → all ≡ t.numbers ++ more → Chained places (slice_index all) (length r.numbers) u r.memory t.memory
+unit-chained : (places : List ℕ) (u : SsaUnit) (r t : Reached) (more all : List ℕ) → TakesEarlier (length r.numbers) u → IsBytes r.memory → unit_run places u r ≡ Some t → all ≡ t.numbers ++ more → Chained places (slice_index all) (length r.numbers) u r.memory t.memory
 unit-chained places (Load a w) r t more all is are e whole =
     let at = place_of places a in
     let n = size_of w in
@@ -136,29 +136,29 @@ chain-steps places ls before rest all done more w a n bs m t e whole long size c
     ∙ ap (λ l. chain w (place_of places a) l m) mine ∙ chained
 
 -- how many events a unit has
-abbrev pub event_count : Work → ℕ
+abbrev pub event_count : SsaUnit → ℕ
 event_count (Load a w) = size_of w
 event_count (Store a w x) = size_of w
 event_count (Operation op w k xs) = 0
 
-pub length-unit_labels : (u : Work) → length (labels_in (access_of u)) ≡ event_count u
+pub length-unit_labels : (u : SsaUnit) → length (labels_in (access_of u)) ≡ event_count u
 length-unit_labels (Load a w) = length-labels false a (size_of w)
 length-unit_labels (Store a w x) = length-labels true a (size_of w)
 length-unit_labels (Operation op w k xs) = refl
 
-pub length-unit_bytes : (numbers : ℕ → ℕ) (v : ℕ) (u : Work) → length (unit_bytes numbers v u) ≡ event_count u
+pub length-unit_bytes : (numbers : ℕ → ℕ) (v : ℕ) (u : SsaUnit) → length (unit_bytes numbers v u) ≡ event_count u
 length-unit_bytes numbers v (Load a w) = length-bytes (size_of w) (numbers v)
 length-unit_bytes numbers v (Store a w x) = length-bytes (size_of w) (number_of numbers x)
 length-unit_bytes numbers v (Operation op w k xs) = refl
 
-unit-steps : (places : List ℕ) (ls before rest : List Label) (all done more : List ℕ) (numbers : ℕ → ℕ) (v : ℕ) (u : Work) (m t : List ℕ) → ls ≡ before ++ (labels_in (access_of u) ++ rest) → all ≡ done ++ (unit_bytes numbers v u ++ more) → length done ≡ length before → Chained places numbers v u m t
+unit-steps : (places : List ℕ) (ls before rest : List Label) (all done more : List ℕ) (numbers : ℕ → ℕ) (v : ℕ) (u : SsaUnit) (m t : List ℕ) → ls ≡ before ++ (labels_in (access_of u) ++ rest) → all ≡ done ++ (unit_bytes numbers v u ++ more) → length done ≡ length before → Chained places numbers v u m t
     → run_steps (event_step places ls (slice_index all)) (numbers_from (length before) (event_count u)) m ≡ Some t
 unfolding run_steps
 unit-steps places ls before rest all done more numbers v (Load a w) m t e whole long c = chain-steps places ls before rest all done more false a (size_of w) (bytes (size_of w) (numbers v)) m t e whole long (length-bytes (size_of w) (numbers v)) c
 unit-steps places ls before rest all done more numbers v (Store a w x) m t e whole long c = chain-steps places ls before rest all done more true a (size_of w) (bytes (size_of w) (number_of numbers x)) m t e whole long (length-bytes (size_of w) (number_of numbers x)) c
 unit-steps places ls before rest all done more numbers v (Operation op w k xs) m t e whole long c = ap Some c
 
-pub units-steps : (places : List ℕ) (ls before : List Label) (all done : List ℕ) (us : List Work) (r t : Reached) → TakeEarlier (length r.numbers) us → IsBytes r.memory → ls ≡ before ++ unit_labels us → all ≡ done ++ all_bytes (slice_index t.numbers) (length r.numbers) us → length done ≡ length before → run_units places us r ≡ Some t
+pub units-steps : (places : List ℕ) (ls before : List Label) (all done : List ℕ) (us : List SsaUnit) (r t : Reached) → TakeEarlier (length r.numbers) us → IsBytes r.memory → ls ≡ before ++ unit_labels us → all ≡ done ++ all_bytes (slice_index t.numbers) (length r.numbers) us → length done ≡ length before → run_units places us r ≡ Some t
     → run_steps (event_step places ls (slice_index all)) (numbers_from (length before) (length (unit_labels us))) r.memory ≡ Some t.memory
 unfolding run_units run_steps
 units-steps places ls before all done [] r t units are e whole long run = (let same : r ≡ t = cc in ap (λ (q : Reached). Some q.memory) same)

@@ -9,8 +9,8 @@ use Rattle.vg_base.specs.declared.address.Address.{Address}
 use Rattle.vg_base.specs.Address.{place_of}
 use Rattle.vg_base.specs.Width.{size_of}
 use Rattle.vg_shapes.specs.declared.access.Access.{Access}
-use Rattle.vg_shapes.specs.declared.unit.Unit.{Unit as Work}
-use Rattle.vg_shapes.specs.declared.unit.Unit.TheVariants as unit
+use Rattle.vg_shapes.specs.declared.ssa_unit.SsaUnit.{SsaUnit}
+use Rattle.vg_shapes.specs.declared.ssa_unit.SsaUnit.TheVariants as unit
 use Rattle.vg_shapes.specs.Layout.{access_of}
 use Rattle.vg_shapes.specs.Order.{count_of, numbers_from, one_if, Stands}
 use Rattle.vg_shapes.specs.RunUnits.{start_of}
@@ -176,7 +176,7 @@ some-register_bytes B16 = omega arith
 some-register_bytes B32 = omega arith
 some-register_bytes B64 = omega arith
 
-units-have_bytes : (us : List Work) → HaveBytes (map access_of us)
+units-have_bytes : (us : List SsaUnit) → HaveBytes (map access_of us)
 units-have_bytes [] = tt
 units-have_bytes (unit.Load a w ∷ us) = (some-bytes w, units-have_bytes us)
 units-have_bytes (unit.Store a w x ∷ us) = (some-bytes w, units-have_bytes us)
@@ -201,7 +201,7 @@ lines-have_bytes : (lines : List Line) → HaveBytes (map line_access lines)
 lines-have_bytes [] = tt
 lines-have_bytes (l ∷ lines) = (line-has_bytes l, lines-have_bytes lines)
 
-units-inside : (places : List ℕ) (long : ℕ) (us : List Work) → list_all (access_inside places long) (map access_of us) ≡ list_all (stays_inside places long) us
+units-inside : (places : List ℕ) (long : ℕ) (us : List SsaUnit) → list_all (access_inside places long) (map access_of us) ≡ list_all (stays_inside places long) us
 units-inside places long [] = refl
 units-inside places long (u ∷ us) = ap (λ b. access_inside places long (access_of u) && b) (units-inside places long us)
 

@@ -9,7 +9,7 @@ use Rattle.std.proofs.lemmas.Bool.Decides.{Decides-int_eq}
 use Rattle.vg_base.specs.Trap.{◌>>=◌}
 use Rattle.vg_shapes.specs.declared.access.Access.{Access}
 use Rattle.vg_shapes.specs.declared.ssa.Ssa.{Ssa}
-use Rattle.vg_shapes.specs.declared.unit.Unit.{Unit as Work}
+use Rattle.vg_shapes.specs.declared.ssa_unit.SsaUnit.{SsaUnit}
 use Rattle.vg_shapes.specs.Depends.{conflict, conflict_at, conflict_of, may_share, overlap}
 use Rattle.vg_shapes.specs.Layout.{access_at, access_of, is_noalias, noalias_flags}
 use Rattle.vg_shapes.specs.Order.{one_if, Stands}
@@ -212,7 +212,7 @@ second-access flags (Some a) (Some b) h = (b, refl)
 
 accessed-behind : (ssa : Ssa) (v : ℕ) (a : Access) → access_at ssa v ≡ Some a → arguments ssa ≤ v
 accessed-behind ssa v a e = elim (cases_lt v (arguments ssa)) [
-  | inl less ↦ absurd (let none : access_at ssa v ≡ None = ap (λ (u : Option Work). u >>= access_of) (cond-true _ _ _ (lt-ltb v (arguments ssa) less)) in let both : None ≡ Some a = sym none ∙ e in cc)
+  | inl less ↦ absurd (let none : access_at ssa v ≡ None = ap (λ (u : Option SsaUnit). u >>= access_of) (cond-true _ _ _ (lt-ltb v (arguments ssa) less)) in let both : None ≡ Some a = sym none ∙ e in cc)
   | inr above ↦ above
 ]
 

@@ -3,7 +3,7 @@ use Rattle.std.specs.Prelude.{ℕ, zero, suc, pos, ◌+ℤ◌, Bool, false, List
 use Rattle.vg_base.specs.declared.address.Address.{Address}
 use Rattle.vg_shapes.specs.declared.access.Access.{Access}
 use Rattle.vg_shapes.specs.declared.ssa.Ssa.{Ssa}
-use Rattle.vg_shapes.specs.declared.unit.Unit.{Unit as Work}
+use Rattle.vg_shapes.specs.declared.ssa_unit.SsaUnit.{SsaUnit}
 use Rattle.vg_shapes.specs.Layout.{access_of}
 
 -- what a byte event does, and to which byte of which pointer
@@ -34,7 +34,7 @@ labels [] = []
 labels (x ∷ xs) = labels_in x ++ labels xs
 
 -- the events of units; the number of an event is its place in this list
-abbrev pub unit_labels : List Work → List Label
+abbrev pub unit_labels : List SsaUnit → List Label
 unit_labels us = labels (map access_of us)
 
 abbrev pub kernel_labels : Ssa → List Label

@@ -3,7 +3,7 @@ use Rattle.std.specs.Prelude.{◌≡◌, ℕ, false, List, length, slice_index, 
 use Rattle.vg_bits.specs.BitList.{IsBytes}
 use Rattle.vg_shapes.specs.declared.access.Access.{Access}
 use Rattle.vg_shapes.specs.declared.ssa.Ssa.{Ssa}
-use Rattle.vg_shapes.specs.declared.unit.Unit.{Unit as Work}
+use Rattle.vg_shapes.specs.declared.ssa_unit.SsaUnit.{SsaUnit}
 use Rattle.vg_shapes.specs.Layout.{noalias_flags, Respects}
 use Rattle.vg_shapes.specs.Order.{numbers_from}
 use Rattle.vg_shapes.specs.RunUnits.{Reached, run_units, start_of}
@@ -19,7 +19,7 @@ use Rattle.vg_events.specs.UnitOrder.{is_out_of_order}
 -- a run of units that is done is the steps of its events, by the bytes that the values then have
 abbrev pub RunsAreEvents : Type 0
 RunsAreEvents =
-    (places memory args : List ℕ) (us : List Work) (t : Reached) →
+    (places memory args : List ℕ) (us : List SsaUnit) (t : Reached) →
     IsBytes memory → TakeEarlier (length args) us →
     run_units places us (start_of memory args) ≡ Some t →
     run_steps

@@ -6,8 +6,8 @@ use Rattle.vg_base.specs.Bits.{bytes}
 use Rattle.vg_base.specs.Memory.{stored}
 use Rattle.vg_base.specs.Trap.{◌>>=◌}
 use Rattle.vg_base.specs.Width.{size_of}
-use Rattle.vg_shapes.specs.declared.unit.Unit.{Unit as Work}
-use Rattle.vg_shapes.specs.declared.unit.Unit.TheVariants.{Load, Store, Operation}
+use Rattle.vg_shapes.specs.declared.ssa_unit.SsaUnit.{SsaUnit}
+use Rattle.vg_shapes.specs.declared.ssa_unit.SsaUnit.TheVariants.{Load, Store, Operation}
 use Rattle.vg_shapes.specs.RunUnits.{number_of}
 use Rattle.vg_order_laws.specs.Steps.{seen}
 use Rattle.vg_events.specs.Events.{Label, label_at}
@@ -31,11 +31,11 @@ chain w at [] memory = Some memory
 chain w at (b ∷ bs) memory = byte_step w at b memory >>= chain w (at +ℤ pos 1) bs
 
 -- the bytes of the events of a unit of this number, where the values have these numbers
-abbrev pub unit_bytes : (ℕ → ℕ) → ℕ → Work → List ℕ
+abbrev pub unit_bytes : (ℕ → ℕ) → ℕ → SsaUnit → List ℕ
 unit_bytes numbers v (Load a w) = bytes (size_of w) (numbers v)
 unit_bytes numbers v (Store a w x) = bytes (size_of w) (number_of numbers x)
 unit_bytes numbers v (Operation op w k xs) = []
 
-abbrev pub all_bytes : (ℕ → ℕ) → ℕ → List Work → List ℕ
+abbrev pub all_bytes : (ℕ → ℕ) → ℕ → List SsaUnit → List ℕ
 all_bytes numbers v [] = []
 all_bytes numbers v (u ∷ us) = unit_bytes numbers v u ++ all_bytes numbers (v + 1) us

@@ -50,9 +50,12 @@ right g = rest (rest (rest g))
 pub inj : (t u : Tree) → code t ≡ code u → t ≡ u
 inj (leaf w k) (leaf v l) p = λ i. leaf (ap width p i) (key_code.inj k l (ap left p) i)
 inj (constant w n) (constant v m) p = λ i. constant (ap width p i) (ap (λ g. num (left g)) p i)
-inj (one op w k x) (one o v l y) p = λ i. one (one_tag-same op o (ap (λ g. num (first (left g))) p) i) (ap width p i) (ap (λ g. num (rest (left g))) p i) (inj x y (ap right p) i)
-inj (two op w x y) (two o v z u) p = λ i. two (two_tag-same op o (ap (λ g. num (left g)) p) i) (ap width p i) (inj x z (ap (λ g. first (right g)) p) i) (inj y u (ap (λ g. rest (right g)) p) i)
-inj (sel w c x y) (sel v d z u) p = λ i. sel (ap width p i) (inj c d (ap left p) i) (inj x z (ap (λ g. first (right g)) p) i) (inj y u (ap (λ g. rest (right g)) p) i)
+inj (one op w k x) (one o v l y) p =
+    λ i. one (one_tag-same op o (ap (λ g. num (first (left g))) p) i) (ap width p i) (ap (λ g. num (rest (left g))) p i) (inj x y (ap right p) i)
+inj (two op w x y) (two o v z u) p =
+    λ i. two (two_tag-same op o (ap (λ g. num (left g)) p) i) (ap width p i) (inj x z (ap (λ g. first (right g)) p) i) (inj y u (ap (λ g. rest (right g)) p) i)
+inj (sel w c x y) (sel v d z u) p =
+    λ i. sel (ap width p i) (inj c d (ap left p) i) (inj x z (ap (λ g. first (right g)) p) i) (inj y u (ap (λ g. rest (right g)) p) i)
 inj (leaf w k) _ p = absurd (let e = ap kind p in omega (arith, e))
 inj (constant w n) _ p = absurd (let e = ap kind p in omega (arith, e))
 inj (one op w k x) _ p = absurd (let e = ap kind p in omega (arith, e))

@@ -83,8 +83,8 @@ impl Maker {
     // The canonical form of what bits of whole terms gather, if that is the term of the bits.
     #[tactic(auto, using(crate::proofs::Gathering::gather_merged, crate::proofs::Cutting::too_large))]
     fn gathered_whole(&mut self, alloc: Global, runs: &[Run]) -> Result<Option<Form>, AllocError>
-        ensures form { IfOk result
-            (λ f. (parts : Tree) → built (gather (bits_in runs.now)) parts ≡ unwrap_or f (canonical parts)) }
+        ensures form { IfOk result (λ f. (parts : Tree) → built (gather (bits_in runs.now)) parts ≡
+            unwrap_or f (canonical parts)) }
         ensures classes { self.new.classes ≡ self.old.classes }
     {
         let runs = merged(alloc, runs)?;

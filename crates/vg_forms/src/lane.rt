@@ -72,8 +72,8 @@ fn read_leaf(
     width: u32,
     key: LeafKey,
 ) -> Result<Vec<Run>, AllocError>
-    ensures { IfOk result
-        (λ v. bits_in v.items ≡ leaf_bits inputs.entry.vectors.now inputs.entry.registers.now width key) }
+    ensures { IfOk result (λ v. bits_in v.items ≡ leaf_bits inputs.entry.vectors.now
+        inputs.entry.registers.now width key) }
 {
     let low = first_bit(key.second)?;
     let mut runs = Vec::new(alloc);
@@ -92,8 +92,8 @@ impl Classes {
         width: u32,
         key: LeafKey,
     ) -> Result<Vec<Run>, AllocError>
-        ensures { IfOk result (λ v. stacked v.items
-            ≡ leaf_term parts self.now inputs.entry.vectors.now inputs.entry.registers.now width key) }
+        ensures { IfOk result (λ v. stacked v.items ≡ leaf_term parts self.now
+            inputs.entry.vectors.now inputs.entry.registers.now width key) }
     {
         let runs = read_leaf(alloc, inputs, width, key)?;
         match parts {
@@ -113,8 +113,8 @@ impl Classes {
         inputs: Inputs,
         t: &Term,
     ) -> Result<u64, AllocError>
-        ensures { IfOk result (λ n. n ≡ min (node_count
-            (lane_term parts self.now inputs.entry.vectors.now inputs.entry.registers.now (tree t.now))) (2 ^ 64 - 1)) }
+        ensures { IfOk result (λ n. n ≡ min (node_count (lane_term parts self.now
+            inputs.entry.vectors.now inputs.entry.registers.now (tree t.now))) (2 ^ 64 - 1)) }
     {
         match t {
             Term::Leaf { width, key } => {
@@ -148,8 +148,8 @@ impl Classes {
         inputs: Inputs,
         t: &Term,
     ) -> Result<Term, AllocError>
-        ensures { IfOk result (λ r. tree r
-            ≡ lane_term parts self.now inputs.entry.vectors.now inputs.entry.registers.now (tree t.now)) }
+        ensures { IfOk result (λ r. tree r ≡ lane_term parts self.now inputs.entry.vectors.now
+            inputs.entry.registers.now (tree t.now)) }
     {
         match t {
             Term::Leaf { width, key } => {
@@ -184,10 +184,10 @@ impl Classes {
 impl Maker {
     /// The term of a lane, whose canonical term reads its leaves, on registers. Fails as `settle` does.
     pub fn lane(&mut self, alloc: Global, inputs: Inputs, form: &Form) -> Result<Form, AllocError>
-        ensures form { IfOk result (λ f. f ≡ built
-            (replaced (read_leaf (registers_of inputs.entry.vectors.now inputs.entry.registers.now)) form.now)
-            (replaced (read_leaf (map (cut_bits self.old.classes)
-            (registers_of inputs.entry.vectors.now inputs.entry.registers.now))) form.now)) }
+        ensures form { IfOk result (λ f. f ≡ built (replaced (read_leaf (registers_of
+            inputs.entry.vectors.now inputs.entry.registers.now)) form.now) (replaced (read_leaf
+            (map (cut_bits self.old.classes) (registers_of inputs.entry.vectors.now
+            inputs.entry.registers.now))) form.now)) }
         ensures classes { self.new.classes ≡ self.old.classes }
     {
         match self.whole_lane(alloc, inputs, form)? {
@@ -204,9 +204,9 @@ impl Maker {
         inputs: Inputs,
         form: &Form,
     ) -> Result<Option<Form>, AllocError>
-        ensures form { IfOk result (λ f. (parts : Tree) → built
-            (replaced (read_leaf (registers_of inputs.entry.vectors.now inputs.entry.registers.now)) form.now)
-            parts ≡ unwrap_or f (canonical parts)) }
+        ensures form { IfOk result (λ f. (parts : Tree) → built (replaced (read_leaf (registers_of
+            inputs.entry.vectors.now inputs.entry.registers.now)) form.now) parts ≡ unwrap_or f
+            (canonical parts)) }
         ensures classes { self.new.classes ≡ self.old.classes }
     {
         let size = self

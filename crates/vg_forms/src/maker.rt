@@ -125,9 +125,9 @@ impl Maker {
         y: &Form,
         z: &Form,
     ) -> Result<Form, AllocError>
-        ensures form { IfOk result
-            (λ f. f ≡ canonical (operation_term op (bits_of width) amount (cut self.old.classes x.now)
-            (cut self.old.classes y.now) (cut self.old.classes z.now))) }
+        ensures form { IfOk result (λ f. f ≡ canonical (operation_term op (bits_of width) amount
+            (cut self.old.classes x.now) (cut self.old.classes y.now) (cut self.old.classes
+            z.now))) }
         ensures classes { self.new.classes ≡ self.old.classes }
     {
         let x = self.classes.cut(alloc, x)?;

@@ -71,7 +71,8 @@ fn two_term(alloc: Global, op: TwoOp, width: Width, x: &Term, y: &Term) -> Resul
 
 // The sum with the second term times -1.
 fn difference(alloc: Global, width: Width, x: &Term, y: &Term) -> Result<Term, AllocError>
-    ensures { IfOk result (λ t. tree t ≡ two_term TwoOp.Sub (bits_of width) (tree x.now) (tree y.now)) }
+    ensures { IfOk result (λ t. tree t ≡ two_term TwoOp.Sub (bits_of width) (tree x.now) (tree
+        y.now)) }
 {
     let bits = width.bits();
     let ones = make_const(bits, u128::MAX >> (128 - bits));
@@ -130,7 +131,8 @@ fn comparison_term(alloc: Global, op: Comparison, x: &Term, y: &Term) -> Result<
 }
 
 fn selection(alloc: Global, width: u32, c: &Term, x: &Term, y: &Term) -> Result<Term, AllocError>
-    ensures { IfOk result (λ t. tree t ≡ operation_term Operator.Select width 0 (tree c.now) (tree x.now) (tree y.now)) }
+    ensures { IfOk result (λ t. tree t ≡ operation_term Operator.Select width 0 (tree c.now) (tree
+        x.now) (tree y.now)) }
 {
     let c = c.copy(alloc)?;
     let x = x.copy(alloc)?;

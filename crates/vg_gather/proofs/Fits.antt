@@ -6,8 +6,8 @@ use Rattle.std.proofs.lemmas.Bool.{eqb-true, or_cases}
 use Rattle.vg_bits.specs.BitList.{IsBytes}
 use Rattle.vg_bits.proofs.ByteLists.{IsBytes-bytes, length-bytes}
 use Rattle.vg_program.specs.Vectors.{constant_bits, is_register_size}
-use Rattle.vg_packing.specs.Held.{register_of}
-use Rattle.vg_packing.proofs.SameTests.{both-true}
+use Rattle.vg_kernel_plans.specs.Held.{register_of}
+use Rattle.vg_kernel_plans.proofs.SameTests.{both-true}
 use Rattle.vg_emission.specs.Emission.{constant_bytes, constants_of}
 use Rattle.vg_gather.specs.Laws.{ConstantsFit, HoldersFit}
 

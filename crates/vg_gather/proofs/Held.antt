@@ -6,17 +6,17 @@ use Rattle.std.proofs.lemmas.Bool.{eqb-true, or_cases}
 use Rattle.vg_base.specs.Bits.{num}
 use Rattle.vg_bits.specs.Range.{range}
 use Rattle.vg_shapes.specs.declared.operand.Slot.{Slot}
-use Rattle.vg_shapes.specs.declared.pack.Pack.{Pack as Packed}
+use Rattle.vg_shapes.specs.declared.pack.Pack.{Pack}
 use Rattle.vg_shapes.specs.declared.ssa.Ssa.{Ssa}
 use Rattle.vg_shapes.specs.declared.wanted.Wanted.{Wanted}
 use Rattle.vg_shapes.specs.declared.wanted.Wanted.TheVariants.{Value, Constant, Nothing}
 use Rattle.vg_shapes.specs.Description.{Description}
 use Rattle.vg_shapes.specs.Operands.{lanes_of}
 use Rattle.vg_shapes.specs.Order.{one_if, Stands}
-use Rattle.vg_packing.specs.Held.{is_filled, lane_width_of, lanes_from, register_of}
-use Rattle.vg_packing.specs.SameAs.{same_slot}
-use Rattle.vg_packing.specs.Wants.{is_wanted, slot, value_of, wants_value}
-use Rattle.vg_packing.proofs.SameTests.{both-true, slot-is}
+use Rattle.vg_kernel_plans.specs.Held.{is_filled, lane_width_of, lanes_from, register_of}
+use Rattle.vg_kernel_plans.specs.SameAs.{same_slot}
+use Rattle.vg_kernel_plans.specs.Wants.{is_wanted, slot, value_of, wants_value}
+use Rattle.vg_kernel_plans.proofs.SameTests.{both-true, slot-is}
 use Rattle.vg_order_laws.proofs.Sequences.{counts-itself}
 use Rattle.vg_emission.specs.Planned.{values_of}
 use Rattle.vg_emission.specs.Promises.{IsWanted, LanesHave, SlotHas}
@@ -60,7 +60,7 @@ nothing-wanted numbers (Value v) n e = absurd (cc)
 nothing-wanted numbers (Constant w c) n e = absurd (cc)
 nothing-wanted numbers Nothing n e = tt
 
-filled-has : (ds : List Description) (ssa : Ssa) (numbers : ℕ → ℕ) (p : Packed) (register : List ℕ) (s : Slot)
+filled-has : (ds : List Description) (ssa : Ssa) (numbers : ℕ → ℕ) (p : Pack) (register : List ℕ) (s : Slot)
     → LanesHave numbers (lane_width_of ds ssa p) 0 (lanes_of p) register
     → is_filled ds ssa p s ≡ true → SlotHas numbers register s
 filled-has ds ssa numbers p register s have e = elim (or_cases (not (is_wanted s.wanted)) _ e) [
@@ -71,7 +71,7 @@ filled-has ds ssa numbers p register s have e = elim (or_cases (not (is_wanted s
       value-has numbers s.wanted v.0 _ v.1 v.2
 ]
 
-all-filled : (ds : List Description) (ssa : Ssa) (numbers : ℕ → ℕ) (p : Packed) (register : List ℕ) (ss : List Slot)
+all-filled : (ds : List Description) (ssa : Ssa) (numbers : ℕ → ℕ) (p : Pack) (register : List ℕ) (ss : List Slot)
     → LanesHave numbers (lane_width_of ds ssa p) 0 (lanes_of p) register
     → list_all (is_filled ds ssa p) ss ≡ true → AllByRecursion (SlotHas numbers register) ss
 all-filled ds ssa numbers p register [] have e = tt
@@ -110,7 +110,7 @@ given-lane low w v (Some u ∷ lanes) s e any =
 abbrev GivesOf : List ℕ → List ℕ → Type 0
 GivesOf wanted given = (x : ℕ) × Stands x wanted × Stands x given
 
-gives-first : (ds : List Description) (ssa : Ssa) (p : Packed) (l w : ℕ) (x : Wanted) (ss : List Slot)
+gives-first : (ds : List Description) (ssa : Ssa) (p : Pack) (l w : ℕ) (x : Wanted) (ss : List Slot)
     → is_filled ds ssa p (slot l w x) ≡ true
     → (is_wanted x ≡ true) ⊎ GivesOf (filter_map (λ s. value_of s.wanted) ss) (values_of p)
     → GivesOf (filter_map (λ s. value_of s.wanted) (slot l w x ∷ ss)) (values_of p)
@@ -124,7 +124,7 @@ gives-first ds ssa p l w (Constant m c) ss e h = absurd (cc)
 gives-first ds ssa p l w Nothing ss e (inl t) = absurd (cc)
 gives-first ds ssa p l w Nothing ss e (inr g) = g
 
-gives-some : (ds : List Description) (ssa : Ssa) (p : Packed) (ss : List Slot)
+gives-some : (ds : List Description) (ssa : Ssa) (p : Pack) (ss : List Slot)
     → list_any (λ s. is_wanted s.wanted) ss ≡ true → list_all (is_filled ds ssa p) ss ≡ true
     → GivesOf (filter_map (λ s. value_of s.wanted) ss) (values_of p)
 gives-some ds ssa p [] any all = absurd (cc)

@@ -18,7 +18,7 @@ use Rattle.vg_shapes.specs.declared.ssa.Ssa.{Ssa}
 use Rattle.vg_shapes.specs.declared.wanted.Wanted.{Wanted}
 use Rattle.vg_shapes.specs.declared.wanted.Wanted.TheVariants.{Value, Constant, Nothing}
 use Rattle.vg_shapes.specs.Operands.{AreSlots, IsOperand, MayBeWanted}
-use Rattle.vg_packing.specs.Wants.{slot, wants_value}
+use Rattle.vg_kernel_plans.specs.Wants.{slot, wants_value}
 use Rattle.vg_emission.specs.Emission.{constant_bytes, constants_of, value_slots}
 use Rattle.vg_emission.specs.Promises.{Fills, inserted, IsWanted, SlotHas}
 use Rattle.vg_gather.specs.Laws.{AreInWidths, ConstantsFill, InsertsFill}

@@ -9,18 +9,18 @@ use Rattle.vg_plans.specs.World.{can_shuffle, least_shuffle, World}
 use Rattle.vg_shapes.specs.declared.match_table.Match.{Match}
 use Rattle.vg_shapes.specs.declared.operand.Operand.{Operand}
 use Rattle.vg_shapes.specs.declared.operand.Slot.{Slot}
-use Rattle.vg_shapes.specs.declared.pack.Pack.{Pack as Packed}
+use Rattle.vg_shapes.specs.declared.pack.Pack.{Pack}
 use Rattle.vg_shapes.specs.declared.ssa.Ssa.{Ssa}
 use Rattle.vg_shapes.specs.declared.wanted.Wanted.{Wanted}
 use Rattle.vg_shapes.specs.declared.wanted.Wanted.TheVariants.{Value, Constant, Nothing}
 use Rattle.vg_shapes.specs.Description.{Description}
-use Rattle.vg_packing.specs.declared.recipe.Recipe.{Recipe}
-use Rattle.vg_packing.specs.declared.recipe.Recipe.TheVariants as recipe
-use Rattle.vg_packing.specs.Held.{holds}
-use Rattle.vg_packing.specs.Packing.{packing}
-use Rattle.vg_packing.specs.Shuffles.{is_lane_slot, is_shuffle, moved_from, parts_from, shuffle_of}
-use Rattle.vg_packing.specs.Wants.{is_constant, is_wanted, slot, value_of, wanted_slots, wanted_values}
-use Rattle.vg_packing.proofs.SameTests.{both-true}
+use Rattle.vg_kernel_plans.specs.declared.recipe.Recipe.{Recipe}
+use Rattle.vg_kernel_plans.specs.declared.recipe.Recipe.TheVariants as recipe
+use Rattle.vg_kernel_plans.specs.Held.{holds}
+use Rattle.vg_kernel_plans.specs.Packing.{packing}
+use Rattle.vg_kernel_plans.specs.Shuffles.{is_lane_slot, is_shuffle, moved_from, parts_from, shuffle_of}
+use Rattle.vg_kernel_plans.specs.Wants.{is_constant, is_wanted, slot, value_of, wanted_slots, wanted_values}
+use Rattle.vg_kernel_plans.proofs.SameTests.{both-true}
 use Rattle.vg_emission.specs.Costs.{cost_of_recipe}
 use Rattle.vg_emission.specs.Emission.{constant_bytes, no_description}
 use Rattle.vg_emission.specs.Program.{inserted_by}
@@ -102,7 +102,7 @@ there-next : (ds : List Description) (d : ℕ) (e : Description) (es : List Desc
 there-next ds d e es there k =
     there (suc k) ∙ ap (description_in ds) (let n : d + suc k ≡ suc d + k = omega arith in n)
 
-least-ready : (ds : List Description) (matches : List Match) (ssa : Ssa) (deps : List (ℕ × ℕ)) (plan : List Packed) (o : Operand)
+least-ready : (ds : List Description) (matches : List Match) (ssa : Ssa) (deps : List (ℕ × ℕ)) (plan : List Pack) (o : Operand)
     (d cost : ℕ) (es : List Description) → There ds d es
     → least_shuffle (packing ds matches ssa deps) plan cost (flat_map (shuffle_of o) es)
     ≡ least (key_of ds) cost (ready_from ds ssa plan o d es)
@@ -159,7 +159,7 @@ ready-step can P true s d numbers first h = elim (cases_Bool (can s)) [
 ready-step can P false s d numbers first h = h
 
 -- what holds of each shuffle that can be had holds of the ready ones
-pub ready-all : (ds : List Description) (ssa : Ssa) (plan : List Packed) (o : Operand) (P : ℕ → Type 0) (d : ℕ) (es : List Description)
+pub ready-all : (ds : List Description) (ssa : Ssa) (plan : List Pack) (o : Operand) (P : ℕ → Type 0) (d : ℕ) (es : List Description)
     → There ds d es
     → ((n : ℕ) (e : Description) → e ≡ description_in ds n → can_make o e ≡ true
     → can_be_had ds ssa plan (made o e) ≡ true → P n)
@@ -173,7 +173,7 @@ ready-all ds ssa plan o P d (e ∷ es) there each =
 pub there-all : (ds : List Description) → There ds 0 ds
 there-all ds k = ap (description_in ds) (let n : k ≡ 0 + k = omega arith in n)
 
-ready-cheap : (ds : List Description) (ssa : Ssa) (plan : List Packed) (o : Operand)
+ready-cheap : (ds : List Description) (ssa : Ssa) (plan : List Pack) (o : Operand)
     → AllByRecursion (λ n. key_of ds n ≤ 1 + length (wanted_values o)) (ready_from ds ssa plan o 0 ds)
 ready-cheap ds ssa plan o =
     ready-all ds ssa plan o (λ n. key_of ds n ≤ 1 + length (wanted_values o)) 0 ds (there-all ds)
@@ -181,7 +181,7 @@ ready-cheap ds ssa plan o =
 
 -- ---- costs
 
-shuffled-cost : (ds : List Description) (ssa : Ssa) (plan : List Packed) (o : Operand) (numbers : List ℕ)
+shuffled-cost : (ds : List Description) (ssa : Ssa) (plan : List Pack) (o : Operand) (numbers : List ℕ)
     → AllByRecursion (λ n. key_of ds n ≤ 1 + length (wanted_values o)) numbers
     → cost_of_recipe ds o (shuffled ds ssa plan o numbers) ≡ least (key_of ds) (1 + length (wanted_values o)) numbers
 shuffled-cost ds ssa plan o [] h = refl
@@ -228,7 +228,7 @@ some-step : (b c : Bool) (d : ℕ) (numbers : List ℕ) → c ≡ some numbers �
 some-step true c d numbers e = refl
 some-step false c d numbers e = e
 
-any-ready : (ds : List Description) (ssa : Ssa) (plan : List Packed) (o : Operand) (d : ℕ) (es : List Description)
+any-ready : (ds : List Description) (ssa : Ssa) (plan : List Pack) (o : Operand) (d : ℕ) (es : List Description)
     → list_any (can_be_had ds ssa plan) (flat_map (shuffle_of o) es) ≡ some (ready_from ds ssa plan o d es)
 any-ready ds ssa plan o d [] = refl
 any-ready ds ssa plan o d (e ∷ es) =
@@ -236,7 +236,7 @@ any-ready ds ssa plan o d (e ∷ es) =
     ∙ some-step (list_any (can_be_had ds ssa plan) (shuffle_of o e)) _ d (ready_from ds ssa plan o (suc d) es)
     (any-ready ds ssa plan o (suc d) es)
 
-shuffled-inserts : (ds : List Description) (ssa : Ssa) (plan : List Packed) (o : Operand) (numbers : List ℕ)
+shuffled-inserts : (ds : List Description) (ssa : Ssa) (plan : List Pack) (o : Operand) (numbers : List ℕ)
     → inserted_by (shuffled ds ssa plan o numbers) o ≡ cond (some numbers) [] (wanted_values o)
 shuffled-inserts ds ssa plan o [] = refl
 shuffled-inserts ds ssa plan o (d ∷ numbers) = refl

@@ -8,7 +8,7 @@ use Rattle.vg_terms.specs.Term.{Tree, leaf, constant, one, two, sel}
 use Rattle.vg_plans.specs.Levels.{first_least}
 use Rattle.vg_shapes.specs.declared.operand.Operand.{Operand}
 use Rattle.vg_shapes.specs.declared.operand.Slot.{Slot}
-use Rattle.vg_shapes.specs.declared.pack.Pack.{Pack as Packed}
+use Rattle.vg_shapes.specs.declared.pack.Pack.{Pack}
 use Rattle.vg_shapes.specs.declared.pack.Pack.TheVariants.{Stores}
 use Rattle.vg_shapes.specs.declared.ssa.Ssa.{Ssa}
 use Rattle.vg_shapes.specs.declared.wanted.Wanted.{Wanted}
@@ -16,12 +16,12 @@ use Rattle.vg_shapes.specs.declared.wanted.Wanted.TheVariants.{Value, Constant, 
 use Rattle.vg_shapes.specs.Description.{Description, IsLane, IsPackable}
 use Rattle.vg_shapes.specs.Operands.{IsOperand}
 use Rattle.vg_shapes.specs.Order.{one_if, Stands}
-use Rattle.vg_packing.specs.declared.recipe.Recipe.{Recipe}
-use Rattle.vg_packing.specs.declared.recipe.Recipe.TheVariants as recipe
-use Rattle.vg_packing.specs.Held.{holds}
-use Rattle.vg_packing.specs.Shuffles.{moved_from, moved_leaf, parts_from}
-use Rattle.vg_packing.specs.Wants.{is_constant, is_wanted, slot, value_of, wanted_slots, wanted_values, wants_value}
-use Rattle.vg_packing.proofs.SameTests.{both-true}
+use Rattle.vg_kernel_plans.specs.declared.recipe.Recipe.{Recipe}
+use Rattle.vg_kernel_plans.specs.declared.recipe.Recipe.TheVariants as recipe
+use Rattle.vg_kernel_plans.specs.Held.{holds}
+use Rattle.vg_kernel_plans.specs.Shuffles.{moved_from, moved_leaf, parts_from}
+use Rattle.vg_kernel_plans.specs.Wants.{is_constant, is_wanted, slot, value_of, wanted_slots, wanted_values, wants_value}
+use Rattle.vg_kernel_plans.proofs.SameTests.{both-true}
 use Rattle.vg_order_laws.proofs.Sequences.{counts-itself}
 use Rattle.vg_emission.specs.Emission.{constant_bytes, Job}
 use Rattle.vg_emission.specs.Planned.{TakesGiven}
@@ -32,7 +32,7 @@ use Rattle.vg_gather.proofs.Prices.{can_make, made, makes, ready-all, there-all}
 
 -- ---- the first pack that passes
 
-pub first-passes : (test : Packed → Bool) (plan : List Packed) → list_any test plan ≡ true
+pub first-passes : (test : Pack → Bool) (plan : List Pack) → list_any test plan ≡ true
     → test (slice_index_or plan (position_or_len test plan) (Stores [])) ≡ true
 first-passes test [] e = absurd (cc)
 first-passes test (p ∷ plan) e =
@@ -118,7 +118,7 @@ standing vs (s ∷ ss) v all h =
 abbrev pub moved_of : Operand → Description → List (ℕ × Slot)
 moved_of o e = flat_map (moved_from e) (wanted_slots o)
 
-part-gives : (o : Operand) (e : Description) (k register : ℕ) (p : Packed)
+part-gives : (o : Operand) (e : Description) (k register : ℕ) (p : Pack)
     → GivesWanted (part (moved_of o e) k register) p → GivesWanted o p
 part-gives o e k register p g =
     let inside = moved-inside (wanted_values o) e (wanted_slots o) (wanted-inside (wanted_values o) o.slots (λ v h. h)) in (
@@ -130,7 +130,7 @@ part-gives o e k register p g =
 
 -- ---- the packs of a shuffle
 
-module _ (ds : List Description) (ssa : Ssa) (plan : List Packed) (o : Operand) (e : Description) where
+module _ (ds : List Description) (ssa : Ssa) (plan : List Pack) (o : Operand) (e : Description) where
   abbrev pub IsGood : ℕ → Type 0
   IsGood n = GivesWanted o (slice_index_or plan n (Stores []))
 
@@ -268,7 +268,7 @@ pub not-constant : (b : Bool) → not b ≡ false → b ≡ true
 not-constant true e = refl
 not-constant false e = absurd (cc)
 
-packs-of-good : (ds : List Description) (ssa : Ssa) (plan : List Packed) (o : Operand) (e : Description)
+packs-of-good : (ds : List Description) (ssa : Ssa) (plan : List Pack) (o : Operand) (e : Description)
     → IsPackable e → is_constant o ≡ false → can_make o e ≡ true → can_be_had ds ssa plan (made o e) ≡ true
     → AllByRecursion (IsGood ds ssa plan o e) (packs_of ds ssa plan o e)
 packs-of-good ds ssa plan o e is varies can had =

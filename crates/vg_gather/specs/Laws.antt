@@ -7,15 +7,15 @@ use Rattle.vg_program.specs.Valid.{IsConstant}
 use Rattle.vg_program.specs.Vectors.{constant_bits}
 use Rattle.vg_shapes.specs.declared.match_table.Match.{Match}
 use Rattle.vg_shapes.specs.declared.operand.Operand.{Operand}
-use Rattle.vg_shapes.specs.declared.pack.Pack.{Pack as Packed}
+use Rattle.vg_shapes.specs.declared.pack.Pack.{Pack}
 use Rattle.vg_shapes.specs.declared.ssa.Ssa.{Ssa}
 use Rattle.vg_shapes.specs.Description.{Description, IsPackable}
 use Rattle.vg_shapes.specs.Operands.{IsOperand}
 use Rattle.vg_shapes.specs.Order.{Stands}
 use Rattle.vg_shapes.specs.Sound.{value_bits}
-use Rattle.vg_packing.specs.Held.{holds, register_of}
-use Rattle.vg_packing.specs.Packing.{packing}
-use Rattle.vg_packing.specs.Wants.{is_constant, wanted_values}
+use Rattle.vg_kernel_plans.specs.Held.{holds, register_of}
+use Rattle.vg_kernel_plans.specs.Packing.{packing}
+use Rattle.vg_kernel_plans.specs.Wants.{is_constant, wanted_values}
 use Rattle.vg_emission.specs.Costs.{AreCounted, cost_of_recipe}
 use Rattle.vg_emission.specs.Emission.{Job, constant_bytes, operand_at, recipe_at, value_slots}
 use Rattle.vg_emission.specs.Planned.{TakesGiven, values_of}
@@ -42,32 +42,32 @@ ConstantsFill =
 -- a register that holds a pack fills each operand that the pack holds
 abbrev pub HoldersFill : Type 0
 HoldersFill =
-    (ds : List Description) (ssa : Ssa) (numbers : ℕ → ℕ) (p : Packed) (o : Operand)
+    (ds : List Description) (ssa : Ssa) (numbers : ℕ → ℕ) (p : Pack) (o : Operand)
     (register : List ℕ) → holds ds ssa p o ≡ true → Holds ds ssa numbers p register →
     Fills numbers o register
 
 -- a pack gives a value that an operand wants
-abbrev pub GivesWanted : Operand → Packed → Type 0
+abbrev pub GivesWanted : Operand → Pack → Type 0
 GivesWanted o p = (x : ℕ) × Stands x (wanted_values o) × Stands x (values_of p)
 
 -- a pack that holds an operand does
 abbrev pub HoldersGive : Type 0
 HoldersGive =
-    (ds : List Description) (ssa : Ssa) (p : Packed) (o : Operand) → holds ds ssa p o ≡ true →
+    (ds : List Description) (ssa : Ssa) (p : Pack) (o : Operand) → holds ds ssa p o ≡ true →
     GivesWanted o p
 
 -- a recipe costs what the plan counts for its operand
 abbrev pub RecipesCostThePlan : Type 0
 RecipesCostThePlan =
     (ds : List Description) (matches : List Match) (ssa : Ssa) (deps : List (ℕ × ℕ))
-    (plan : List Packed) (o : Operand) →
+    (plan : List Pack) (o : Operand) →
     cost_of_recipe ds o (recipe_of ds ssa plan o) ≡ recipe_cost (packing ds matches ssa deps) plan o
 
 -- a recipe inserts what the plan inserts into its operand
 abbrev pub RecipesInsertThePlan : Type 0
 RecipesInsertThePlan =
     (ds : List Description) (matches : List Match) (ssa : Ssa) (deps : List (ℕ × ℕ))
-    (plan : List Packed) (o : Operand) →
+    (plan : List Pack) (o : Operand) →
     inserted_by (recipe_of ds ssa plan o) o ≡ inserted_into (packing ds matches ssa deps) plan o
 
 -- where descriptions are sound, what a recipe takes for a sound operand stands in registers before
@@ -80,7 +80,7 @@ RecipesTakeGiven =
 abbrev pub PlansCountRecipes : Type 0
 PlansCountRecipes =
     (ds : List Description) (matches : List Match) (ssa : Ssa) (deps : List (ℕ × ℕ))
-    (packs : List Packed) →
+    (packs : List Pack) →
     AreCounted
     (job_of ds matches ssa packs (recipes_of ds matches ssa packs))
     (packing ds matches ssa deps)
@@ -93,7 +93,7 @@ AllTakeGiven j =
 -- those of the operands of packs do, where descriptions and operands are sound
 abbrev pub PlansTakeGiven : Type 0
 PlansTakeGiven =
-    (ds : List Description) (matches : List Match) (ssa : Ssa) (packs : List Packed) →
+    (ds : List Description) (matches : List Match) (ssa : Ssa) (packs : List Pack) →
     AllByRecursion IsPackable ds →
     AllByRecursion (IsOperand ssa) (operands_in ds matches ssa packs) →
     AllTakeGiven (job_of ds matches ssa packs (recipes_of ds matches ssa packs))
@@ -107,5 +107,5 @@ ConstantsFit =
 -- the register of a pack is as wide as each operand that the pack holds
 abbrev pub HoldersFit : Type 0
 HoldersFit =
-    (ds : List Description) (ssa : Ssa) (p : Packed) (o : Operand) → holds ds ssa p o ≡ true →
+    (ds : List Description) (ssa : Ssa) (p : Pack) (o : Operand) → holds ds ssa p o ≡ true →
     register_of ds ssa p ≡ o.register

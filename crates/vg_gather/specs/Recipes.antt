@@ -7,19 +7,19 @@ use Rattle.vg_shapes.specs.declared.match_table.Match.{Match}
 use Rattle.vg_shapes.specs.declared.operand.Operand.{Operand}
 use Rattle.vg_shapes.specs.declared.operand.Slot.{Slot}
 use Rattle.vg_shapes.specs.declared.order.Node.{Node}
-use Rattle.vg_shapes.specs.declared.pack.Pack.{Pack as Packed}
+use Rattle.vg_shapes.specs.declared.pack.Pack.{Pack}
 use Rattle.vg_shapes.specs.declared.ssa.Ssa.{Ssa}
 use Rattle.vg_shapes.specs.Description.{Description}
-use Rattle.vg_packing.specs.declared.recipe.Recipe.{Recipe}
-use Rattle.vg_packing.specs.declared.recipe.Recipe.TheVariants as recipe
-use Rattle.vg_packing.specs.Held.{holds}
-use Rattle.vg_packing.specs.Shuffles.{moved_from, parts_from, shuffle_of}
-use Rattle.vg_packing.specs.Wants.{is_constant, wanted_slots}
+use Rattle.vg_kernel_plans.specs.declared.recipe.Recipe.{Recipe}
+use Rattle.vg_kernel_plans.specs.declared.recipe.Recipe.TheVariants as recipe
+use Rattle.vg_kernel_plans.specs.Held.{holds}
+use Rattle.vg_kernel_plans.specs.Shuffles.{moved_from, parts_from, shuffle_of}
+use Rattle.vg_kernel_plans.specs.Wants.{is_constant, wanted_slots}
 use Rattle.vg_emission.specs.Emission.{Job, constant_bytes, no_description}
 use Rattle.vg_emission.specs.Program.{job_of, operands_in, program_of}
 
 -- the index of the first pack that holds an operand; the number of packs where none does
-abbrev pub holder : List Description → Ssa → List Packed → Operand → ℕ
+abbrev pub holder : List Description → Ssa → List Pack → Operand → ℕ
 holder ds ssa plan o = position_or_len (λ p. holds ds ssa p o) plan
 
 -- ---- the packs that a shuffle takes
@@ -46,7 +46,7 @@ packs_from held moved other k (register ∷ params) =
     ∷ packs_from held moved other (suc k) params
 
 -- the packs of the parameters of a shuffle that makes an operand
-abbrev pub packs_of : List Description → Ssa → List Packed → Operand → Description → List ℕ
+abbrev pub packs_of : List Description → Ssa → List Pack → Operand → Description → List ℕ
 packs_of ds ssa plan o e =
     let moved = flat_map (moved_from e) (wanted_slots o) in
     let held = holder ds ssa plan in
@@ -58,12 +58,12 @@ abbrev pub description_in : List Description → ℕ → Description
 description_in ds d = slice_index_or ds d no_description
 
 -- each part of a shuffle has a pack that holds it
-abbrev pub can_be_had : List Description → Ssa → List Packed → ℕ × List Operand → Bool
+abbrev pub can_be_had : List Description → Ssa → List Pack → ℕ × List Operand → Bool
 can_be_had ds ssa plan s = list_all (λ n. list_any (λ p. holds ds ssa p n) plan) s.1
 
 -- the numbers of the descriptions that are shuffles which can make an operand, the first of them
 -- having this number
-abbrev pub ready_from : List Description → Ssa → List Packed → Operand → ℕ → List Description → List ℕ
+abbrev pub ready_from : List Description → Ssa → List Pack → Operand → ℕ → List Description → List ℕ
 ready_from ds ssa plan o d [] = []
 ready_from ds ssa plan o d (e ∷ es) =
     if list_any (can_be_had ds ssa plan) (shuffle_of o e)
@@ -71,7 +71,7 @@ ready_from ds ssa plan o d (e ∷ es) =
     else ready_from ds ssa plan o (suc d) es
 
 -- the first of those of least cost; inserts where there is none
-abbrev pub shuffled : List Description → Ssa → List Packed → Operand → List ℕ → Recipe
+abbrev pub shuffled : List Description → Ssa → List Pack → Operand → List ℕ → Recipe
 shuffled ds ssa plan o [] = recipe.Inserts
 shuffled ds ssa plan o (d ∷ numbers) =
     let least = first_least (λ n. (description_in ds n).cost) d numbers in
@@ -79,22 +79,22 @@ shuffled ds ssa plan o (d ∷ numbers) =
 
 -- The recipe of an operand, the first of these that there is: the register of the first pack that
 -- holds it, the constants where it wants no value, the shuffle of least cost, inserts.
-abbrev pub recipe_of : List Description → Ssa → List Packed → Operand → Recipe
+abbrev pub recipe_of : List Description → Ssa → List Pack → Operand → Recipe
 recipe_of ds ssa plan o =
     if list_any (λ p. holds ds ssa p o) plan then recipe.Reuse (holder ds ssa plan o)
     else if is_constant o then recipe.Constant (constant_bytes o)
     else shuffled ds ssa plan o (ready_from ds ssa plan o 0 ds)
 
 -- the recipes of the operands of packs, in the order in which the packs take them
-abbrev pub recipes_of : List Description → List Match → Ssa → List Packed → List Recipe
+abbrev pub recipes_of : List Description → List Match → Ssa → List Pack → List Recipe
 recipes_of ds matches ssa packs = map (recipe_of ds ssa packs) (operands_in ds matches ssa packs)
 
 -- ---- what is emitted by them
 
 -- what the lines of a plan are emitted from
-abbrev pub planned_job : List Description → List Match → Ssa → List Packed → Job
+abbrev pub planned_job : List Description → List Match → Ssa → List Pack → Job
 planned_job ds matches ssa plan = job_of ds matches ssa plan (recipes_of ds matches ssa plan)
 
-abbrev pub planned_program : List Description → List Match → Ssa → List Packed → List Node → Program
+abbrev pub planned_program : List Description → List Match → Ssa → List Pack → List Node → Program
 planned_program ds matches ssa plan order =
     program_of ds matches ssa plan (recipes_of ds matches ssa plan) order

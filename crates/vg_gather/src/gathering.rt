@@ -9,8 +9,8 @@ use crate::shuffling::{cheapest_shuffle, holder, shuffled_packs};
 use std::alloc::{AllocError, Global};
 use vg_base::Items;
 use vg_cost::recipes::is_reused;
-use vg_packing::Recipe;
-use vg_packing::wants::is_constant;
+use vg_kernel_plans::Recipe;
+use vg_kernel_plans::wants::is_constant;
 use vg_shapes::{Description, Operand, Pack, Plan, Ssa};
 
 /// The recipe of an operand that is a shuffle, or else inserts.

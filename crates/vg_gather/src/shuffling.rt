@@ -4,15 +4,15 @@ ghost use Rattle.std.specs.Prelude.{◌≡◌, IfOk, None, length, map, nat_eq, 
 ghost use Rattle.std.specs.List.{list_any};
 ghost use Rattle.vg_gather.specs.Cheapest.{cheaper, cheapest};
 ghost use Rattle.vg_gather.specs.Recipes.{can_be_had, description_in, holder, packs_from, packs_of, part, ready_from, spare};
-ghost use Rattle.vg_packing.specs.Shuffles.{shuffle_of};
+ghost use Rattle.vg_kernel_plans.specs.Shuffles.{shuffle_of};
 ghost use Rattle.vg_shapes.specs.Description.{description_of};
 
 use std::alloc::{AllocError, Global};
 use vg_base::Items;
 use vg_cost::recipes::are_reused;
 use vg_cost::shuffle::{moved_slots, own_slots, parts_of, shuffle_of};
-use vg_packing::held::holds;
-use vg_packing::wants::wanted_slots;
+use vg_kernel_plans::held::holds;
+use vg_kernel_plans::wants::wanted_slots;
 use vg_shapes::{Description, Operand, Pack, Slot, Ssa};
 
 /// An index of at most 32 bits, or want of memory.
@@ -222,7 +222,8 @@ pub fn shuffled_packs(
     number: u32,
 ) -> Result<Vec<u32>, AllocError>
     ensures { IfOk result (λ taken. taken.items ≡ packs_of (map description_of descriptions.now)
-        ssa.now packs.now operand.now (description_in (map description_of descriptions.now) number)) }
+        ssa.now packs.now operand.now (description_in (map description_of descriptions.now)
+        number)) }
 {
     match descriptions.get(number as usize) {
         Some(found) => packs_of(alloc, descriptions, ssa, packs, operand, found),

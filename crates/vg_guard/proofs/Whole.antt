@@ -8,7 +8,7 @@ use Rattle.vg_catalog.specs.Entries.{Entry}
 use Rattle.vg_compile.specs.Compiled.{IsCompiled}
 use Rattle.vg_compile.specs.Means.{kind_of, param_of, integer_bits, widths, IsInput, Means}
 use Rattle.vg_emit_laws.proofs.Lines.{program-lines}
-use Rattle.vg_instances.specs.Proper.{AreProper, IsProper}
+use Rattle.vg_descriptions.specs.Proper.{AreProper, IsProper}
 use Rattle.vg_kernel.specs.Cost.{scalar_cost, statement_cost, uses_of}
 use Rattle.vg_kernel.specs.declared.parameter.KParam.{KParam}
 use Rattle.vg_kernel.specs.declared.parameter.KParamKind.{KParamKind}

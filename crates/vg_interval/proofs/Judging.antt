@@ -20,7 +20,7 @@ use Rattle.vg_interval.specs.declared.span.Span.{Span}
 use Rattle.vg_interval.specs.declared.fault.RangeFault.{RangeFault}
 use Rattle.vg_interval.specs.Interval.{hull}
 use Rattle.vg_interval.specs.Found.{Found, within, Operand, fixed, moving, span_of, word_of, plain, operand, condition, Passed, passed}
-use Rattle.vg_interval.specs.Judge.{Kept, constant, varying, Count, step, Walk, Sight, bits_between, bits_of_element, slice_found, Index, settled, unsettled, index_of, moving_slice, slice_at, element_at, unary_at, variable_found, spot_of, no_walk, Judges, branch, chosen, judge, judge_all}
+use Rattle.vg_interval.specs.Judge.{KnownNumber, constant, varying, Count, step, Walk, Sight, bits_between, bits_of_element, slice_found, Index, settled, unsettled, index_of, moving_slice, slice_at, element_at, unary_at, variable_found, spot_of, no_walk, Judges, branch, chosen, judge, judge_all}
 use Rattle.vg_interval.specs.Judge as judging
 use Rattle.vg_names.specs.Proper.{AllSmall}
 use Rattle.vg_interval.proofs.Intervals.{In, Fits, EndsFit, hull-left, hull-right, hull_fits}
@@ -30,11 +30,11 @@ use Rattle.vg_interval.proofs.Operators.{IsPlace, between-ok, element-ok, slice_
 
 -- ---- what holds where an expression is judged
 
-abbrev pub Keeps : Kept → ℤ → Type 0
+abbrev pub Keeps : KnownNumber → ℤ → Type 0
 Keeps (constant y) z = (z ≡ y) × Fits z
 Keeps (varying i) z = In i z × EndsFit i
 
-abbrev pub AllKeep : List Kept → List ℤ → Type 0
+abbrev pub AllKeep : List KnownNumber → List ℤ → Type 0
 AllKeep [] [] = Unit {0}
 AllKeep (k ∷ ks) (z ∷ zs) = Keeps k z × AllKeep ks zs
 AllKeep _ _ = ⊥
@@ -51,7 +51,7 @@ CallAgrees w f =
     → (n m : Count) (g : Found) → w s ps n ≡ Ok (g, m) → Made ws c g (f ns)
 
 -- what is known where a body is walked covers where its run stands
-pub record Knows (s : Sight) (ks : List Kept) (v : meaning.Sight) : Type 0 where
+pub record Knows (s : Sight) (ks : List KnownNumber) (v : meaning.Sight) : Type 0 where
   pub cells : AreCells s.widths (cells v.state)
   pub small : AllSmall s.widths
   pub numbers : AllKeep ks v.state.numbers
@@ -64,7 +64,7 @@ small_at [] r h = omega arith
 small_at (w ∷ ws) zero h = h.0
 small_at (w ∷ ws) (suc r) h = small_at ws r h.1
 
-keeps_at : (ks : List Kept) (zs : List ℤ) (k : ℕ) → AllKeep ks zs → Keeps (get_or ks k (constant (pos 0))) (get_or zs k (pos 0))
+keeps_at : (ks : List KnownNumber) (zs : List ℤ) (k : ℕ) → AllKeep ks zs → Keeps (get_or ks k (constant (pos 0))) (get_or zs k (pos 0))
 keeps_at [] [] k h = (refl, record { small = lit< tt })
 keeps_at [] (z ∷ zs) k h = absurd h
 keeps_at (r ∷ ks) [] k h = absurd h
@@ -76,7 +76,7 @@ variable_at [] k = refl
 variable_at (z ∷ zs) zero = refl
 variable_at (z ∷ zs) (suc k) = variable_at zs k
 
-variable-covers : (ws : List ℕ) (s : State) (k : ℕ) (r : Kept) → Keeps r (get_or s.numbers k (pos 0)) → Made ws (cells s) (variable_found k r) (get_or s.numbers k (pos 0))
+variable-covers : (ws : List ℕ) (s : State) (k : ℕ) (r : KnownNumber) → Keeps r (get_or s.numbers k (pos 0)) → Made ws (cells s) (variable_found k r) (get_or s.numbers k (pos 0))
 variable-covers ws s k (constant y) h = (h.0, refl)
 variable-covers ws s k (varying i) h =
     (record { inside = h.0; ends = h.1; stands = record { bits = variable_at s.numbers k; wide = refl; formed = tt } }, refl)
@@ -87,7 +87,7 @@ abbrev SliceAt : Sight → meaning.Sight → Bool → ℕ → ℕ → ℕ → Fo
 SliceAt s v g r low width f =
     Covers s.widths (cells v.state) f (read g (meaning.bits_from v.state r low width)) (Some (meaning.bits_from v.state r low width))
 
-settled-slice : (s : Sight) (ks : List Kept) (v : meaning.Sight) (g : Bool) (r : ℕ) (b : judging.Bits) (low width : ℕ) → Knows s ks v
+settled-slice : (s : Sight) (ks : List KnownNumber) (v : meaning.Sight) (g : Bool) (r : ℕ) (b : judging.Bits) (low width : ℕ) → Knows s ks v
     → low ≡ b.low → width ≡ b.width → 0 < b.width
     → SliceAt s v g r low width (slice_found g (get_or s.constants r None) r b)
 settled-slice s ks v g r b low width h p q some =
@@ -96,7 +96,7 @@ settled-slice s ks v g r b low width h p q some =
     subst (λ m. SliceAt s v g r m width (slice_found g (get_or s.constants r None) r b)) (sym p)
     (subst (λ m. SliceAt s v g r b.low m (slice_found g (get_or s.constants r None) r b)) (sym q) t)
 
-element-covers : (s : Sight) (ks : List Kept) (v : meaning.Sight) (place : Place) (g : Bool) (r size : ℕ) (k : ℤ) (i : Index) (n m : Count) (f : Found)
+element-covers : (s : Sight) (ks : List KnownNumber) (v : meaning.Sight) (place : Place) (g : Bool) (r size : ℕ) (k : ℤ) (i : Index) (n m : Count) (f : Found)
     → Knows s ks v → IndexIs s.widths (cells v.state) i k → element_at s place g r size i n ≡ Ok (f, m)
     → SliceAt s v g r (natural k * size) size f
 element-covers s ks v place g r size k (settled y) n m f h e p =
@@ -117,7 +117,7 @@ spread-width low n b all q = sym q.width ∙ counted low n
         let e : ((low +ℤ pos n) +ℤ negative low) +ℤ pos 1 ≡ pos (n + 1) = omega (arith, ints) in
         ap natural e
 
-slice-covers : (s : Sight) (ks : List Kept) (v : meaning.Sight) (place : Place) (g : Bool) (r : ℕ) (k : Option ℕ) (y z : ℤ) (i j : Index) (n m : Count) (f : Found)
+slice-covers : (s : Sight) (ks : List KnownNumber) (v : meaning.Sight) (place : Place) (g : Bool) (r : ℕ) (k : Option ℕ) (y z : ℤ) (i j : Index) (n m : Count) (f : Found)
     → Knows s ks v → IndexIs s.widths (cells v.state) i y → IndexIs s.widths (cells v.state) j z → slice_at s place g r k i j n ≡ Ok (f, m)
     → SliceAt s v g r (natural z) (meaning.slice_width k z y) f
 slice-covers s ks v place g r (Some k) y z i (settled low) n m f h d e p =
@@ -233,7 +233,7 @@ same_passed : {a b : Passeds} → passed_ok a ≡ passed_ok b → a ≡ b
 same_passed e = cc
 
 mutual
-  pub judge-covers : (e : Expr) (s : Sight) (ks : List Kept) (v : meaning.Sight) (n m : Count) (f : Found) → Knows s ks v
+  pub judge-covers : (e : Expr) (s : Sight) (ks : List KnownNumber) (v : meaning.Sight) (n m : Count) (f : Found) → Knows s ks v
       → judge s ks e n ≡ Ok (f, m) → Covers s.widths (cells v.state) f (value v e) (bits_in v e)
   judge-covers (literal p k) s ks v n m f h e =
       subst (λ w. Made s.widths (cells v.state) w (pos k)) (ap (λ q. q.0) (same_pair e)) (refl, refl)
@@ -284,7 +284,7 @@ mutual
       let g = bind_ok (judge_all s ks xs d.0) _ d.2 in
       h.calls k s.widths (cells v.state) h.cells.bits p g.0.0 (numbers_handed v xs) (all-passed xs s ks v d.0 g.0.1 g.0.0 h g.1) g.0.1 m f g.2
 
-  pub all-passed : (xs : Arguments) (s : Sight) (ks : List Kept) (v : meaning.Sight) (n m : Count) (ps : List Passed) → Knows s ks v
+  pub all-passed : (xs : Arguments) (s : Sight) (ks : List KnownNumber) (v : meaning.Sight) (n m : Count) (ps : List Passed) → Knows s ks v
       → judge_all s ks xs n ≡ Ok (ps, m) → PassedAll s.widths (cells v.state) ps (numbers_handed v xs)
   all-passed end s ks v n m ps h e =
       subst (λ w. PassedAll s.widths (cells v.state) w []) (ap (λ q. q.0) (same_passed e)) tt

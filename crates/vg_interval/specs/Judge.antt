@@ -26,9 +26,9 @@ use Rattle.vg_interval.specs.Words.{number, low_extended, unary_word, binary_wor
 use Rattle.vg_interval.specs.Found.{Found, known, read, bit, within, loose, Operand, fixed, moving, span_of, word_of, plain, slice_word, or_too_wide, operand, condition, Passed, passed}
 
 -- what is known of a number variable: a constant, or an interval
-pub data Kept : Type 0 where
-  constant : ℤ → Kept
-  varying : Span → Kept
+pub data KnownNumber : Type 0 where
+  constant : ℤ → KnownNumber
+  varying : Span → KnownNumber
 
 -- how many assignments, turns and calls there were, and whether a slice or a shift depended on data
 pub record Count : Type 0 where
@@ -249,7 +249,7 @@ abbrev pub binary_at : Spot → BinaryOp → Spot → Operand → Operand → Co
 binary_at s op t a b c =
     if is_shift op then shift_at s op t a b c else (joined s op a b >>= λ f. Ok (f, c))
 
-abbrev pub variable_found : ℕ → Kept → Found
+abbrev pub variable_found : ℕ → KnownNumber → Found
 variable_found k (constant z) = known z None
 variable_found k (varying i) = within i (script.variable k)
 
@@ -297,7 +297,7 @@ chosen s first t second f (moving i w) c = do
 
 -- given what is known of the number variables
 abbrev mutual
-  pub judge : Sight → List Kept → Expr → Count → Result (Found × Count) RangeFault
+  pub judge : Sight → List KnownNumber → Expr → Count → Result (Found × Count) RangeFault
   judge s ks (literal p n) c = Ok (known (pos n) None, c)
   judge s ks (counter p k) c = Ok (known (get_or s.turns k (pos 0)) None, c)
   judge s ks (variable p k) c = Ok (variable_found k (get_or ks k (constant (pos 0))), c)
@@ -333,7 +333,7 @@ abbrev mutual
     given ← judge_all s ks xs d
     get_or s.walks f no_walk p given.0 given.1
 
-  pub judge_all : Sight → List Kept → Arguments → Count → Result (List Passed × Count) RangeFault
+  pub judge_all : Sight → List KnownNumber → Arguments → Count → Result (List Passed × Count) RangeFault
   judge_all s ks end c = Ok ([], c)
   judge_all s ks (more x xs) c = do
     f ← judge s ks x c

@@ -16,7 +16,7 @@ use Rattle.vg_interval.specs.Interval.{binary_span, hull}
 use Rattle.vg_interval.specs.Words.{binary_word, comparison}
 use Rattle.vg_interval.specs.Found.{Found, known, read, handed, bit, within, wide, loose, Operand, fixed, moving, span_of, operand, condition, Passed, computed, bits}
 use Rattle.vg_interval.specs.Found as found
-use Rattle.vg_interval.specs.Judge.{Kept, constant, varying, Count, Bits, Index, settled, unsettled, Sight, is_comparison, result_within, unary_of}
+use Rattle.vg_interval.specs.Judge.{KnownNumber, constant, varying, Count, Bits, Index, settled, unsettled, Sight, is_comparison, result_within, unary_of}
 use Rattle.vg_interval.specs.declared.found.Found as in_memory
 use Rattle.vg_interval.specs.declared.found.Found.TheVariants as f
 use Rattle.vg_interval.specs.declared.found.Operand as operands
@@ -27,8 +27,8 @@ use Rattle.vg_interval.specs.declared.found.Condition as conditions
 use Rattle.vg_interval.specs.declared.found.Condition.TheVariants as t
 use Rattle.vg_interval.specs.declared.judged.Index as indices
 use Rattle.vg_interval.specs.declared.judged.Index.TheVariants as i
-use Rattle.vg_interval.specs.declared.judged.Kept as keeping
-use Rattle.vg_interval.specs.declared.judged.Kept.TheVariants as k
+use Rattle.vg_interval.specs.declared.judged.KnownNumber as keeping
+use Rattle.vg_interval.specs.declared.judged.KnownNumber.TheVariants as k
 use Rattle.vg_interval.specs.declared.judged.Count as counting
 use Rattle.vg_interval.specs.declared.judged.Bits as slices
 
@@ -74,7 +74,7 @@ abbrev pub index_view : indices.Index → Index
 index_view (i.Settled n) = settled (number_of n)
 index_view (i.Unsettled a) = unsettled (option_map operand_view a)
 
-abbrev pub kept_view : keeping.Kept → Kept
+abbrev pub kept_view : keeping.KnownNumber → KnownNumber
 kept_view (k.Constant z) = constant z
 kept_view (k.Varying j) = varying j
 

@@ -67,7 +67,8 @@ pub fn binary_result(op: BinaryOp, x: i128, y: i128) -> Option<i128>
 
 /// What is known of a constant result. TooWide where it does not fit.
 pub fn known(spot: Spot, number: Option<i128>) -> Result<Found, RangeFault>
-    ensures { Gives found_view result (or_too_wide spot.inner (option_map (λ y. known y None) number)) }
+    ensures { Gives found_view result (or_too_wide spot.inner (option_map (λ y. known y None)
+        number)) }
 {
     match number {
         Some(number) => Ok(Found::Known {

@@ -45,7 +45,8 @@ pub fn compared(
     first: Operand,
     second: Operand,
 ) -> Result<Found, AllocError>
-    ensures { IfOk result (λ f. found_view f ≡ bit (comparison op (word_of (operand_view first)) (word_of (operand_view second)))) }
+    ensures { IfOk result (λ f. found_view f ≡ bit (comparison op (word_of (operand_view first))
+        (word_of (operand_view second)))) }
 {
     let word = comparison(alloc, op, first.into_word(), second.into_word())?;
     Ok(Found::Bit { word })

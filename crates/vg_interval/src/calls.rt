@@ -8,7 +8,7 @@ ghost use Rattle.vg_script.specs.Views.{frame_of, low_of};
 
 use crate::fault::RangeFault;
 use crate::found::{Found, Passed};
-use crate::judged::Kept;
+use crate::judged::KnownNumber;
 use crate::operands::handed_word;
 use crate::spans::{slice_span, unsigned_span};
 use crate::whole_numbers::{low_part, low_word, whole};
@@ -65,7 +65,8 @@ fn handed_on(
     low: Low,
     width: u128,
 ) -> Result<Found, RangeFault>
-    ensures { Gives found_view result (answered spot (frame_of outer) (handed (frame_of frame) register (low_of low) width)) }
+    ensures { Gives found_view result (answered spot (frame_of outer) (handed (frame_of frame)
+        register (low_of low) width)) }
 {
     let answer = handed_word(alloc, frame, register, low, width)?;
     let word = make_block(alloc, outer, answer)?;
@@ -129,14 +130,14 @@ pub fn answered(alloc: Global, spot: Spot, frame: Frame, found: Found) -> Result
 }
 
 /// What is known of a number variable where it is read.
-pub fn variable_found(variable: usize, kept: Kept) -> Found
+pub fn variable_found(variable: usize, kept: KnownNumber) -> Found
     ensures { found_view result ≡ variable_found variable (kept_view kept) }
 {
     match kept {
-        Kept::Constant(number) => Found::Known {
+        KnownNumber::Constant(number) => Found::Known {
             number: whole(number),
         },
-        Kept::Varying(span) => Found::Within {
+        KnownNumber::Varying(span) => Found::Within {
             span,
             word: Word::Variable { variable },
         },

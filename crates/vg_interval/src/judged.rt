@@ -15,7 +15,7 @@ pub enum Index {
 
 /// What is known of a number variable.
 #[derive(Clone, Copy, Drop)]
-pub enum Kept {
+pub enum KnownNumber {
     Constant(i128),
     Varying(Span),
 }

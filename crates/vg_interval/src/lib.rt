@@ -28,5 +28,5 @@ pub mod word_builders;
 
 pub use fault::RangeFault;
 pub use found::{Condition, Found, Operand, Passed};
-pub use judged::{Bits, Count, Index, Kept};
+pub use judged::{Bits, Count, Index, KnownNumber};
 pub use span::Span;

@@ -81,7 +81,8 @@ pub fn moving_slice(
     width: u128,
     operand: Option<Operand>,
 ) -> Result<Found, RangeFault>
-    ensures { Gives found_view result (moving_slice place all is_signed register size width (option_map operand_view operand)) }
+    ensures { Gives found_view result (moving_slice place all is_signed register size width
+        (option_map operand_view operand)) }
 {
     let Some(operand) = operand else {
         return Err(RangeFault::IndexOutside { place });
@@ -103,7 +104,8 @@ pub fn moving_slice(
 }
 
 fn bits_from(place: Place, all: u128, low: WholeNumber, more: u128) -> Result<Bits, RangeFault>
-    ensures { Gives bits_view result (bits_between place all (number_of low +ℤ pos more) (number_of low)) }
+    ensures { Gives bits_view result (bits_between place all (number_of low +ℤ pos more) (number_of
+        low)) }
 {
     match low {
         WholeNumber::Natural(first) => match first.checked_add(more) {
@@ -157,8 +159,9 @@ pub fn slice_at(
     low: Index,
     count: Count,
 ) -> Result<(Found, Count), RangeFault>
-    ensures { Gives (λ f. (found_view f.0, count_view f.1)) result
-        (slice_at (seen widths.now constants.now) place is_signed register spread (index_view high) (index_view low) (count_view count)) }
+    ensures { Gives (λ f. (found_view f.0, count_view f.1)) result (slice_at (seen widths.now
+        constants.now) place is_signed register spread (index_view high) (index_view low)
+        (count_view count)) }
 {
     let all = width_at(widths, register);
     let bits = match (spread, high, low) {
@@ -191,8 +194,8 @@ pub fn element_at(
     index: Index,
     count: Count,
 ) -> Result<(Found, Count), RangeFault>
-    ensures { Gives (λ f. (found_view f.0, count_view f.1)) result
-        (element_at (seen widths.now constants.now) place is_signed register size (index_view index) (count_view count)) }
+    ensures { Gives (λ f. (found_view f.0, count_view f.1)) result (element_at (seen widths.now
+        constants.now) place is_signed register size (index_view index) (count_view count)) }
 {
     let all = width_at(widths, register);
     match index {

@@ -85,7 +85,8 @@ pub fn handed_word(
     low: Low,
     width: u128,
 ) -> Result<Word, AllocError>
-    ensures { IfOk result (λ w. view_of_word w ≡ handed_word (frame_of frame) register (low_of low) width) }
+    ensures { IfOk result (λ w. view_of_word w ≡ handed_word (frame_of frame) register (low_of low)
+        width) }
 {
     if width < 128 {
         let answer = slice_word(alloc, false, register, low, width)?;
@@ -105,7 +106,8 @@ pub fn handed_word(
 
 #[tactic(auto, unfolding(crate::specs::Interval::fit))]
 fn fixed(place: Place, number: WholeNumber) -> Result<Operand, RangeFault>
-    ensures { Gives operand_view result (if is_small (number_of number) then Ok (found.fixed (number_of number)) else Err (TooWide place)) }
+    ensures { Gives operand_view result (if is_small (number_of number) then Ok (found.fixed
+        (number_of number)) else Err (TooWide place)) }
 {
     match small(number) {
         Some(z) => Ok(Operand::Fixed(z)),
@@ -142,9 +144,9 @@ fn handed(
     low: Low,
     width: u128,
 ) -> Result<Operand, RangeFault>
-    ensures { Gives operand_view result (found.or_too_wide place
-        (option_map_or (λ i. Some (moving i (handed_word (frame_of frame) register (low_of low) width)))
-        (slice_span false width) None)) }
+    ensures { Gives operand_view result (found.or_too_wide place (option_map_or (λ i. Some (moving i
+        (handed_word (frame_of frame) register (low_of low) width))) (slice_span false width)
+        None)) }
 {
     match slice_span(false, width) {
         Some(span) => {
@@ -217,7 +219,8 @@ pub fn either(
     first: Operand,
     second: Operand,
 ) -> Result<Found, AllocError>
-    ensures { IfOk result (λ f. found_view f ≡ either (view_of_word condition) (operand_view first) (operand_view second)) }
+    ensures { IfOk result (λ f. found_view f ≡ either (view_of_word condition) (operand_view first)
+        (operand_view second)) }
 {
     let span = hull(first.span(), second.span());
     let word = make_sel(alloc, 128, condition, first.into_word(), second.into_word())?;

@@ -26,7 +26,8 @@ pub fn shifted_along(
     first: Operand,
     second: Operand,
 ) -> Result<Found, AllocError>
-    ensures { IfOk result (λ f. found_view f ≡ shifted_along op (operand_view first) (operand_view second)) }
+    ensures { IfOk result (λ f. found_view f ≡ shifted_along op (operand_view first) (operand_view
+        second)) }
 {
     let i = first.span();
     let j = second.span();

@@ -69,7 +69,8 @@ pub fn bits_between(
 }
 
 fn lane(all: u128, size: u128, index: u128) -> Option<Bits>
-    ensures { option_map bits_view result ≡ (if nat_lt 0 size && nat_le (index * size + size) all then Some (record { low = index * size; width = size }) else None) }
+    ensures { option_map bits_view result ≡ (if nat_lt 0 size && nat_le (index * size + size) all
+        then Some (record { low = index * size; width = size }) else None) }
 {
     if size == 0 {
         return None;
@@ -128,7 +129,8 @@ fn behind(n: u128, low: u128) -> u128
 }
 
 fn unsettled(alloc: Global, spot: Spot, found: Found) -> Result<Index, AllocError>
-    ensures { IfOk result (λ i. index_view i ≡ unsettled (ok_of (operand spot (found_view found)))) }
+    ensures { IfOk result (λ i. index_view i ≡ unsettled (ok_of (operand spot (found_view
+        found)))) }
 {
     match operand(alloc, spot, found) {
         Ok(operand) => Ok(Index::Unsettled(Some(operand))),

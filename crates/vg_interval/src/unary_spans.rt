@@ -61,7 +61,11 @@ pub fn clamped(least: i128, greatest: i128, number: i128) -> i128
 }
 
 fn held(i: Span, by: Span) -> Span
-    ensures { result ≡ record { least = clamped by.least by.greatest i.least; greatest = clamped by.least by.greatest i.greatest } }
+    ensures { result ≡ record {
+      least = clamped by.least by.greatest i.least;
+      greatest = clamped
+          by.least by.greatest i.greatest;
+    } }
 {
     between(
         clamped(by.least, by.greatest, i.least),

@@ -48,7 +48,8 @@ pub fn unary_of(
 
 fn cut(alloc: Global, is_signed: bool, width: u32, word: Word) -> Result<Found, RangeFault>
     requires { width ≤ 64 }
-    ensures { Gives found_view result (Ok (within (if is_signed then signed_span width else unsigned_span width) (low_extended is_signed width (word_of word)))) }
+    ensures { Gives found_view result (Ok (within (if is_signed then signed_span width else
+        unsigned_span width) (low_extended is_signed width (word_of word)))) }
 {
     let span = if is_signed {
         signed_span(width)
@@ -87,7 +88,8 @@ fn extended_constant(
     width: u128,
     bits: u128,
 ) -> Result<Found, RangeFault>
-    ensures { Gives found_view result (if nat_le width to then Ok (known (slice_number is_signed width (bits % 2 ^ width)) None) else Err (BadExtend spot.inner)) }
+    ensures { Gives found_view result (if nat_le width to then Ok (known (slice_number is_signed
+        width (bits % 2 ^ width)) None) else Err (BadExtend spot.inner)) }
 {
     if width <= to as u128 {
         Ok(Found::Known {
@@ -108,7 +110,8 @@ fn of_constant(
     bits: u128,
     width: u128,
 ) -> Result<Found, RangeFault>
-    ensures { Gives found_view result (unary_at spot op inner (known (slice_number is_signed width (bits % 2 ^ width)) (Some width))) }
+    ensures { Gives found_view result (unary_at spot op inner (known (slice_number is_signed width
+        (bits % 2 ^ width)) (Some width))) }
 {
     let number = match small(slice_number(is_signed, width, bits)) {
         Some(number) => number,
@@ -134,7 +137,8 @@ fn read_again(
 ) -> Result<Found, RangeFault>
     requires signed { width ≤ 128 }
     requires unsigned { is_signed ≡ false → width ≤ 127 }
-    ensures { Gives found_view result (Ok (within (if is_signed then signed_span width else unsigned_span width) (slice_word is_signed register (low_of low) width))) }
+    ensures { Gives found_view result (Ok (within (if is_signed then signed_span width else
+        unsigned_span width) (slice_word is_signed register (low_of low) width))) }
 {
     let span = if is_signed {
         signed_span(width as u32)
@@ -157,7 +161,9 @@ fn extended_slice(
     width: u128,
 ) -> Result<Found, RangeFault>
     requires { to ≤ 64 }
-    ensures { Gives found_view result (if nat_le width to then Ok (within (if is_signed then signed_span width else unsigned_span width) (slice_word is_signed register (low_of low) width)) else Err (BadExtend spot.inner)) }
+    ensures { Gives found_view result (if nat_le width to then Ok (within (if is_signed then
+        signed_span width else unsigned_span width) (slice_word is_signed register (low_of low)
+        width)) else Err (BadExtend spot.inner)) }
 {
     if width <= to as u128 {
         read_again(alloc, is_signed, register, low, width)
@@ -177,7 +183,8 @@ fn of_moving_slice(
     width: u128,
 ) -> Result<Found, RangeFault>
     requires { width ≤ 128 }
-    ensures { Gives found_view result (unary_of spot op (moving span (slice_word is_signed register (low_of low) width))) }
+    ensures { Gives found_view result (unary_of spot op (moving span (slice_word is_signed register
+        (low_of low) width))) }
 {
     let word = slice_word(alloc, is_signed, register, low, width)?;
     unary_of(alloc, spot, op, Operand::Moving { span, word })
@@ -195,8 +202,8 @@ fn of_small_slice(
     width: u128,
 ) -> Result<Found, RangeFault>
     requires { width ≤ 128 }
-    ensures { Gives found_view result (unary_found spot op (read is_signed register (low_of low) width) (Some width)
-        (moving span (slice_word is_signed register (low_of low) width))) }
+    ensures { Gives found_view result (unary_found spot op (read is_signed register (low_of low)
+        width) (Some width) (moving span (slice_word is_signed register (low_of low) width))) }
 {
     match op {
         UnaryOp::Signed => read_again(alloc, true, register, low, width),
@@ -220,7 +227,8 @@ fn of_slice(
     low: Low,
     width: u128,
 ) -> Result<Found, RangeFault>
-    ensures { Gives found_view result (unary_at spot op inner (read is_signed register (low_of low) width)) }
+    ensures { Gives found_view result (unary_at spot op inner (read is_signed register (low_of low)
+        width)) }
 {
     match slice_span(is_signed, width) {
         Some(span) => of_small_slice(alloc, spot, op, span, is_signed, register, low, width),

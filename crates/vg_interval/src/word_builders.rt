@@ -50,7 +50,8 @@ pub fn low_extended(alloc: Global, is_signed: bool, width: u32, x: Word) -> Resu
 }
 
 fn clamped_word(alloc: Global, span: Span, x: Word) -> Result<Word, AllocError>
-    ensures { IfOk result (λ word. word_of word ≡ clamped_word span.least span.greatest (word_of x)) }
+    ensures { IfOk result (λ word. word_of word ≡ clamped_word span.least span.greatest (word_of
+        x)) }
 {
     let above = make_two(alloc, TwoOp::Smax, 128, x, number(span.least))?;
     make_two(alloc, TwoOp::Smin, 128, above, number(span.greatest))
@@ -101,14 +102,16 @@ pub fn comparison(alloc: Global, op: BinaryOp, x: Word, y: Word) -> Result<Word,
 }
 
 fn difference(alloc: Global, x: Word, y: Word) -> Result<Word, AllocError>
-    ensures { IfOk result (λ word. word_of word ≡ script.two terms.Add 128 (word_of x) (script.two terms.Mul 128 (word_of y) (number (negsuc 0)))) }
+    ensures { IfOk result (λ word. word_of word ≡ script.two terms.Add 128 (word_of x) (script.two
+        terms.Mul 128 (word_of y) (number (negsuc 0)))) }
 {
     let negative = make_two(alloc, TwoOp::Mul, 128, y, number(-1))?;
     make_two(alloc, TwoOp::Add, 128, x, negative)
 }
 
 fn truth(alloc: Global, op: BinaryOp, x: Word, y: Word) -> Result<Word, AllocError>
-    ensures { IfOk result (λ word. word_of word ≡ extended false 1 (comparison op (word_of x) (word_of y))) }
+    ensures { IfOk result (λ word. word_of word ≡ extended false 1 (comparison op (word_of x)
+        (word_of y))) }
 {
     let bit = comparison(alloc, op, x, y)?;
     extended(alloc, false, 1, bit)

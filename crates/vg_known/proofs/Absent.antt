@@ -8,7 +8,7 @@ use Rattle.vg_base.specs.Trap.{◌>>=◌}
 use Rattle.vg_program.specs.declared.program.Program.{Program}
 use Rattle.vg_shapes.specs.declared.access.Access.{Access}
 use Rattle.vg_shapes.specs.declared.ssa.Ssa.{Ssa}
-use Rattle.vg_shapes.specs.declared.unit.Unit.{Unit as Work}
+use Rattle.vg_shapes.specs.declared.ssa_unit.SsaUnit.{SsaUnit}
 use Rattle.vg_shapes.specs.Depends.{conflict_at, conflict_of}
 use Rattle.vg_shapes.specs.Layout.{access_at, access_of, noalias_flags}
 use Rattle.vg_shapes.specs.Order.{numbers_from, one_if, Stands}
@@ -130,14 +130,14 @@ row-none P first (suc n) v w h low less high =
 -- only units access something
 unit-inside : (ssa : Ssa) (v : ℕ) (x : Access) → access_at ssa v ≡ Some x → (arguments ssa ≤ v) × (v < arguments ssa + length ssa.units)
 unit-inside ssa v x e = elim (cases_lt v (arguments ssa)) [
-  | inl less ↦ absurd (let none : access_at ssa v ≡ None = ap (λ (u : Option Work). u >>= access_of) (cond-true _ _ _ (lt-ltb v (arguments ssa) less)) in let both : None ≡ Some x = sym none ∙ e in cc)
+  | inl less ↦ absurd (let none : access_at ssa v ≡ None = ap (λ (u : Option SsaUnit). u >>= access_of) (cond-true _ _ _ (lt-ltb v (arguments ssa) less)) in let both : None ≡ Some x = sym none ∙ e in cc)
   | inr above ↦
-      let got : (slice_get ssa.units (v - arguments ssa) >>= access_of) ≡ Some x = sym (ap (λ (u : Option Work). u >>= access_of) (cond-false _ _ _ (le-ltb v (arguments ssa) above))) ∙ e in
+      let got : (slice_get ssa.units (v - arguments ssa) >>= access_of) ≡ Some x = sym (ap (λ (u : Option SsaUnit). u >>= access_of) (cond-false _ _ _ (le-ltb v (arguments ssa) above))) ∙ e in
       let inside = get-inside ssa.units (v - arguments ssa) x got in
       (above, omega arith)
 ]
   where
-    get-inside : (us : List Work) (k : ℕ) (x : Access) → (slice_get us k >>= access_of) ≡ Some x → k < length us
+    get-inside : (us : List SsaUnit) (k : ℕ) (x : Access) → (slice_get us k >>= access_of) ≡ Some x → k < length us
     get-inside [] k x h = absurd (cc)
     get-inside (u ∷ us) zero x h = omega arith
     get-inside (u ∷ us) (suc k) x h = let rest = get-inside us k x h in omega arith

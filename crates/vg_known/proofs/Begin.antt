@@ -16,11 +16,11 @@ use Rattle.vg_shapes.specs.declared.ssa.Ssa.{Ssa}
 use Rattle.vg_shapes.specs.declared.ssa.SsaParam.{SsaParam}
 use Rattle.vg_shapes.specs.declared.ssa.SsaParamKind.{SsaParamKind}
 use Rattle.vg_shapes.specs.declared.ssa.SsaParamKind.TheVariants.{Pointer, Integer}
-use Rattle.vg_shapes.specs.declared.unit.Operands.{Operands}
-use Rattle.vg_shapes.specs.declared.unit.Operator.{Operator}
-use Rattle.vg_shapes.specs.declared.unit.Operator.TheVariants.{Two, Shift, Resize as ToWidth, Compare, Select}
-use Rattle.vg_shapes.specs.declared.unit.Unit.{Unit as Work}
-use Rattle.vg_shapes.specs.declared.unit.Unit.TheVariants.{Load, Store, Operation}
+use Rattle.vg_shapes.specs.declared.ssa_unit.Operands.{Operands}
+use Rattle.vg_shapes.specs.declared.ssa_unit.Operator.{Operator}
+use Rattle.vg_shapes.specs.declared.ssa_unit.Operator.TheVariants.{Two, Shift, Resize as ToWidth, Compare, Select}
+use Rattle.vg_shapes.specs.declared.ssa_unit.SsaUnit.{SsaUnit}
+use Rattle.vg_shapes.specs.declared.ssa_unit.SsaUnit.TheVariants.{Load, Store, Operation}
 use Rattle.vg_shapes.specs.declared.wanted.Wanted.{Wanted}
 use Rattle.vg_shapes.specs.declared.wanted.Wanted.TheVariants.{Value, Constant, Nothing}
 use Rattle.vg_shapes.specs.Sound.{AreArguments, argument_key, IsBit, IsEarlier, IsNumber, IsOperation, IsUnit, kind_bits, pointers, TakeEarlier, TakesEarlier, unit_bits, value_bits}
@@ -94,10 +94,10 @@ arguments-long (p ∷ ps) (n ∷ ns) h = ap suc (arguments-long ps ns h.1)
 -- ---- widths of values
 
 -- of the values so far
-abbrev pub bits_behind : Ssa → List Work → List (Option ℕ)
+abbrev pub bits_behind : Ssa → List SsaUnit → List (Option ℕ)
 bits_behind ssa done = argument_bits (integers ssa) ++ map unit_bits done
 
-bits-long : (ssa : Ssa) (done : List Work) → length (bits_behind ssa done) ≡ arguments ssa + length done
+bits-long : (ssa : Ssa) (done : List SsaUnit) → length (bits_behind ssa done) ≡ arguments ssa + length done
 bits-long ssa done =
     length-append (argument_bits (integers ssa)) (map unit_bits done)
     ∙ (λ i. length-map (integers ssa) (λ p. Some (kind_bits p.kind)) i + length-map done unit_bits i)
@@ -107,12 +107,12 @@ argument-bit [] v w e = absurd (cc)
 argument-bit (p ∷ ps) zero w e = e
 argument-bit (p ∷ ps) (suc v) w e = argument-bit ps v w e
 
-unit-bit : (us more : List Work) (k w : ℕ) → k < length us → (slice_get (us ++ more) k >>= unit_bits) ≡ Some w → slice_index_or (map unit_bits us) k None ≡ Some w
+unit-bit : (us more : List SsaUnit) (k w : ℕ) → k < length us → (slice_get (us ++ more) k >>= unit_bits) ≡ Some w → slice_index_or (map unit_bits us) k None ≡ Some w
 unit-bit [] more k w less e = absurd (omega arith)
 unit-bit (u ∷ us) more zero w less e = e
 unit-bit (u ∷ us) more (suc k) w less e = unit-bit us more k w (omega arith) e
 
-value-bit : (ssa : Ssa) (done us : List Work) (v w : ℕ) → ssa.units ≡ done ++ us → v < arguments ssa + length done → value_bits ssa v ≡ Some w → slice_index_or (bits_behind ssa done) v None ≡ Some w
+value-bit : (ssa : Ssa) (done us : List SsaUnit) (v w : ℕ) → ssa.units ≡ done ++ us → v < arguments ssa + length done → value_bits ssa v ≡ Some w → slice_index_or (bits_behind ssa done) v None ≡ Some w
 value-bit ssa done us v w whole less e =
     let many : length (argument_bits (integers ssa)) ≡ arguments ssa = length-map (integers ssa) (λ p. Some (kind_bits p.kind)) in
     elim (cases_lt v (arguments ssa)) [
@@ -122,34 +122,34 @@ value-bit ssa done us v w whole less e =
       | inr later ↦
           let k = v - arguments ssa in
           let at : v ≡ length (argument_bits (integers ssa)) + k = omega arith in
-          let got : (slice_get ssa.units k >>= unit_bits) ≡ Some w = sym (cond-false _ _ _ (le-ltb v (arguments ssa) later) ∙ ap (λ (o : Option Work). o >>= unit_bits) (cond-false _ _ _ (le-ltb v (arguments ssa) later))) ∙ e in
+          let got : (slice_get ssa.units k >>= unit_bits) ≡ Some w = sym (cond-false _ _ _ (le-ltb v (arguments ssa) later) ∙ ap (λ (o : Option SsaUnit). o >>= unit_bits) (cond-false _ _ _ (le-ltb v (arguments ssa) later))) ∙ e in
           ap (λ j. slice_index_or (bits_behind ssa done) j None) at ∙ get_or-append-add (argument_bits (integers ssa)) (map unit_bits done) k None
           ∙ unit-bit done us k w (omega arith) (ap (λ l. slice_get l k >>= unit_bits) (sym whole) ∙ got)
     ]
 
-number-in : (ssa : Ssa) (done us : List Work) (w : Width) (x : Wanted) → ssa.units ≡ done ++ us → IsEarlier (arguments ssa + length done) x → IsNumber ssa w x → NumberIn (bits_behind ssa done) w x
+number-in : (ssa : Ssa) (done us : List SsaUnit) (w : Width) (x : Wanted) → ssa.units ≡ done ++ us → IsEarlier (arguments ssa + length done) x → IsNumber ssa w x → NumberIn (bits_behind ssa done) w x
 number-in ssa done us w (Value v) whole early h = value-bit ssa done us v (bits_of w) whole early h
 number-in ssa done us w (Constant m k) whole early h = h
 number-in ssa done us w Nothing whole early h = h
 
-bit-in : (ssa : Ssa) (done us : List Work) (x : Wanted) → ssa.units ≡ done ++ us → IsEarlier (arguments ssa + length done) x → IsBit ssa x → BitIn (bits_behind ssa done) x
+bit-in : (ssa : Ssa) (done us : List SsaUnit) (x : Wanted) → ssa.units ≡ done ++ us → IsEarlier (arguments ssa + length done) x → IsBit ssa x → BitIn (bits_behind ssa done) x
 bit-in ssa done us (Value v) whole early h = value-bit ssa done us v 1 whole early h
 bit-in ssa done us (Constant m k) whole early h = h
 bit-in ssa done us Nothing whole early h = h
 
-operation-in : (ssa : Ssa) (done us : List Work) (op : Operator) (w : Width) (k : ℕ) (xs : Operands) → ssa.units ≡ done ++ us → TakesEarlier (arguments ssa + length done) (Operation op w k xs) → IsOperation ssa op w k xs → OperationIn (bits_behind ssa done) op w k xs
+operation-in : (ssa : Ssa) (done us : List SsaUnit) (op : Operator) (w : Width) (k : ℕ) (xs : Operands) → ssa.units ≡ done ++ us → TakesEarlier (arguments ssa + length done) (Operation op w k xs) → IsOperation ssa op w k xs → OperationIn (bits_behind ssa done) op w k xs
 operation-in ssa done us (Two op) w k xs whole early h = (h.0, number-in ssa done us w xs.first whole early.0 h.1, number-in ssa done us w xs.second whole early.1 h.2, h.3)
 operation-in ssa done us (Shift op) w k xs whole early h = (h.0, number-in ssa done us w xs.first whole early.0 h.1, h.2, h.3)
 operation-in ssa done us (ToWidth op v) w k xs whole early h = (h.0, h.1, number-in ssa done us v xs.first whole early.0 h.2, h.3, h.4)
 operation-in ssa done us (Compare op) w k xs whole early h = (h.0, number-in ssa done us w xs.first whole early.0 h.1, number-in ssa done us w xs.second whole early.1 h.2, h.3)
 operation-in ssa done us Select w k xs whole early h = (h.0, bit-in ssa done us xs.first whole early.0 h.1, number-in ssa done us w xs.second whole early.1 h.2, number-in ssa done us w xs.third whole early.2 h.3)
 
-unit-in : (ssa : Ssa) (done us : List Work) (u : Work) → ssa.units ≡ done ++ us → TakesEarlier (arguments ssa + length done) u → IsUnit ssa u → UnitIn (length (pointers ssa)) (bits_behind ssa done) u
+unit-in : (ssa : Ssa) (done us : List SsaUnit) (u : SsaUnit) → ssa.units ≡ done ++ us → TakesEarlier (arguments ssa + length done) u → IsUnit ssa u → UnitIn (length (pointers ssa)) (bits_behind ssa done) u
 unit-in ssa done us (Load a w) whole early h = h
 unit-in ssa done us (Store a w x) whole early h = (h.0, number-in ssa done us w x whole early h.1)
 unit-in ssa done us (Operation op w k xs) whole early h = operation-in ssa done us op w k xs whole early h
 
-pub units-in : (ssa : Ssa) (done us : List Work) → ssa.units ≡ done ++ us → TakeEarlier (arguments ssa + length done) us → AllByRecursion (IsUnit ssa) us → UnitsIn (length (pointers ssa)) (bits_behind ssa done) us
+pub units-in : (ssa : Ssa) (done us : List SsaUnit) → ssa.units ≡ done ++ us → TakeEarlier (arguments ssa + length done) us → AllByRecursion (IsUnit ssa) us → UnitsIn (length (pointers ssa)) (bits_behind ssa done) us
 units-in ssa done [] whole early are = tt
 units-in ssa done (u ∷ us) whole early are =
     let next : bits_behind ssa (done ++ u ∷ []) ≡ bits_behind ssa done ++ unit_bits u ∷ [] = ap (λ l. argument_bits (integers ssa) ++ l) (map-append unit_bits done (u ∷ [])) ∙ sym (append_assoc (argument_bits (integers ssa)) (map unit_bits done) (unit_bits u ∷ [])) in

@@ -20,8 +20,8 @@ use Rattle.vg_bits.proofs.ByteLists.{length-bytes}
 use Rattle.vg_bits.proofs.Ranges.{length-replaced, range-replaced_beside}
 use Rattle.vg_shapes.specs.declared.access.Access.{Access}
 use Rattle.vg_shapes.specs.declared.ssa.Ssa.{Ssa}
-use Rattle.vg_shapes.specs.declared.unit.Unit.{Unit as Work}
-use Rattle.vg_shapes.specs.declared.unit.Unit.TheVariants.{Load, Store, Operation}
+use Rattle.vg_shapes.specs.declared.ssa_unit.SsaUnit.{SsaUnit}
+use Rattle.vg_shapes.specs.declared.ssa_unit.SsaUnit.TheVariants.{Load, Store, Operation}
 use Rattle.vg_shapes.specs.Depends.{conflict}
 use Rattle.vg_shapes.specs.Layout.{access_at, access_of, noalias_flags, Respects}
 use Rattle.vg_shapes.specs.RunUnits.{number_of, Reached, reached, result_of, run_units, unit_run}
@@ -69,7 +69,7 @@ neither : (a b : Bool) → not (a || b) ≡ true → (a ≡ false) × (not b ≡
 neither true b h = absurd (cc)
 neither false b h = (refl, h)
 
-quiet-parts : (flags : List Bool) (x : Access) (u : Work) (us : List Work) → are_quiet flags x (u ∷ us) ≡ true → ((y : Access) → access_of u ≡ Some y → conflict flags y x ≡ false) × (are_quiet flags x us ≡ true)
+quiet-parts : (flags : List Bool) (x : Access) (u : SsaUnit) (us : List SsaUnit) → are_quiet flags x (u ∷ us) ≡ true → ((y : Access) → access_of u ≡ Some y → conflict flags y x ≡ false) × (are_quiet flags x us ≡ true)
 quiet-parts flags x u us h = by (access_of u) refl h
   where
     by : (o : Option Access) → access_of u ≡ o → not (list_any (λ y. conflict flags y x) (cons_option o (filter_map access_of us))) ≡ true → ((y : Access) → access_of u ≡ Some y → conflict flags y x ≡ false) × (are_quiet flags x us ≡ true)
@@ -79,7 +79,7 @@ quiet-parts flags x u us h = by (access_of u) refl h
         (λ y f. (let same : z ≡ y = (let k : Some z ≡ Some y = sym e ∙ f in cc) in ap (λ q. conflict flags q x) (sym same) ∙ parts.0), parts.1)
 
 -- of a unit that does not conflict with a load
-unit-keeps : (ssa : Ssa) (places : List ℕ) (a : Address) (w : Width) (u : Work) (v x : ℕ) (r t : Reached) → Respects ssa places → access_at ssa x ≡ Some (read_of a w) → unit_at ssa v ≡ Some u → ((y : Access) → access_of u ≡ Some y → conflict (noalias_flags ssa) y (read_of a w) ≡ false)
+unit-keeps : (ssa : Ssa) (places : List ℕ) (a : Address) (w : Width) (u : SsaUnit) (v x : ℕ) (r t : Reached) → Respects ssa places → access_at ssa x ≡ Some (read_of a w) → unit_at ssa v ≡ Some u → ((y : Access) → access_of u ≡ Some y → conflict (noalias_flags ssa) y (read_of a w) ≡ false)
     → unit_run places u r ≡ Some t → loaded t.memory (place_of places a) (size_of w) ≡ loaded r.memory (place_of places a) (size_of w)
 unit-keeps ssa places a w (Load b m) v x r t respects own there free e =
     let went = went_well (loaded r.memory (place_of places b) (size_of m)) _ e in
@@ -90,7 +90,7 @@ unit-keeps ssa places a w (Store b m y) v x r t respects own there free e =
     let z : Access = record { address = b; size = size_of m; writes = true } in
     let went = went_well (stored r.memory (place_of places b) new) _ e in
     let same : reached went.0 r.numbers 0 ≡ t = (let k : Some (reached went.0 r.numbers 0) ≡ Some t = went.2 in cc) in
-    let stands : access_at ssa v ≡ Some z = ap (λ (o : Option Work). o >>= access_of) there in
+    let stands : access_at ssa v ≡ Some z = ap (λ (o : Option SsaUnit). o >>= access_of) there in
     let apart = no-conflict-apart ssa places z (read_of a w) respects (access-listed ssa v z stands) (access-listed ssa x (read_of a w) own) (free z refl) refl in
     ap (λ (q : Reached). loaded q.memory (place_of places a) (size_of w)) (sym same)
     ∙ store-keeps r.memory (place_of places a) (size_of w) (place_of places b) new went.0 (subst (λ k. Apart (place_of places a) (size_of w) (place_of places b) k) (sym (length-bytes (size_of m) (number_of (slice_index r.numbers) y))) (turned (place_of places b) (size_of m) (place_of places a) (size_of w) apart)) went.1
@@ -103,7 +103,7 @@ unit-keeps ssa places a w (Operation op m k xs) v x r t respects own there free 
     let same : reached r.memory r.numbers n ≡ t = (let q : Some (reached r.memory r.numbers n) ≡ Some t = e in cc) in
     ap (λ (q : Reached). loaded q.memory (place_of places a) (size_of w)) (sym same)
 
-quiet-keeps : (ssa : Ssa) (places : List ℕ) (a : Address) (w : Width) (done us rest : List Work) (x : ℕ) (r t : Reached) → Respects ssa places → access_at ssa x ≡ Some (read_of a w) → ssa.units ≡ done ++ (us ++ rest) → are_quiet (noalias_flags ssa) (read_of a w) us ≡ true
+quiet-keeps : (ssa : Ssa) (places : List ℕ) (a : Address) (w : Width) (done us rest : List SsaUnit) (x : ℕ) (r t : Reached) → Respects ssa places → access_at ssa x ≡ Some (read_of a w) → ssa.units ≡ done ++ (us ++ rest) → are_quiet (noalias_flags ssa) (read_of a w) us ≡ true
     → run_units places us r ≡ Some t → loaded t.memory (place_of places a) (size_of w) ≡ loaded r.memory (place_of places a) (size_of w)
 unfolding run_units
 quiet-keeps ssa places a w done [] rest x r t respects own whole quiet run = (let same : r ≡ t = cc in ap (λ (q : Reached). loaded q.memory (place_of places a) (size_of w)) (sym same))
@@ -116,14 +116,14 @@ quiet-keeps ssa places a w done (u ∷ us) rest x r t respects own whole quiet r
 
 -- ---- the first load as a function
 
-pub record IsBehind (flags : List Bool) (first m : ℕ) (done : List Work) (a : Address) (w : Width) : Type 0 where
-  pub before : List Work
-  pub between : List Work
+pub record IsBehind (flags : List Bool) (first m : ℕ) (done : List SsaUnit) (a : Address) (w : Width) : Type 0 where
+  pub before : List SsaUnit
+  pub between : List SsaUnit
   pub whole : done ≡ before ++ Load a w ∷ between
   pub at : m ≡ first + length before
   pub quiet : are_quiet flags (read_of a w) between ≡ true
 
-that-load : (a : Address) (w : Width) (u : Work) → is_load a w u ≡ true → u ≡ Load a w
+that-load : (a : Address) (w : Width) (u : SsaUnit) → is_load a w u ≡ true → u ≡ Load a w
 that-load a w (Load b v) h =
     let one = and-parts (nat_eq (bits_of w) (bits_of v)) (nat_eq a.pointer b.pointer && int_eq a.offset b.offset) h in
     let two = and-parts (nat_eq a.pointer b.pointer) (int_eq a.offset b.offset) one.1 in
@@ -134,7 +134,7 @@ that-load a w (Load b v) h =
 that-load a w (Store b v x) h = absurd (cc)
 that-load a w (Operation op v k xs) h = absurd (cc)
 
-pub found : (flags : List Bool) (a : Address) (w : Width) (first k m : ℕ) (before us : List Work) → first + length before ≡ k → first_in flags a w k us ≡ Some m → IsBehind flags first m (before ++ us) a w
+pub found : (flags : List Bool) (a : Address) (w : Width) (first k m : ℕ) (before us : List SsaUnit) → first + length before ≡ k → first_in flags a w k us ≡ Some m → IsBehind flags first m (before ++ us) a w
 found flags a w first k m before [] long e = absurd (cc)
 found flags a w first k m before (u ∷ us) long e = elim (cases_Bool (is_load a w u && are_quiet flags (read_of a w) us)) [
   | inl t ↦
@@ -148,7 +148,7 @@ found flags a w first k m before (u ∷ us) long e = elim (cases_Bool (is_load a
 
 -- ---- both read the same
 
-pub run-both : (places : List ℕ) (us vs : List Work) (r t : Reached) → run_units places (us ++ vs) r ≡ Some t → (q : Reached) × (run_units places us r ≡ Some q) × (run_units places vs q ≡ Some t)
+pub run-both : (places : List ℕ) (us vs : List SsaUnit) (r t : Reached) → run_units places (us ++ vs) r ≡ Some t → (q : Reached) × (run_units places us r ≡ Some q) × (run_units places vs q ≡ Some t)
 unfolding run_units
 run-both places [] vs r t e = (r, refl, e)
 run-both places (u ∷ us) vs r t e =
@@ -173,7 +173,7 @@ pub number-there : (numbers more : List ℕ) (n : ℕ) (all : List ℕ) → all 
 number-there numbers more n all e =
     ap (λ l. slice_index l (length numbers)) e ∙ get_or_append_left (numbers ++ n ∷ []) more 0 (length numbers) (let l = length_push numbers n in omega arith) ∙ get_or_push numbers n 0 (length numbers) refl
 
-run-long : (places : List ℕ) (us : List Work) (r t : Reached) → run_units places us r ≡ Some t → length t.numbers ≡ length r.numbers + length us
+run-long : (places : List ℕ) (us : List SsaUnit) (r t : Reached) → run_units places us r ≡ Some t → length t.numbers ≡ length r.numbers + length us
 unfolding run_units
 run-long places [] r t e = (let same : r ≡ t = cc in ap (λ (q : Reached). length q.numbers) (sym same) ∙ omega arith)
 run-long places (u ∷ us) r t e =
@@ -182,7 +182,7 @@ run-long places (u ∷ us) r t e =
     run-long places us went.0 t went.2 ∙ ap (λ l. length l + length us) one.numbers ∙ (let l = length_push r.numbers one.given in omega arith)
 
 -- a load and the first load of its class have one number
-pub first-reads : (ssa : Ssa) (places : List ℕ) (a : Address) (w : Width) (m : ℕ) (done us : List Work) (b r t : Reached) → Respects ssa places → ssa.units ≡ done ++ Load a w ∷ us → length b.numbers ≡ arguments ssa
+pub first-reads : (ssa : Ssa) (places : List ℕ) (a : Address) (w : Width) (m : ℕ) (done us : List SsaUnit) (b r t : Reached) → Respects ssa places → ssa.units ≡ done ++ Load a w ∷ us → length b.numbers ≡ arguments ssa
     → IsBehind (noalias_flags ssa) (arguments ssa) m done a w → run_units places done b ≡ Some r → run_units places (Load a w ∷ us) r ≡ Some t → slice_index t.numbers m ≡ slice_index t.numbers (length r.numbers)
 unfolding run_units
 first-reads ssa places a w m done us b r t respects whole long behind before run =
@@ -194,7 +194,7 @@ first-reads ssa places a w m done us b r t respects whole long behind before run
     let two = load-reads places a w r second.0 second.1 in
     let here : ssa.units ≡ (behind.before ++ Load a w ∷ []) ++ (behind.between ++ Load a w ∷ us) =
     whole ∙ ap (λ l. l ++ Load a w ∷ us) behind.whole ∙ append_assoc behind.before (Load a w ∷ behind.between) (Load a w ∷ us) ∙ sym (append_assoc behind.before (Load a w ∷ []) (behind.between ++ Load a w ∷ us)) in
-    let own : access_at ssa (arguments ssa + length done) ≡ Some (read_of a w) = ap (λ (o : Option Work). o >>= access_of) (unit-there ssa done (Load a w) us (arguments ssa + length done) whole refl) in
+    let own : access_at ssa (arguments ssa + length done) ≡ Some (read_of a w) = ap (λ (o : Option SsaUnit). o >>= access_of) (unit-there ssa done (Load a w) us (arguments ssa + length done) whole refl) in
     let kept = quiet-keeps ssa places a w (behind.before ++ Load a w ∷ []) behind.between (Load a w ∷ us) (arguments ssa + length done) first.0 r respects own here behind.quiet first.2 in
     let reads : two.read ≡ one.read = (let e : Some two.read ≡ Some one.read = sym two.there ∙ kept ∙ ap (λ k. loaded k (place_of places a) (size_of w)) one.memory ∙ one.there in cc) in
     let grown = more-numbers places behind.between first.0 r first.2 in

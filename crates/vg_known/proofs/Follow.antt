@@ -39,8 +39,8 @@ use Rattle.vg_program.specs.Params.{integers, kind_bits}
 use Rattle.vg_program.specs.Text.{defined}
 use Rattle.vg_program.specs.Valid.{HasWidth, IsLane, IsLine, Resizes}
 use Rattle.vg_program.specs.Vectors.{bytes_of, constant_bits, is_register_size, register_of}
-use Rattle.vg_shapes.specs.declared.unit.Operator.{Operator}
-use Rattle.vg_shapes.specs.declared.unit.Operator.TheVariants as operator
+use Rattle.vg_shapes.specs.declared.ssa_unit.Operator.{Operator}
+use Rattle.vg_shapes.specs.declared.ssa_unit.Operator.TheVariants as operator
 use Rattle.vg_shapes.specs.Order.{one_if, Stands}
 use Rattle.vg_shapes.specs.Registers.{Reads}
 use Rattle.vg_shapes.specs.RunUnits.{operation_result}

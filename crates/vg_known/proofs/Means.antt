@@ -13,8 +13,8 @@ use Rattle.vg_bits.proofs.ByteLists.{bits_of_bytes-bytes, length-bytes}
 use Rattle.vg_terms.specs.declared.value.Env.{Env}
 use Rattle.vg_terms.specs.Term.{Tree}
 use Rattle.vg_terms.specs.Value.{value}
-use Rattle.vg_shapes.specs.declared.unit.Unit.{Unit as Work}
-use Rattle.vg_shapes.specs.declared.unit.Unit.TheVariants.{Load, Store, Operation}
+use Rattle.vg_shapes.specs.declared.ssa_unit.SsaUnit.{SsaUnit}
+use Rattle.vg_shapes.specs.declared.ssa_unit.SsaUnit.TheVariants.{Load, Store, Operation}
 use Rattle.vg_shapes.specs.Layout.{access_of}
 use Rattle.vg_shapes.specs.Order.{count_of, numbers_from, one_if, Stands}
 use Rattle.vg_order_laws.proofs.Sequences.{count_of-append, counts-itself}
@@ -71,7 +71,7 @@ pairs-have env byte (e ∷ es) bs long formed is =
 -- ---- what loads read
 
 -- the terms of loads have their widths and numbers
-abbrev pub LoadsMean : Env → (ℕ → ℕ) → ℕ → List Work → List Tree → Type 0
+abbrev pub LoadsMean : Env → (ℕ → ℕ) → ℕ → List SsaUnit → List Tree → Type 0
 LoadsMean env numbers v [] ts = Unit {0}
 LoadsMean env numbers v (u ∷ us) [] = Unit {0}
 LoadsMean env numbers v (Load a w ∷ us) (t ∷ ts) = (IsTermOf (bits_of w) t × (value env t ≡ numbers v)) × LoadsMean env numbers (v + 1) us ts
@@ -89,7 +89,7 @@ load-has env numbers all done more f v w t is means whole long =
     (bits_from-formed [] t 0 (bits_of w) is.well_formed (omega (arith, is.width)))
     (whole-image env t (bits_of w) ∙ ap (bits (bits_of w)) means ∙ ap (λ k. bits k (numbers v)) (sym (eight-size w)) ∙ sym (bits_of_bytes-bytes n (numbers v)) ∙ ap bits_of_bytes (sym mine))
 
-pub reads-have : (env : Env) (numbers : ℕ → ℕ) (all done : List ℕ) (f v : ℕ) (us : List Work) (ts : List Tree) → LoadsMean env numbers v us ts → all ≡ done ++ all_bytes numbers v us → length done ≡ f → PairsHave env (slice_index all) (reads_from f us ts)
+pub reads-have : (env : Env) (numbers : ℕ → ℕ) (all done : List ℕ) (f v : ℕ) (us : List SsaUnit) (ts : List Tree) → LoadsMean env numbers v us ts → all ≡ done ++ all_bytes numbers v us → length done ≡ f → PairsHave env (slice_index all) (reads_from f us ts)
 reads-have env numbers all done f v [] ts h whole long = tt
 reads-have env numbers all done f v (u ∷ us) [] h whole long = tt
 reads-have env numbers all done f v (Load a w ∷ us) (t ∷ ts) h whole long =
@@ -106,7 +106,7 @@ reads-have env numbers all done f v (Operation op w k xs ∷ us) (t ∷ ts) h wh
     reads-have env numbers all done (f + 0) (v + 1) us ts h whole (long ∙ omega arith)
 
 -- each event of a load is in the table
-pub reads-there : (ls before : List Label) (f : ℕ) (us : List Work) (ts : List Tree) (e : ℕ) → ls ≡ before ++ unit_labels us → length before ≡ f → length us ≤ length ts → f ≤ e → e < f + length (unit_labels us) → (label_at ls e).writes ≡ false
+pub reads-there : (ls before : List Label) (f : ℕ) (us : List SsaUnit) (ts : List Tree) (e : ℕ) → ls ≡ before ++ unit_labels us → length before ≡ f → length us ≤ length ts → f ≤ e → e < f + length (unit_labels us) → (label_at ls e).writes ≡ false
     → Stands e (map (λ p. p.0) (reads_from f us ts))
 reads-there ls before f [] ts e whole long many low high reads = absurd (omega arith)
 reads-there ls before f (u ∷ us) [] e whole long many low high reads = absurd (omega arith)

@@ -14,10 +14,10 @@ use Rattle.vg_program.specs.declared.operand.Operand.{Operand}
 use Rattle.vg_program.specs.declared.operand.Operand.TheVariants.{Register, Argument, Literal}
 use Rattle.vg_program.specs.Vectors.{bytes_of, register_of}
 use Rattle.vg_shapes.specs.declared.ssa.SsaParam.{SsaParam}
-use Rattle.vg_shapes.specs.declared.unit.Operator.{Operator}
-use Rattle.vg_shapes.specs.declared.unit.Operator.TheVariants as operator
-use Rattle.vg_shapes.specs.declared.unit.Unit.{Unit as Work}
-use Rattle.vg_shapes.specs.declared.unit.Unit.TheVariants as unit
+use Rattle.vg_shapes.specs.declared.ssa_unit.Operator.{Operator}
+use Rattle.vg_shapes.specs.declared.ssa_unit.Operator.TheVariants as operator
+use Rattle.vg_shapes.specs.declared.ssa_unit.SsaUnit.{SsaUnit}
+use Rattle.vg_shapes.specs.declared.ssa_unit.SsaUnit.TheVariants as unit
 use Rattle.vg_shapes.specs.declared.wanted.Wanted.{Wanted}
 use Rattle.vg_shapes.specs.declared.wanted.Wanted.TheVariants as wanted
 use Rattle.vg_shapes.specs.Fits.{replaced}
@@ -118,7 +118,7 @@ wanted-below n ts (wanted.Value v) b = terms-at n ts v b
 wanted-below n ts (wanted.Constant w k) b = tt
 wanted-below n ts wanted.Nothing b = tt
 
-unit-below : (flags : List Bool) (first : ℕ) (done : List Work) (s : Terms) (u : Work) → Named s → TermBelow (length s.met) (unit_term flags first done s u)
+unit-below : (flags : List Bool) (first : ℕ) (done : List SsaUnit) (s : Terms) (u : SsaUnit) → Named s → TermBelow (length s.met) (unit_term flags first done s u)
 unit-below flags first done s (unit.Load a w) h = inl refl
 unit-below flags first done s (unit.Store a w x) h = tt
 unit-below flags first done s (unit.Operation op w k xs) h =
@@ -133,12 +133,12 @@ met-named s t h b =
       classes = met-classes s.met t h.classes b;
     }
 
-term-named : (s : Terms) (u : Work) (t : Tree) → Named s → TermBelow (length s.met) t → Named (with_term s u t)
+term-named : (s : Terms) (u : SsaUnit) (t : Tree) → Named s → TermBelow (length s.met) t → Named (with_term s u t)
 term-named s (unit.Load a w) t h b = met-named s t h b
 term-named s (unit.Store a w x) t h b = record { terms = terms-push (length s.met) s.terms t h.terms b; classes = h.classes }
 term-named s (unit.Operation op w k xs) t h b = met-named s t h b
 
-pub terms-named : (flags : List Bool) (first : ℕ) (done : List Work) (s : Terms) (us : List Work) → Named s → Named (terms_behind flags first done s us)
+pub terms-named : (flags : List Bool) (first : ℕ) (done : List SsaUnit) (s : Terms) (us : List SsaUnit) → Named s → Named (terms_behind flags first done s us)
 terms-named flags first done s [] h = h
 terms-named flags first done s (u ∷ us) h =
     let own = unit_term flags first done s u in
@@ -154,7 +154,7 @@ leaves-classes ts h c less = terms-at c ts c (h c)
 pub leaves-named : (v : ℕ) (ps : List SsaParam) → Named (record { terms = argument_leaves v ps; met = argument_leaves v ps })
 leaves-named v ps = record { terms = leaves-below (length (argument_leaves v ps)) v ps; classes = leaves-classes (argument_leaves v ps) (λ n. leaves-below n v ps) }
 
-pub reads-below : (n f : ℕ) (us : List Work) (ts : List Tree) → TermsBelow n ts → PairsBelow n (reads_from f us ts)
+pub reads-below : (n f : ℕ) (us : List SsaUnit) (ts : List Tree) → TermsBelow n ts → PairsBelow n (reads_from f us ts)
 reads-below n f [] ts b = tt
 reads-below n f (u ∷ us) [] b = tt
 reads-below n f (unit.Load a w ∷ us) (t ∷ ts) b =

@@ -18,8 +18,8 @@ use Rattle.vg_terms.specs.declared.value.Env.{Env}
 use Rattle.vg_terms.specs.Term.{Tree, leaf}
 use Rattle.vg_terms.specs.Value.{number_at, value}
 use Rattle.vg_shapes.specs.declared.ssa.Ssa.{Ssa}
-use Rattle.vg_shapes.specs.declared.unit.Unit.{Unit as Work}
-use Rattle.vg_shapes.specs.declared.unit.Unit.TheVariants.{Load, Store, Operation}
+use Rattle.vg_shapes.specs.declared.ssa_unit.SsaUnit.{SsaUnit}
+use Rattle.vg_shapes.specs.declared.ssa_unit.SsaUnit.TheVariants.{Load, Store, Operation}
 use Rattle.vg_shapes.specs.Layout.{noalias_flags, Respects}
 use Rattle.vg_shapes.specs.Registers.{bits_key, Reads}
 use Rattle.vg_shapes.specs.RunUnits.{Reached, run_units, unit_run}
@@ -48,7 +48,7 @@ no-arguments : (v : ℕ) (ns : List ℕ) (rest : List (LeafKey × ℕ)) (p l : �
 no-arguments v [] rest p l = refl
 no-arguments v (n ∷ ns) rest p l = no-arguments (v + 1) ns rest p l
 
-no-units : (v : ℕ) (us : List Work) (ns : List ℕ) (p l : ℕ) → number_at (unit_pairs v us ns) (bits_key p l) ≡ 0
+no-units : (v : ℕ) (us : List SsaUnit) (ns : List ℕ) (p l : ℕ) → number_at (unit_pairs v us ns) (bits_key p l) ≡ 0
 no-units v [] ns p l = refl
 no-units v (u ∷ us) [] p l = refl
 no-units v (Load a w ∷ us) (n ∷ ns) p l = no-units (v + 1) us ns p l
@@ -84,7 +84,7 @@ argument-reads ssa args numbers met k l =
 
 -- ---- loads
 
-load-number : (pairs : List (LeafKey × ℕ)) (v : ℕ) (us : List Work) (ns : List ℕ) (k : ℕ) (a : Address) (w : Width) → ReadUnits pairs v us ns → slice_get us k ≡ Some (Load a w) → k < length ns → number_at pairs (load_key a (v + k)) ≡ slice_index ns k
+load-number : (pairs : List (LeafKey × ℕ)) (v : ℕ) (us : List SsaUnit) (ns : List ℕ) (k : ℕ) (a : Address) (w : Width) → ReadUnits pairs v us ns → slice_get us k ≡ Some (Load a w) → k < length ns → number_at pairs (load_key a (v + k)) ≡ slice_index ns k
 load-number pairs v [] ns k a w h e l = absurd (cc)
 load-number pairs v (u ∷ us) [] k a w h e l = absurd (omega arith)
 load-number pairs v (u ∷ us) (n ∷ ns) (suc k) a w h e l = ap (λ j. number_at pairs (load_key a j)) (let q : v + suc k ≡ v + 1 + k = omega arith in q) ∙ load-number pairs (v + 1) us ns k a w h.1 e (omega arith)
@@ -94,7 +94,7 @@ load-number pairs v (Load b m ∷ us) (n ∷ ns) zero a w h e l =
 load-number pairs v (Store b m x ∷ us) (n ∷ ns) zero a w h e l = absurd (cc)
 load-number pairs v (Operation op m k xs ∷ us) (n ∷ ns) zero a w h e l = absurd (cc)
 
-seam-there : (done : List Work) (u : Work) (us : List Work) → slice_get (done ++ u ∷ us) (length done) ≡ Some u
+seam-there : (done : List SsaUnit) (u : SsaUnit) (us : List SsaUnit) → slice_get (done ++ u ∷ us) (length done) ≡ Some u
 seam-there [] u us = refl
 seam-there (d ∷ done) u us = seam-there done u us
 
@@ -107,7 +107,7 @@ length-dropped [] ys = refl
 length-dropped (x ∷ xs) ys = length-dropped xs ys
 
 -- the number that stands for the leaf of the load after these units
-key-number : (ssa : Ssa) (args more : List ℕ) (met : List Tree) (before us : List Work) (a : Address) (w : Width) → length args ≡ arguments ssa → ssa.units ≡ before ++ Load a w ∷ us → length before < length more
+key-number : (ssa : Ssa) (args more : List ℕ) (met : List Tree) (before us : List SsaUnit) (a : Address) (w : Width) → length args ≡ arguments ssa → ssa.units ≡ before ++ Load a w ∷ us → length before < length more
     → number_at (run_env ssa args (args ++ more) met).pairs (load_key a (arguments ssa + length before)) ≡ slice_index (args ++ more) (arguments ssa + length before)
 key-number ssa args more met before us a w long whole inside =
     let rest = run_pairs ssa args (args ++ more) in
@@ -132,14 +132,14 @@ read-fits places a w r t are e =
 
 -- ---- the leaf of each load stands for what the load reads
 
-run-bytes : (places : List ℕ) (us : List Work) (r t : Reached) → IsBytes r.memory → run_units places us r ≡ Some t → IsBytes t.memory
+run-bytes : (places : List ℕ) (us : List SsaUnit) (r t : Reached) → IsBytes r.memory → run_units places us r ≡ Some t → IsBytes t.memory
 unfolding run_units
 run-bytes places [] r t are e = subst (λ (q : Reached). IsBytes q.memory) (let same : r ≡ t = cc in same) are
 run-bytes places (u ∷ us) r t are e =
     let went = went_well (unit_run places u r) (run_units places us) e in
     run-bytes places us went.0 t (one-unit places u r went.0 are went.1).are went.2
 
-run-join : (places : List ℕ) (us vs : List Work) (r q t : Reached) → run_units places us r ≡ Some q → run_units places vs q ≡ Some t → run_units places (us ++ vs) r ≡ Some t
+run-join : (places : List ℕ) (us vs : List SsaUnit) (r q t : Reached) → run_units places us r ≡ Some q → run_units places vs q ≡ Some t → run_units places (us ++ vs) r ≡ Some t
 unfolding run_units
 run-join places [] vs r q t e f = ap (run_units places vs) (let same : r ≡ q = cc in same) ∙ f
 run-join places (u ∷ us) vs r q t e f =
@@ -147,7 +147,7 @@ run-join places (u ∷ us) vs r q t e f =
     ap (λ o. o >>= run_units places (us ++ vs)) went.1 ∙ run-join places us vs went.0 q t went.2 f
 
 -- what a walk over the units of a run knows
-pub record Midway (ssa : Ssa) (places : List ℕ) (b r t : Reached) (done us : List Work) : Type 0 where
+pub record Midway (ssa : Ssa) (places : List ℕ) (b r t : Reached) (done us : List SsaUnit) : Type 0 where
   pub whole : ssa.units ≡ done ++ us
   pub begun : length b.numbers ≡ arguments ssa
   pub are : IsBytes b.memory
@@ -155,7 +155,7 @@ pub record Midway (ssa : Ssa) (places : List ℕ) (b r t : Reached) (done us : L
   pub after : run_units places us r ≡ Some t
   pub long : length r.numbers ≡ arguments ssa + length done
 
-load-stands : (ssa : Ssa) (places more : List ℕ) (met : List Tree) (b r t : Reached) (done us : List Work) (a : Address) (w : Width) → Respects ssa places → Midway ssa places b r t done (Load a w ∷ us) → t.numbers ≡ b.numbers ++ more
+load-stands : (ssa : Ssa) (places more : List ℕ) (met : List Tree) (b r t : Reached) (done us : List SsaUnit) (a : Address) (w : Width) → Respects ssa places → Midway ssa places b r t done (Load a w ∷ us) → t.numbers ≡ b.numbers ++ more
     → value (run_env ssa b.numbers t.numbers met) (leaf (bits_of w) (load_key a (first_load (noalias_flags ssa) (arguments ssa) done (length r.numbers) a w))) ≡ slice_index t.numbers (length r.numbers)
 unfolding run_units
 load-stands ssa places more met b r t done us a w respects h grown = by (first_in (noalias_flags ssa) a w (arguments ssa) done) refl
@@ -181,7 +181,7 @@ load-stands ssa places more met b r t done us a w respects h grown = by (first_i
     room : arguments ssa + length more ≡ arguments ssa + length done + 1 + length rest.0
     room = (let x = ap length grown in let y = length-append b.numbers more in let z = h.begun in omega (arith, size))
 
-    leaf_is : (m : ℕ) (before after : List Work) → m ≡ arguments ssa + length before → ssa.units ≡ before ++ Load a w ∷ after → length before ≤ length done → number_at (run_env ssa b.numbers t.numbers met).pairs (load_key a m) ≡ slice_index t.numbers m
+    leaf_is : (m : ℕ) (before after : List SsaUnit) → m ≡ arguments ssa + length before → ssa.units ≡ before ++ Load a w ∷ after → length before ≤ length done → number_at (run_env ssa b.numbers t.numbers met).pairs (load_key a m) ≡ slice_index t.numbers m
     leaf_is m before after at whole few =
         let k = key-number ssa b.numbers more met before after a w h.begun whole (omega (arith, room, few)) in
         (λ i. number_at (run_env ssa b.numbers (grown i) met).pairs (load_key a (at i))) ∙ k ∙ (λ i. slice_index (sym grown i) (sym at i))
@@ -198,7 +198,7 @@ load-stands ssa places more met b r t done us a w respects h grown = by (first_i
         ap (λ (q : Option ℕ). number_at (run_env ssa b.numbers t.numbers met).pairs (load_key a (unwrap_or q (length r.numbers))) % 2 ^ bits_of w) e
         ∙ ap (λ n. n % 2 ^ bits_of w) (leaf_is m behind.before (behind.between ++ Load a w ∷ us) behind.at whole few ∙ same) ∙ small
 
-step-midway : (ssa : Ssa) (places : List ℕ) (b r t : Reached) (done : List Work) (u : Work) (us : List Work) → Midway ssa places b r t done (u ∷ us) → (q : Reached) × Midway ssa places b q t (done ++ u ∷ []) us × (length q.numbers ≡ length r.numbers + 1)
+step-midway : (ssa : Ssa) (places : List ℕ) (b r t : Reached) (done : List SsaUnit) (u : SsaUnit) (us : List SsaUnit) → Midway ssa places b r t done (u ∷ us) → (q : Reached) × Midway ssa places b q t (done ++ u ∷ []) us × (length q.numbers ≡ length r.numbers + 1)
 unfolding run_units
 step-midway ssa places b r t done u us h =
     let went = went_well (unit_run places u r) (run_units places us) h.after in
@@ -216,7 +216,7 @@ step-midway ssa places b r t done u us h =
       next,
     )
 
-pub loads-stand : (ssa : Ssa) (places more : List ℕ) (met : List Tree) (b r t : Reached) (done us : List Work) → Respects ssa places → Midway ssa places b r t done us → t.numbers ≡ b.numbers ++ more
+pub loads-stand : (ssa : Ssa) (places more : List ℕ) (met : List Tree) (b r t : Reached) (done us : List SsaUnit) → Respects ssa places → Midway ssa places b r t done us → t.numbers ≡ b.numbers ++ more
     → LoadsStand (run_env ssa b.numbers t.numbers met) (noalias_flags ssa) (arguments ssa) (slice_index t.numbers) done us (length r.numbers)
 loads-stand ssa places more met b r t done [] respects h grown = tt
 loads-stand ssa places more met b r t done (Load a w ∷ us) respects h grown =

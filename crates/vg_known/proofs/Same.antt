@@ -28,8 +28,8 @@ use Rattle.vg_shapes.specs.declared.ssa.Ssa.{Ssa}
 use Rattle.vg_shapes.specs.declared.ssa.SsaParam.{SsaParam}
 use Rattle.vg_shapes.specs.declared.ssa.SsaParamKind.{SsaParamKind}
 use Rattle.vg_shapes.specs.declared.ssa.SsaParamKind.TheVariants.{Pointer, Integer}
-use Rattle.vg_shapes.specs.declared.unit.Unit.{Unit as Work}
-use Rattle.vg_shapes.specs.declared.unit.Unit.TheVariants.{Load, Store, Operation}
+use Rattle.vg_shapes.specs.declared.ssa_unit.SsaUnit.{SsaUnit}
+use Rattle.vg_shapes.specs.declared.ssa_unit.SsaUnit.TheVariants.{Load, Store, Operation}
 use Rattle.vg_shapes.specs.declared.wanted.Wanted.{Wanted}
 use Rattle.vg_shapes.specs.declared.wanted.Wanted.TheVariants.{Value, Constant, Nothing}
 use Rattle.vg_shapes.specs.Layout.{noalias_flags, Respects}
@@ -94,7 +94,7 @@ mapped-same env [] (n ∷ ns) long each = absurd (omega arith)
 mapped-same env (t ∷ ts) [] long each = absurd (omega arith)
 mapped-same env (t ∷ ts) (n ∷ ns) long each = (λ i. each 0 i ∷ mapped-same env ts ns (omega arith) (λ v. each (suc v)) i)
 
-IsBytes-all : (numbers : ℕ → ℕ) (v : ℕ) (us : List Work) → IsBytes (all_bytes numbers v us)
+IsBytes-all : (numbers : ℕ → ℕ) (v : ℕ) (us : List SsaUnit) → IsBytes (all_bytes numbers v us)
 IsBytes-all numbers v [] = tt
 IsBytes-all numbers v (Load a w ∷ us) = IsBytes-append (bytes (size_of w) (numbers v)) (all_bytes numbers (v + 1) us) (IsBytes-bytes (size_of w) (numbers v)) (IsBytes-all numbers (v + 1) us)
 IsBytes-all numbers v (Store a w x ∷ us) = IsBytes-append (bytes (size_of w) (number_of numbers x)) (all_bytes numbers (v + 1) us) (IsBytes-bytes (size_of w) (number_of numbers x)) (IsBytes-all numbers (v + 1) us)
@@ -175,12 +175,12 @@ wanted-term env bits ts numbers w (Value v) h is = ((h.stand.each v (bits_of w) 
 wanted-term env bits ts numbers w (Constant m k) h is = (subst (λ n. IsTermOf n (constant m k)) is.0 (constant-term m k (subst IsWidth (sym is.0) (bits-width w)) is.1), refl)
 wanted-term env bits ts numbers w Nothing h is = absurd is
 
-stores-mean : (env : Env) (count : ℕ) (bits : List (Option ℕ)) (ts : List Tree) (numbers : List ℕ) (front : List (Option ℕ)) (us : List Work) → AllMean env bits ts numbers → bits ≡ front ++ map unit_bits us → UnitsIn count front us → StoresMean env (slice_index numbers) ts us
+stores-mean : (env : Env) (count : ℕ) (bits : List (Option ℕ)) (ts : List Tree) (numbers : List ℕ) (front : List (Option ℕ)) (us : List SsaUnit) → AllMean env bits ts numbers → bits ≡ front ++ map unit_bits us → UnitsIn count front us → StoresMean env (slice_index numbers) ts us
 stores-mean env count bits ts numbers front [] h whole units = tt
 stores-mean env count bits ts numbers front (u ∷ us) h whole units =
     by u whole units.0 (stores-mean env count bits ts numbers (front ++ unit_bits u ∷ []) us h (whole ∙ sym (append_assoc front (unit_bits u ∷ []) (map unit_bits us))) units.1)
   where
-    by : (u : Work) → bits ≡ front ++ map unit_bits (u ∷ us) → UnitIn count front u → StoresMean env (slice_index numbers) ts us → StoresMean env (slice_index numbers) ts (u ∷ us)
+    by : (u : SsaUnit) → bits ≡ front ++ map unit_bits (u ∷ us) → UnitIn count front u → StoresMean env (slice_index numbers) ts us → StoresMean env (slice_index numbers) ts (u ∷ us)
     by (Load a w) e is rest = rest
     by (Operation op w k xs) e is rest = rest
     by (Store a w x) e is rest = (wanted-term env bits ts numbers w x h (subst (λ l. NumberIn l w x) (sym e) (number-stays front (map unit_bits (Store a w x ∷ us)) w x is.1)), rest)
@@ -191,7 +191,7 @@ index-drop zero (x ∷ ts) t d rest h = ((let e : x ≡ t = cc in e), (let e : t
 index-drop (suc v) [] t d rest h = absurd (cc)
 index-drop (suc v) (x ∷ ts) t d rest h = let r = index-drop v ts t d rest h in (r.0, ap (λ k. drop k (x ∷ ts)) (let e : suc v + 1 ≡ suc (v + 1) = omega arith in e) ∙ r.1)
 
-loads-mean : (env : Env) (bits : List (Option ℕ)) (all : List Tree) (numbers : List ℕ) (front : List (Option ℕ)) (us : List Work) (ts : List Tree) (v : ℕ) → AllMean env bits all numbers → bits ≡ front ++ map unit_bits us → length front ≡ v → drop v all ≡ ts → LoadsMean env (slice_index numbers) v us ts
+loads-mean : (env : Env) (bits : List (Option ℕ)) (all : List Tree) (numbers : List ℕ) (front : List (Option ℕ)) (us : List SsaUnit) (ts : List Tree) (v : ℕ) → AllMean env bits all numbers → bits ≡ front ++ map unit_bits us → length front ≡ v → drop v all ≡ ts → LoadsMean env (slice_index numbers) v us ts
 loads-mean env bits all numbers front [] ts v h whole long at = tt
 loads-mean env bits all numbers front (u ∷ us) [] v h whole long at = tt
 loads-mean env bits all numbers front (u ∷ us) (t ∷ ts) v h whole long at =
@@ -200,7 +200,7 @@ loads-mean env bits all numbers front (u ∷ us) (t ∷ ts) v h whole long at =
     here : (slice_index_or all v no_term ≡ t) × (drop (v + 1) all ≡ ts)
     here = index-drop v all t no_term ts at
 
-    by : (u : Work) → bits ≡ front ++ map unit_bits (u ∷ us) → LoadsMean env (slice_index numbers) (v + 1) us ts → LoadsMean env (slice_index numbers) v (u ∷ us) (t ∷ ts)
+    by : (u : SsaUnit) → bits ≡ front ++ map unit_bits (u ∷ us) → LoadsMean env (slice_index numbers) (v + 1) us ts → LoadsMean env (slice_index numbers) v (u ∷ us) (t ∷ ts)
     by (Store a w x) e rest = rest
     by (Operation op w k xs) e rest = rest
     by (Load a w) e rest =
@@ -208,7 +208,7 @@ loads-mean env bits all numbers front (u ∷ us) (t ∷ ts) v h whole long at =
         ((subst (IsTermOf (bits_of w)) here.0 (h.stand.each v (bits_of w) bit).1, ap (value env) (sym here.0) ∙ h.each v), rest)
 
 -- the kernel's terms begin with the leaves of its arguments
-pub terms-front : (flags : List Bool) (first : ℕ) (done : List Work) (s : Terms) (us : List Work) → Grows s.terms (terms_behind flags first done s us).terms
+pub terms-front : (flags : List Bool) (first : ℕ) (done : List SsaUnit) (s : Terms) (us : List SsaUnit) → Grows s.terms (terms_behind flags first done s us).terms
 terms-front flags first done s [] = grows-not s.terms
 terms-front flags first done s (u ∷ us) =
     let own = unit_term flags first done s u in

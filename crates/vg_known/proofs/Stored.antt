@@ -22,8 +22,8 @@ use Rattle.vg_program.specs.Meaning.{Instructions}
 use Rattle.vg_program.specs.Text.{defined}
 use Rattle.vg_program.specs.Valid.{AreLines, IsLine}
 use Rattle.vg_shapes.specs.declared.ssa.Ssa.{Ssa}
-use Rattle.vg_shapes.specs.declared.unit.Unit.{Unit as Work}
-use Rattle.vg_shapes.specs.declared.unit.Unit.TheVariants.{Load, Store, Operation}
+use Rattle.vg_shapes.specs.declared.ssa_unit.SsaUnit.{SsaUnit}
+use Rattle.vg_shapes.specs.declared.ssa_unit.SsaUnit.TheVariants.{Load, Store, Operation}
 use Rattle.vg_shapes.specs.declared.wanted.Wanted.{Wanted}
 use Rattle.vg_shapes.specs.Layout.{access_of}
 use Rattle.vg_shapes.specs.Order.{count_of, numbers_from, Stands}
@@ -173,13 +173,13 @@ puts-there g ls (l ∷ xs) (es ∷ ess) k e paired s writes =
 -- ---- stores of the kernel
 
 -- the events of the unit after these
-pub span-at : (f : ℕ) (done : List Work) (u : Work) (us : List Work) → slice_index_or (spans f (map access_of (done ++ u ∷ us))) (length done) [] ≡ numbers_from (f + length (unit_labels done)) (length (labels_in (access_of u)))
+pub span-at : (f : ℕ) (done : List SsaUnit) (u : SsaUnit) (us : List SsaUnit) → slice_index_or (spans f (map access_of (done ++ u ∷ us))) (length done) [] ≡ numbers_from (f + length (unit_labels done)) (length (labels_in (access_of u)))
 span-at f [] u us = ap (λ n. numbers_from n (length (labels_in (access_of u)))) (let e : f ≡ f + 0 = omega arith in e)
 span-at f (d ∷ done) u us =
     span-at (f + length (labels_in (access_of d))) done u us
     ∙ ap (λ n. numbers_from n (length (labels_in (access_of u)))) (let l = length-append (labels_in (access_of d)) (unit_labels done) in let e : f + length (labels_in (access_of d)) + length (unit_labels done) ≡ f + length (labels_in (access_of d) ++ unit_labels done) = omega arith in e)
 
-labels-split : (done : List Work) (u : Work) (us : List Work) → unit_labels (done ++ u ∷ us) ≡ unit_labels done ++ (labels_in (access_of u) ++ unit_labels us)
+labels-split : (done : List SsaUnit) (u : SsaUnit) (us : List SsaUnit) → unit_labels (done ++ u ∷ us) ≡ unit_labels done ++ (labels_in (access_of u) ++ unit_labels us)
 labels-split [] u us = refl
 labels-split (d ∷ done) u us = ap (λ l. labels_in (access_of d) ++ l) (labels-split done u us) ∙ sym (append_assoc (labels_in (access_of d)) (unit_labels done) (labels_in (access_of u) ++ unit_labels us))
 
@@ -199,7 +199,7 @@ pub record Stored (env : Env) (ssa : Ssa) (s : Sides) (numbers : ℕ → ℕ) : 
   pub formed : (e : ℕ) → e < length (kernel_labels ssa) → (label_at (kernel_labels ssa) e).writes ≡ true → IsByte (bits_at s.known.puts e)
   pub same : (v : ℕ) → arguments ssa ≤ v → v < arguments ssa + length ssa.units → value_at s ssa v ≡ None
 
-store-has : (env : Env) (ssa : Ssa) (s : Sides) (numbers : ℕ → ℕ) (all : List ℕ) (done us : List Work) (a : Address) (w : Width) (x : Wanted) (before more : List ℕ) → Stored env ssa s numbers → ssa.units ≡ done ++ Store a w x ∷ us
+store-has : (env : Env) (ssa : Ssa) (s : Sides) (numbers : ℕ → ℕ) (all : List ℕ) (done us : List SsaUnit) (a : Address) (w : Width) (x : Wanted) (before more : List ℕ) → Stored env ssa s numbers → ssa.units ≡ done ++ Store a w x ∷ us
     → IsTermOf (bits_of w) (kernel.operand_term s.terms x) → value env (kernel.operand_term s.terms x) ≡ number_of numbers x → all ≡ before ++ (bytes (size_of w) (number_of numbers x) ++ more) → length before ≡ length (unit_labels done)
     → (e : ℕ) → Stands e (numbers_from (length (unit_labels done)) (size_of w)) → image env (bits_at s.known.puts e) ≡ bits 8 (slice_index all e)
 store-has env ssa s numbers all done us a w x before more h whole is means bytes_are long =
@@ -235,18 +235,18 @@ store-has env ssa s numbers all done us a w x before more h whole is means bytes
     each-has env puts (slice_index all) es (λ e st. (eight e st).0) images
 
 -- the terms of what is stored have their widths and numbers
-abbrev pub StoresMean : Env → (ℕ → ℕ) → List Tree → List Work → Type 0
+abbrev pub StoresMean : Env → (ℕ → ℕ) → List Tree → List SsaUnit → Type 0
 StoresMean env numbers ts [] = Unit {0}
 StoresMean env numbers ts (Load a w ∷ us) = StoresMean env numbers ts us
 StoresMean env numbers ts (Store a w x ∷ us) = (IsTermOf (bits_of w) (kernel.operand_term ts x) × (value env (kernel.operand_term ts x) ≡ number_of numbers x)) × StoresMean env numbers ts us
 StoresMean env numbers ts (Operation op w k xs ∷ us) = StoresMean env numbers ts us
 
-rest-mean : (env : Env) (numbers : ℕ → ℕ) (ts : List Tree) (u : Work) (us : List Work) → StoresMean env numbers ts (u ∷ us) → StoresMean env numbers ts us
+rest-mean : (env : Env) (numbers : ℕ → ℕ) (ts : List Tree) (u : SsaUnit) (us : List SsaUnit) → StoresMean env numbers ts (u ∷ us) → StoresMean env numbers ts us
 rest-mean env numbers ts (Load a w) us h = h
 rest-mean env numbers ts (Store a w x) us h = h.1
 rest-mean env numbers ts (Operation op w k xs) us h = h
 
-at-unit : (env : Env) (ssa : Ssa) (s : Sides) (numbers : ℕ → ℕ) (all : List ℕ) (done : List Work) (u : Work) (us : List Work) (before : List ℕ) (v : ℕ) → Stored env ssa s numbers → ssa.units ≡ done ++ u ∷ us → StoresMean env numbers s.terms (u ∷ us) → all ≡ before ++ all_bytes numbers v (u ∷ us) → length before ≡ length (unit_labels done)
+at-unit : (env : Env) (ssa : Ssa) (s : Sides) (numbers : ℕ → ℕ) (all : List ℕ) (done : List SsaUnit) (u : SsaUnit) (us : List SsaUnit) (before : List ℕ) (v : ℕ) → Stored env ssa s numbers → ssa.units ≡ done ++ u ∷ us → StoresMean env numbers s.terms (u ∷ us) → all ≡ before ++ all_bytes numbers v (u ∷ us) → length before ≡ length (unit_labels done)
     → (e : ℕ) → length (unit_labels done) ≤ e → e < length (unit_labels done) + length (labels_in (access_of u)) → (label_at (kernel_labels ssa) e).writes ≡ true → image env (bits_at s.known.puts e) ≡ bits 8 (slice_index all e)
 at-unit env ssa s numbers all done (Load a w) us before v h whole mean bytes_are long e low high writes =
     let u = Load a w in
@@ -259,7 +259,7 @@ at-unit env ssa s numbers all done (Store a w x) us before v h whole mean bytes_
     store-has env ssa s numbers all done us a w x before (all_bytes numbers (v + 1) us) h whole mean.0.0 mean.0.1 bytes_are long e (omega arith)
 at-unit env ssa s numbers all done (Operation op w k xs) us before v h whole mean bytes_are long e low high writes = absurd (omega arith)
 
-pub stores-have : (env : Env) (ssa : Ssa) (s : Sides) (numbers : ℕ → ℕ) (all : List ℕ) (done us : List Work) (before : List ℕ) (v : ℕ) → Stored env ssa s numbers → ssa.units ≡ done ++ us → StoresMean env numbers s.terms us → all ≡ before ++ all_bytes numbers v us → length before ≡ length (unit_labels done)
+pub stores-have : (env : Env) (ssa : Ssa) (s : Sides) (numbers : ℕ → ℕ) (all : List ℕ) (done us : List SsaUnit) (before : List ℕ) (v : ℕ) → Stored env ssa s numbers → ssa.units ≡ done ++ us → StoresMean env numbers s.terms us → all ≡ before ++ all_bytes numbers v us → length before ≡ length (unit_labels done)
     → (e : ℕ) → length (unit_labels done) ≤ e → e < length (kernel_labels ssa) → (label_at (kernel_labels ssa) e).writes ≡ true → image env (bits_at s.known.puts e) ≡ bits 8 (slice_index all e)
 stores-have env ssa s numbers all done [] before v h whole mean bytes_are long e low high writes =
     absurd (let l = ap (λ us. length (unit_labels us)) whole ∙ ap (λ us. length (unit_labels us)) (append-nil done) in omega arith)

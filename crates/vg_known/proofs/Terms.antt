@@ -10,10 +10,10 @@ use Rattle.vg_base.specs.Width.{bits_of, size_of}
 use Rattle.vg_terms.specs.declared.value.Env.{Env}
 use Rattle.vg_terms.specs.Term.{Tree, leaf, IsWidth}
 use Rattle.vg_terms.specs.Value.{value}
-use Rattle.vg_shapes.specs.declared.unit.Operator.{Operator}
-use Rattle.vg_shapes.specs.declared.unit.Operator.TheVariants.{Two, Shift, Resize, Compare, Select}
-use Rattle.vg_shapes.specs.declared.unit.Unit.{Unit as Work}
-use Rattle.vg_shapes.specs.declared.unit.Unit.TheVariants.{Load, Store, Operation}
+use Rattle.vg_shapes.specs.declared.ssa_unit.Operator.{Operator}
+use Rattle.vg_shapes.specs.declared.ssa_unit.Operator.TheVariants.{Two, Shift, Resize, Compare, Select}
+use Rattle.vg_shapes.specs.declared.ssa_unit.SsaUnit.{SsaUnit}
+use Rattle.vg_shapes.specs.declared.ssa_unit.SsaUnit.TheVariants.{Load, Store, Operation}
 use Rattle.vg_shapes.specs.declared.wanted.Wanted.{Wanted}
 use Rattle.vg_shapes.specs.declared.wanted.Wanted.TheVariants.{Value, Constant, Nothing}
 use Rattle.vg_shapes.specs.RunUnits.{number_of, operation_result, Reached, reached, result_of, run_units, unit_run}
@@ -32,12 +32,12 @@ use Rattle.vg_known.proofs.Walk.{classes-front, Grows, grows-not, grows-on, met-
 
 -- ---- what was met stays
 
-with-grows : (s : Terms) (u : Work) (t : Tree) → Grows s.met (with_term s u t).met
+with-grows : (s : Terms) (u : SsaUnit) (t : Tree) → Grows s.met (with_term s u t).met
 with-grows s (Load a w) t = met-grows s.met t
 with-grows s (Store a w x) t = grows-not s.met
 with-grows s (Operation op w k xs) t = met-grows s.met t
 
-pub terms-grow : (flags : List Bool) (first : ℕ) (done : List Work) (s : Terms) (us : List Work) → Grows s.met (terms_behind flags first done s us).met
+pub terms-grow : (flags : List Bool) (first : ℕ) (done : List SsaUnit) (s : Terms) (us : List SsaUnit) → Grows s.met (terms_behind flags first done s us).met
 terms-grow flags first done s [] = grows-not s.met
 terms-grow flags first done s (u ∷ us) =
     let next = with_term s u (unit_term flags first done s u) in
@@ -46,7 +46,7 @@ terms-grow flags first done s (u ∷ us) =
 -- ---- one unit
 
 -- the leaf of each load stands for what the load reads
-abbrev pub LoadsStand : Env → List Bool → ℕ → (ℕ → ℕ) → List Work → List Work → ℕ → Type 0
+abbrev pub LoadsStand : Env → List Bool → ℕ → (ℕ → ℕ) → List SsaUnit → List SsaUnit → ℕ → Type 0
 LoadsStand env flags first numbers done [] v = Unit {0}
 LoadsStand env flags first numbers done (Load a w ∷ us) v =
     (value env (leaf (bits_of w) (load_key a (first_load flags first done v a w))) ≡ numbers v)
@@ -55,17 +55,17 @@ LoadsStand env flags first numbers done (Store a w x ∷ us) v = LoadsStand env 
 LoadsStand env flags first numbers done (Operation op w k xs ∷ us) v = LoadsStand env flags first numbers (done ++ Operation op w k xs ∷ []) us (v + 1)
 
 -- what a unit gives
-abbrev Gives : (ℕ → ℕ) → Work → ℕ → Type 0
+abbrev Gives : (ℕ → ℕ) → SsaUnit → ℕ → Type 0
 Gives numbers (Load a w) n = Unit {0}
 Gives numbers (Store a w x) n = n ≡ 0
 Gives numbers (Operation op w k xs) n = n ≡ result_of numbers op (bits_of w) k xs
 
-pub record Gave (u : Work) (r t : Reached) : Type 0 where
+pub record Gave (u : SsaUnit) (r t : Reached) : Type 0 where
   pub given : ℕ
   pub numbers : t.numbers ≡ r.numbers ++ given ∷ []
   pub gives : Gives (slice_index r.numbers) u given
 
-pub gave : (places : List ℕ) (u : Work) (r t : Reached) → unit_run places u r ≡ Some t → Gave u r t
+pub gave : (places : List ℕ) (u : SsaUnit) (r t : Reached) → unit_run places u r ≡ Some t → Gave u r t
 gave places (Load a w) r t e =
     let went = went_well (loaded r.memory (place_of places a) (size_of w)) _ e in
     let same : reached r.memory r.numbers (number went.0) ≡ t = (let k : Some (reached r.memory r.numbers (number went.0)) ≡ Some t = went.2 in cc) in
@@ -116,11 +116,11 @@ result-width (Compare op) w = (omega arith, omega arith)
 result-width Select w = bits-width w
 
 -- the term of a unit, its width and its number
-pub record Stands (env : Env) (u : Work) (n : ℕ) (t : Tree) : Type 0 where
+pub record Stands (env : Env) (u : SsaUnit) (n : ℕ) (t : Tree) : Type 0 where
   pub means : value env t ≡ n
   pub width : (w : ℕ) → unit_bits u ≡ Some w → IsWidth w × IsTermOf w t
 
-unit-stands : (env : Env) (flags : List Bool) (first count : ℕ) (bits : List (Option ℕ)) (done : List Work) (s : Terms) (u : Work) (us : List Work) (numbers : List ℕ) (all : ℕ → ℕ) (n v : ℕ) → Stand bits s.terms → Each env s.terms numbers → ClassesMean env s.met → UnitIn count bits u
+unit-stands : (env : Env) (flags : List Bool) (first count : ℕ) (bits : List (Option ℕ)) (done : List SsaUnit) (s : Terms) (u : SsaUnit) (us : List SsaUnit) (numbers : List ℕ) (all : ℕ → ℕ) (n v : ℕ) → Stand bits s.terms → Each env s.terms numbers → ClassesMean env s.met → UnitIn count bits u
     → length s.terms ≡ v → Gives (slice_index numbers) u n → all v ≡ n → LoadsStand env flags first all done (u ∷ us) v → Stands env u n (unit_term flags first done s u)
 unit-stands env flags first count bits done s (Load a w) us numbers all n v stand each classes valid long gives is loads = record {
   means = ap (λ k. value env (leaf (bits_of w) (load_key a (first_load flags first done k a w)))) long ∙ loads.0 ∙ is;
@@ -144,12 +144,12 @@ pub record AllMean (env : Env) (bits : List (Option ℕ)) (terms : List Tree) (n
   pub stand : Stand bits terms
   pub each : Each env terms numbers
 
-behind-loads : (env : Env) (flags : List Bool) (first : ℕ) (all : ℕ → ℕ) (done : List Work) (u : Work) (us : List Work) (v : ℕ) → LoadsStand env flags first all done (u ∷ us) v → LoadsStand env flags first all (done ++ u ∷ []) us (v + 1)
+behind-loads : (env : Env) (flags : List Bool) (first : ℕ) (all : ℕ → ℕ) (done : List SsaUnit) (u : SsaUnit) (us : List SsaUnit) (v : ℕ) → LoadsStand env flags first all done (u ∷ us) v → LoadsStand env flags first all (done ++ u ∷ []) us (v + 1)
 behind-loads env flags first all done (Load a w) us v h = h.1
 behind-loads env flags first all done (Store a w x) us v h = h
 behind-loads env flags first all done (Operation op w k xs) us v h = h
 
-pub terms-mean : (env : Env) (flags : List Bool) (first count : ℕ) (places : List ℕ) (bits : List (Option ℕ)) (done : List Work) (s : Terms) (us : List Work) (r t : Reached) → AllMean env bits s.terms r.numbers → length r.numbers ≡ length s.terms → UnitsIn count bits us
+pub terms-mean : (env : Env) (flags : List Bool) (first count : ℕ) (places : List ℕ) (bits : List (Option ℕ)) (done : List SsaUnit) (s : Terms) (us : List SsaUnit) (r t : Reached) → AllMean env bits s.terms r.numbers → length r.numbers ≡ length s.terms → UnitsIn count bits us
     → ClassesMean env (terms_behind flags first done s us).met → LoadsStand env flags first (slice_index t.numbers) done us (length r.numbers) → run_units places us r ≡ Some t
     → AllMean env (bits ++ map unit_bits us) (terms_behind flags first done s us).terms t.numbers
 unfolding run_units

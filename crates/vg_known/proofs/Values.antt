@@ -14,8 +14,8 @@ use Rattle.vg_terms.specs.Value.{value}
 use Rattle.vg_terms.proofs.Orders.{same_term}
 use Rattle.vg_canon.specs.Canonical.{canonical}
 use Rattle.vg_canon.proofs.Forms.{canonical-settled}
-use Rattle.vg_shapes.specs.declared.unit.Operator.{Operator}
-use Rattle.vg_shapes.specs.declared.unit.Operator.TheVariants as operator
+use Rattle.vg_shapes.specs.declared.ssa_unit.Operator.{Operator}
+use Rattle.vg_shapes.specs.declared.ssa_unit.Operator.TheVariants as operator
 use Rattle.vg_shapes.specs.Registers.{Reads}
 use Rattle.vg_shapes.specs.RunUnits.{operation_result}
 use Rattle.vg_shapes.specs.Sound.{cut_key, result_bits}

@@ -4,7 +4,7 @@ use Rattle.std.specs.List.{list_any}
 use Rattle.vg_terms.specs.Term.{Tree, leaf, constant, one, two, sel, node_count, width_of}
 use Rattle.vg_terms.specs.Order.{is_same_term}
 use Rattle.vg_canon.specs.Canonical.{canonical}
-use Rattle.vg_shapes.specs.declared.unit.Operator.{Operator}
+use Rattle.vg_shapes.specs.declared.ssa_unit.Operator.{Operator}
 use Rattle.vg_shapes.specs.Sound.{cut_key}
 use Rattle.vg_ssa.specs.ValueTerm.{operation_term}
 use Rattle.vg_lift.specs.Gather.{Bit, clear, input, of_term, gather}

@@ -10,8 +10,8 @@ use Rattle.vg_program.specs.declared.line.Line.{Line}
 use Rattle.vg_program.specs.declared.line.Line.TheVariants.{Load, Store, Two, Shift, Resize, Compare, Select, VectorLoad, VectorStore, Constant, Insert, Extract, Call}
 use Rattle.vg_program.specs.declared.program.Program.{Program}
 use Rattle.vg_shapes.specs.declared.ssa.Ssa.{Ssa}
-use Rattle.vg_shapes.specs.declared.unit.Unit.{Unit as Work}
-use Rattle.vg_shapes.specs.declared.unit.Unit.TheVariants as unit
+use Rattle.vg_shapes.specs.declared.ssa_unit.SsaUnit.{SsaUnit}
+use Rattle.vg_shapes.specs.declared.ssa_unit.SsaUnit.TheVariants as unit
 use Rattle.vg_shapes.specs.Order.{numbers_from}
 use Rattle.vg_shapes.specs.Units.{arguments, unit_at}
 use Rattle.vg_ssa.specs.ValueTerm as kernel
@@ -109,7 +109,7 @@ sides_of entries ssa p lines =
     }
 
 -- the term of what a store of the kernel writes, and that of what the program writes there
-abbrev pub own_term : Sides → Work → Option Tree
+abbrev pub own_term : Sides → SsaUnit → Option Tree
 own_term s (unit.Store a w x) =
     Some (gathered s.known.met (bits_from (kernel.operand_term s.terms x) 0 (bits_of w)))
 own_term s (unit.Load a w) = None

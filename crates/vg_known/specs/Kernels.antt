@@ -4,8 +4,8 @@ use Rattle.vg_base.specs.Width.{bits_of, size_of}
 use Rattle.vg_terms.specs.Term.{Tree, leaf}
 use Rattle.vg_shapes.specs.declared.ssa.Ssa.{Ssa}
 use Rattle.vg_shapes.specs.declared.ssa.SsaParam.{SsaParam}
-use Rattle.vg_shapes.specs.declared.unit.Unit.{Unit as Work}
-use Rattle.vg_shapes.specs.declared.unit.Unit.TheVariants.{Load, Store, Operation}
+use Rattle.vg_shapes.specs.declared.ssa_unit.SsaUnit.{SsaUnit}
+use Rattle.vg_shapes.specs.declared.ssa_unit.SsaUnit.TheVariants.{Load, Store, Operation}
 use Rattle.vg_shapes.specs.Layout.{access_of, noalias_flags}
 use Rattle.vg_shapes.specs.Order.{numbers_from}
 use Rattle.vg_shapes.specs.Sound.{argument_key, is_store, kind_bits, load_key}
@@ -27,7 +27,7 @@ argument_leaves v [] = []
 argument_leaves v (p ∷ ps) = leaf (kind_bits p.kind) (argument_key v) ∷ argument_leaves (v + 1) ps
 
 -- the term of a unit after these, of which the first has the number first; a store has none
-abbrev pub unit_term : List Bool → ℕ → List Work → Terms → Work → Tree
+abbrev pub unit_term : List Bool → ℕ → List SsaUnit → Terms → SsaUnit → Tree
 unit_term flags first done s (Load a w) =
     leaf (bits_of w) (load_key a (first_load flags first done (length s.terms) a w))
 unit_term flags first done s (Store a w x) = no_term
@@ -36,12 +36,12 @@ unit_term flags first done s (Operation op w k xs) =
     (operand_term s.terms xs.third)
 
 -- one value more; that of a store is not met
-abbrev pub with_term : Terms → Work → Tree → Terms
+abbrev pub with_term : Terms → SsaUnit → Tree → Terms
 with_term s u t =
     record { terms = s.terms ++ t ∷ []; met = if is_store u then s.met else met_with s.met t }
 
 -- the terms of units after these
-abbrev pub terms_behind : List Bool → ℕ → List Work → Terms → List Work → Terms
+abbrev pub terms_behind : List Bool → ℕ → List SsaUnit → Terms → List SsaUnit → Terms
 terms_behind flags first done s [] = s
 terms_behind flags first done s (u ∷ us) =
     terms_behind flags first (done ++ u ∷ []) (with_term s u (unit_term flags first done s u)) us
@@ -65,13 +65,13 @@ bits_at [] e = []
 bits_at (p ∷ ps) e = if nat_eq e p.0 then p.1 else bits_at ps e
 
 -- the bits that a unit with this term reads, its first event having this number
-abbrev pub read_by : ℕ → Work → Tree → List (ℕ × List Bit)
+abbrev pub read_by : ℕ → SsaUnit → Tree → List (ℕ × List Bit)
 read_by f (Load a w) t = pairs_of (numbers_from f (size_of w)) (bits_from t 0 (bits_of w))
 read_by f (Store a w x) t = []
 read_by f (Operation op w k xs) t = []
 
 -- the same of units with these terms
-abbrev pub reads_from : ℕ → List Work → List Tree → List (ℕ × List Bit)
+abbrev pub reads_from : ℕ → List SsaUnit → List Tree → List (ℕ × List Bit)
 reads_from f [] ts = []
 reads_from f (u ∷ us) [] = []
 reads_from f (u ∷ us) (t ∷ ts) =

@@ -10,8 +10,8 @@ use Rattle.vg_program.specs.declared.line.Line.TheVariants.{Load, Store, Two, Sh
 use Rattle.vg_program.specs.declared.operand.Operand.{Operand}
 use Rattle.vg_program.specs.declared.operand.Operand.TheVariants.{Register, Argument, Literal}
 use Rattle.vg_program.specs.Vectors.{bytes_of, register_of}
-use Rattle.vg_shapes.specs.declared.unit.Operator.{Operator}
-use Rattle.vg_shapes.specs.declared.unit.Operator.TheVariants as operator
+use Rattle.vg_shapes.specs.declared.ssa_unit.Operator.{Operator}
+use Rattle.vg_shapes.specs.declared.ssa_unit.Operator.TheVariants as operator
 use Rattle.vg_ssa.specs.ValueTerm.{no_term}
 use Rattle.vg_lift.specs.Gather.{Bit, clear, bits_from}
 use Rattle.vg_lift.specs.LaneTerm.{pieces}

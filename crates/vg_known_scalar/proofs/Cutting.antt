@@ -16,7 +16,7 @@ use Rattle.vg_terms.proofs.Orders.{same_term-means}
 use Rattle.vg_canon.specs.Canonical.{canonical, canonical_within}
 use Rattle.vg_canon.proofs.Forms.{root-none}
 use Rattle.vg_canon.proofs.Steps.{leaf-finished}
-use Rattle.vg_shapes.specs.declared.unit.Operator.TheVariants as operator
+use Rattle.vg_shapes.specs.declared.ssa_unit.Operator.TheVariants as operator
 use Rattle.vg_ssa.specs.ValueTerm.{comparison_term, no_term, resize_term, shift_term, two_term}
 use Rattle.vg_lift.specs.Gather.{bits_from, continues, gather, gather_from, of_term, terms}
 use Rattle.vg_known.specs.Cuts.{built, computed, cut, cut_bits, gathered, is_atom, leaf_for, met_with, small_or}

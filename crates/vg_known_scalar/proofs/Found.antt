@@ -4,8 +4,8 @@ use Rattle.std.specs.Prelude.{nat_eq, slice_index_or}
 use Rattle.std.proofs.lemmas.Bool.{cases_Bool, cond-true, cond-false, eq-eqb, eqb-true}
 use Rattle.vg_base.specs.Width.{bits_of, size_of}
 use Rattle.vg_terms.specs.Term.{Tree}
-use Rattle.vg_shapes.specs.declared.unit.Unit.{Unit as Work}
-use Rattle.vg_shapes.specs.declared.unit.Unit.TheVariants.{Load, Store, Operation}
+use Rattle.vg_shapes.specs.declared.ssa_unit.SsaUnit.{SsaUnit}
+use Rattle.vg_shapes.specs.declared.ssa_unit.SsaUnit.TheVariants.{Load, Store, Operation}
 use Rattle.vg_shapes.specs.Layout.{access_of}
 use Rattle.vg_shapes.specs.Order.{numbers_from}
 use Rattle.vg_ssa.specs.ValueTerm.{no_term, operand_term}
@@ -62,27 +62,27 @@ own-bits all ps f (suc n) bs qs e u long =
 -- ---- the events of units
 
 -- how many events a unit has
-abbrev pub count_in : Work → ℕ
+abbrev pub count_in : SsaUnit → ℕ
 count_in u = length (labels_in (access_of u))
 
 -- ---- loads
 
 -- a load reads all bits of the term of its value
-abbrev pub UnitReads : (ℕ → List Bit) → List Tree → ℕ → ℕ → Work → Type 0
+abbrev pub UnitReads : (ℕ → List Bit) → List Tree → ℕ → ℕ → SsaUnit → Type 0
 UnitReads bits ts f v (Load a w) = event_bits bits (numbers_from f (count_in (Load a w))) ≡ bits_from (slice_index_or ts v no_term) 0 (bits_of w)
 UnitReads bits ts f v (Store a w x) = Unit {0}
 UnitReads bits ts f v (Operation op w k xs) = Unit {0}
 
-abbrev pub AllRead : (ℕ → List Bit) → List Tree → ℕ → ℕ → List Work → Type 0
+abbrev pub AllRead : (ℕ → List Bit) → List Tree → ℕ → ℕ → List SsaUnit → Type 0
 AllRead bits ts f v [] = Unit {0}
 AllRead bits ts f v (u ∷ us) = UnitReads bits ts f v u × AllRead bits ts (f + count_in u) (v + 1) us
 
-under-read : (f : ℕ) (u : Work) (t : Tree) → PairsUnder (f + count_in u) (read_by f u t)
+under-read : (f : ℕ) (u : SsaUnit) (t : Tree) → PairsUnder (f + count_in u) (read_by f u t)
 under-read f (Load a w) t = subst (λ n. PairsUnder (f + n) (read_by f (Load a w) t)) (sym (length-labels false a (size_of w))) (under-pairs f (size_of w) (bits_from t 0 (bits_of w)))
 under-read f (Store a w x) t = tt
 under-read f (Operation op w k xs) t = tt
 
-unit-reads : (all ps : List (ℕ × List Bit)) (ts : List Tree) (f v : ℕ) (u : Work) (t : Tree) (qs : List (ℕ × List Bit)) → all ≡ ps ++ (read_by f u t ++ qs) → PairsUnder f ps → slice_index_or ts v no_term ≡ t → UnitReads (bits_at all) ts f v u
+unit-reads : (all ps : List (ℕ × List Bit)) (ts : List Tree) (f v : ℕ) (u : SsaUnit) (t : Tree) (qs : List (ℕ × List Bit)) → all ≡ ps ++ (read_by f u t ++ qs) → PairsUnder f ps → slice_index_or ts v no_term ≡ t → UnitReads (bits_at all) ts f v u
 unit-reads all ps ts f v (Load a w) t qs e u is =
     ap (λ n. event_bits (bits_at all) (numbers_from f n)) (length-labels false a (size_of w))
     ∙ own-bits all ps f (size_of w) (bits_from t 0 (bits_of w)) qs e u (length-bits_from t 0 (bits_of w) ∙ sym (eight-size w))
@@ -90,7 +90,7 @@ unit-reads all ps ts f v (Load a w) t qs e u is =
 unit-reads all ps ts f v (Store a w x) t qs e u is = tt
 unit-reads all ps ts f v (Operation op w k xs) t qs e u is = tt
 
-pub all-read : (all ps : List (ℕ × List Bit)) (ts : List Tree) (f v : ℕ) (us : List Work) (rest : List Tree) → all ≡ ps ++ reads_from f us rest → PairsUnder f ps → drop v ts ≡ rest → length us ≤ length rest → AllRead (bits_at all) ts f v us
+pub all-read : (all ps : List (ℕ × List Bit)) (ts : List Tree) (f v : ℕ) (us : List SsaUnit) (rest : List Tree) → all ≡ ps ++ reads_from f us rest → PairsUnder f ps → drop v ts ≡ rest → length us ≤ length rest → AllRead (bits_at all) ts f v us
 all-read all ps ts f v [] rest e u at enough = tt
 all-read all ps ts f v (w ∷ us) [] e u at enough = absurd (omega arith)
 all-read all ps ts f v (w ∷ us) (t ∷ rest) e u at enough =
@@ -104,30 +104,30 @@ all-read all ps ts f v (w ∷ us) (t ∷ rest) e u at enough =
 -- ---- stores
 
 -- the bits that stores write, where values have these terms
-abbrev pub put_by : List Tree → ℕ → Work → List (ℕ × List Bit)
+abbrev pub put_by : List Tree → ℕ → SsaUnit → List (ℕ × List Bit)
 put_by ts f (Load a w) = []
 put_by ts f (Store a w x) = pairs_of (numbers_from f (count_in (Store a w x))) (bits_from (operand_term ts x) 0 (bits_of w))
 put_by ts f (Operation op w k xs) = []
 
-abbrev pub puts_from : List Tree → ℕ → List Work → List (ℕ × List Bit)
+abbrev pub puts_from : List Tree → ℕ → List SsaUnit → List (ℕ × List Bit)
 puts_from ts f [] = []
 puts_from ts f (u ∷ us) = put_by ts f u ++ puts_from ts (f + count_in u) us
 
-abbrev pub UnitPuts : (ℕ → List Bit) → List Tree → ℕ → Work → Type 0
+abbrev pub UnitPuts : (ℕ → List Bit) → List Tree → ℕ → SsaUnit → Type 0
 UnitPuts bits ts f (Load a w) = Unit {0}
 UnitPuts bits ts f (Store a w x) = event_bits bits (numbers_from f (count_in (Store a w x))) ≡ bits_from (operand_term ts x) 0 (bits_of w)
 UnitPuts bits ts f (Operation op w k xs) = Unit {0}
 
-abbrev pub AllPut : (ℕ → List Bit) → List Tree → ℕ → List Work → Type 0
+abbrev pub AllPut : (ℕ → List Bit) → List Tree → ℕ → List SsaUnit → Type 0
 AllPut bits ts f [] = Unit {0}
 AllPut bits ts f (u ∷ us) = UnitPuts bits ts f u × AllPut bits ts (f + count_in u) us
 
-under-put : (ts : List Tree) (f : ℕ) (u : Work) → PairsUnder (f + count_in u) (put_by ts f u)
+under-put : (ts : List Tree) (f : ℕ) (u : SsaUnit) → PairsUnder (f + count_in u) (put_by ts f u)
 under-put ts f (Load a w) = tt
 under-put ts f (Store a w x) = under-pairs f (count_in (Store a w x)) (bits_from (operand_term ts x) 0 (bits_of w))
 under-put ts f (Operation op w k xs) = tt
 
-unit-puts : (all ps : List (ℕ × List Bit)) (ts : List Tree) (f : ℕ) (u : Work) (qs : List (ℕ × List Bit)) → all ≡ ps ++ (put_by ts f u ++ qs) → PairsUnder f ps → UnitPuts (bits_at all) ts f u
+unit-puts : (all ps : List (ℕ × List Bit)) (ts : List Tree) (f : ℕ) (u : SsaUnit) (qs : List (ℕ × List Bit)) → all ≡ ps ++ (put_by ts f u ++ qs) → PairsUnder f ps → UnitPuts (bits_at all) ts f u
 unit-puts all ps ts f (Load a w) qs e u = tt
 unit-puts all ps ts f (Store a w x) qs e u =
     let t = operand_term ts x in
@@ -135,7 +135,7 @@ unit-puts all ps ts f (Store a w x) qs e u =
     own-bits all ps f (count_in (Store a w x)) (bits_from t 0 (bits_of w)) qs e u (length-bits_from t 0 (bits_of w) ∙ sym (eight-size w) ∙ ap (λ n. 8 * n) (sym size))
 unit-puts all ps ts f (Operation op w k xs) qs e u = tt
 
-pub all-put : (all ps : List (ℕ × List Bit)) (ts : List Tree) (f : ℕ) (us : List Work) → all ≡ ps ++ puts_from ts f us → PairsUnder f ps → AllPut (bits_at all) ts f us
+pub all-put : (all ps : List (ℕ × List Bit)) (ts : List Tree) (f : ℕ) (us : List SsaUnit) → all ≡ ps ++ puts_from ts f us → PairsUnder f ps → AllPut (bits_at all) ts f us
 all-put all ps ts f [] e u = tt
 all-put all ps ts f (w ∷ us) e u =
     let own = put_by ts f w in

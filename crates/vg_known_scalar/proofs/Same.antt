@@ -20,10 +20,10 @@ use Rattle.vg_shapes.specs.declared.ssa.Ssa.{Ssa}
 use Rattle.vg_shapes.specs.declared.ssa.SsaParam.{SsaParam}
 use Rattle.vg_shapes.specs.declared.ssa.SsaParamKind.{SsaParamKind}
 use Rattle.vg_shapes.specs.declared.ssa.SsaParamKind.TheVariants.{Pointer, Integer}
-use Rattle.vg_shapes.specs.declared.unit.Operator.{Operator}
-use Rattle.vg_shapes.specs.declared.unit.Operator.TheVariants as operator
-use Rattle.vg_shapes.specs.declared.unit.Unit.{Unit as Work}
-use Rattle.vg_shapes.specs.declared.unit.Unit.TheVariants.{Load, Store, Operation}
+use Rattle.vg_shapes.specs.declared.ssa_unit.Operator.{Operator}
+use Rattle.vg_shapes.specs.declared.ssa_unit.Operator.TheVariants as operator
+use Rattle.vg_shapes.specs.declared.ssa_unit.SsaUnit.{SsaUnit}
+use Rattle.vg_shapes.specs.declared.ssa_unit.SsaUnit.TheVariants.{Load, Store, Operation}
 use Rattle.vg_shapes.specs.Layout.{access_of, noalias_flags}
 use Rattle.vg_shapes.specs.Order.{count_of, numbers_from}
 use Rattle.vg_shapes.specs.Sound.{IsSound, pointers, TakeEarlier}
@@ -99,7 +99,7 @@ operation-plain entries (operator.Resize op v) w n a b c = refl
 operation-plain entries (operator.Compare op) w n a b c = refl
 operation-plain entries operator.Select w n a b c = refl
 
-no-calls : (entries : List Entry) (needed : ℕ → Bool) (k : ℕ) (names : List Number) (us : List Work) → list_any (is_opaque_call entries) (scalar_lines needed k names us) ≡ false
+no-calls : (entries : List Entry) (needed : ℕ → Bool) (k : ℕ) (names : List Number) (us : List SsaUnit) → list_any (is_opaque_call entries) (scalar_lines needed k names us) ≡ false
 no-calls entries needed k names [] = refl
 no-calls entries needed k names (Load a w ∷ us) = no-calls entries needed (k + 1) (names ++ Register k ∷ []) us
 no-calls entries needed k names (Store a w x ∷ us) = no-calls entries needed k (names ++ Register 0 ∷ []) us
@@ -119,7 +119,7 @@ none-opaque entries ssa =
 
 -- ---- labels
 
-scalar-labels : (needed : ℕ → Bool) (k : ℕ) (names : List Number) (us : List Work) → labels (map line_access (scalar_lines needed k names us)) ≡ unit_labels us
+scalar-labels : (needed : ℕ → Bool) (k : ℕ) (names : List Number) (us : List SsaUnit) → labels (map line_access (scalar_lines needed k names us)) ≡ unit_labels us
 scalar-labels needed k names [] = refl
 scalar-labels needed k names (Load a w ∷ us) = ap (λ l. labels_in (access_of (Load a w)) ++ l) (scalar-labels needed (k + 1) (names ++ Register k ∷ []) us)
 scalar-labels needed k names (Store a w x ∷ us) = ap (λ l. labels_in (access_of (Store a w x)) ++ l) (scalar-labels needed k (names ++ Register 0 ∷ []) us)
@@ -188,7 +188,7 @@ name-at k zero v less = absurd (omega arith)
 name-at k (suc n) zero less = (let e : k ≡ k + 0 = omega arith in ap Argument e)
 name-at k (suc n) (suc v) less = name-at (k + 1) n v (omega arith) ∙ (let e : k + 1 + v ≡ k + suc v = omega arith in ap Argument e)
 
-terms-long : (flags : List Bool) (first : ℕ) (done : List Work) (s : Terms) (us : List Work) → length (terms_behind flags first done s us).terms ≡ length s.terms + length us
+terms-long : (flags : List Bool) (first : ℕ) (done : List SsaUnit) (s : Terms) (us : List SsaUnit) → length (terms_behind flags first done s us).terms ≡ length s.terms + length us
 terms-long flags first done s [] = omega arith
 terms-long flags first done s (u ∷ us) =
     let own = unit_term flags first done s u in
@@ -246,7 +246,7 @@ followed entries ssa sound =
       reads = all-read g.reads [] ts 0 a ssa.units (drop a ts) refl tt refl enough;
     })
 
-labels-push : (done : List Work) (u : Work) → length (unit_labels (done ++ u ∷ [])) ≡ length (unit_labels done) + count_in u
+labels-push : (done : List SsaUnit) (u : SsaUnit) → length (unit_labels (done ++ u ∷ [])) ≡ length (unit_labels done) + count_in u
 labels-push [] u = length-append (labels_in (access_of u)) [] ∙ omega arith
 labels-push (d ∷ done) u =
     let own = length-append (labels_in (access_of d)) (unit_labels (done ++ u ∷ [])) in
@@ -254,8 +254,8 @@ labels-push (d ∷ done) u =
     let rest = labels-push done u in
     omega (arith, own, old, rest)
 
-unit-same : (ssa : Ssa) (s : Sides) (f v : ℕ) (done : List Work) (u : Work) (us : List Work) → ssa.units ≡ done ++ u ∷ us → length (unit_labels done) ≡ f → arguments ssa + length done ≡ v → AllPut (bits_at s.known.puts) s.terms f (u ∷ us) → value_at s ssa v ≡ None
-unit-same ssa s f v done u us whole long at put = ap (λ (o : Option Work). (o >>= own_term s) >>= tested) there ∙ by u put.0 events
+unit-same : (ssa : Ssa) (s : Sides) (f v : ℕ) (done : List SsaUnit) (u : SsaUnit) (us : List SsaUnit) → ssa.units ≡ done ++ u ∷ us → length (unit_labels done) ≡ f → arguments ssa + length done ≡ v → AllPut (bits_at s.known.puts) s.terms f (u ∷ us) → value_at s ssa v ≡ None
+unit-same ssa s f v done u us whole long at put = ap (λ (o : Option SsaUnit). (o >>= own_term s) >>= tested) there ∙ by u put.0 events
   where
     tested : Tree → Option Difference
     tested own = if is_same_term own (put_term s ssa v) then None else Some (differs v own (put_term s ssa v))
@@ -268,14 +268,14 @@ unit-same ssa s f v done u us whole long at put = ap (λ (o : Option Work). (o >
         (λ i. slice_index_or (spans 0 (map access_of (whole i))) ((let k : v - arguments ssa ≡ length done = omega arith in k) i) [])
         ∙ span-at 0 done u us ∙ ap (λ n. numbers_from n (count_in u)) (let e : 0 + length (unit_labels done) ≡ f = omega (arith, long) in e)
 
-    by : (w : Work) → UnitPuts (bits_at s.known.puts) s.terms f w → unit_events ssa v ≡ numbers_from f (count_in w) → (own_term s w >>= tested) ≡ None
+    by : (w : SsaUnit) → UnitPuts (bits_at s.known.puts) s.terms f w → unit_events ssa v ≡ numbers_from f (count_in w) → (own_term s w >>= tested) ≡ None
     by (Load a w) p e = refl
     by (Operation op w k xs) p e = refl
     by (Store a w x) p e =
         let equal : gathered s.known.met (bits_from (kernel.operand_term s.terms x) 0 (bits_of w)) ≡ put_term s ssa v = sym (ap (gathered s.known.met) (ap (event_bits (bits_at s.known.puts)) e ∙ p)) in
         cond-true _ _ _ ((same_term-means _ _).1 equal)
 
-values-same : (ssa : Ssa) (s : Sides) (f v : ℕ) (done us : List Work) → ssa.units ≡ done ++ us → length (unit_labels done) ≡ f → arguments ssa + length done ≡ v → AllPut (bits_at s.known.puts) s.terms f us → first_of (map (value_at s ssa) (numbers_from v (length us))) ≡ None
+values-same : (ssa : Ssa) (s : Sides) (f v : ℕ) (done us : List SsaUnit) → ssa.units ≡ done ++ us → length (unit_labels done) ≡ f → arguments ssa + length done ≡ v → AllPut (bits_at s.known.puts) s.terms f us → first_of (map (value_at s ssa) (numbers_from v (length us))) ≡ None
 values-same ssa s f v done [] whole long at put = refl
 values-same ssa s f v done (u ∷ us) whole long at put =
     let here = unit-same ssa s f v done u us whole long at put in

@@ -10,11 +10,11 @@ use Rattle.vg_program.specs.declared.line.Line.{Line}
 use Rattle.vg_program.specs.declared.operand.Operand.{Operand as Number}
 use Rattle.vg_program.specs.declared.operand.Operand.TheVariants.{Register}
 use Rattle.vg_shapes.specs.declared.access.Access.{Access}
-use Rattle.vg_shapes.specs.declared.unit.Operands.{Operands}
-use Rattle.vg_shapes.specs.declared.unit.Operator.{Operator}
-use Rattle.vg_shapes.specs.declared.unit.Operator.TheVariants as operator
-use Rattle.vg_shapes.specs.declared.unit.Unit.{Unit as Work}
-use Rattle.vg_shapes.specs.declared.unit.Unit.TheVariants.{Load, Store, Operation}
+use Rattle.vg_shapes.specs.declared.ssa_unit.Operands.{Operands}
+use Rattle.vg_shapes.specs.declared.ssa_unit.Operator.{Operator}
+use Rattle.vg_shapes.specs.declared.ssa_unit.Operator.TheVariants as operator
+use Rattle.vg_shapes.specs.declared.ssa_unit.SsaUnit.{SsaUnit}
+use Rattle.vg_shapes.specs.declared.ssa_unit.SsaUnit.TheVariants.{Load, Store, Operation}
 use Rattle.vg_shapes.specs.Order.{numbers_from}
 use Rattle.vg_shapes.specs.Sound.{load_key, result_bits}
 use Rattle.vg_ssa.specs.ValueTerm.{no_term}
@@ -98,7 +98,7 @@ operation-known needed g s all k v bits names operator.Select w n xs es h met gr
 -- ---- the walk
 
 -- Behind some units: what is known of their values, and what holds of the units that follow.
-pub record Midway (needed : ℕ → Bool) (g : Given) (flags : List Bool) (first pointers : ℕ) (final : Terms) (f v count : ℕ) (bits : List (Option ℕ)) (names : List Number) (done : List Work) (s : Terms) (us : List Work) (k : Known) : Type 0 where
+pub record Midway (needed : ℕ → Bool) (g : Given) (flags : List Bool) (first pointers : ℕ) (final : Terms) (f v count : ℕ) (bits : List (Option ℕ)) (names : List Number) (done : List SsaUnit) (s : Terms) (us : List SsaUnit) (k : Known) : Type 0 where
   pub whole : terms_behind flags first done s us ≡ final
   pub named : Named needed g s.met k v bits names s.terms
   pub many : length k.scalars ≡ count
@@ -115,7 +115,7 @@ pub record Followed (met : List Tree) (puts : List (ℕ × List Bit)) (k : Known
 abbrev behind : Given → ℕ → List Line → Known → Known
 behind g f ls k = know_all g ls (spans f (map line_access ls)) k
 
-pub walk : (needed : ℕ → Bool) (g : Given) (flags : List Bool) (first pointers : ℕ) (final : Terms) (f v count : ℕ) (bits : List (Option ℕ)) (names : List Number) (done : List Work) (s : Terms) (us : List Work) (k : Known)
+pub walk : (needed : ℕ → Bool) (g : Given) (flags : List Bool) (first pointers : ℕ) (final : Terms) (f v count : ℕ) (bits : List (Option ℕ)) (names : List Number) (done : List SsaUnit) (s : Terms) (us : List SsaUnit) (k : Known)
     → Midway needed g flags first pointers final f v count bits names done s us k
     → Followed final.met (k.puts ++ puts_from final.terms f us) (know_all g (scalar_lines needed count names us) (spans f (map line_access (scalar_lines needed count names us))) k)
 walk needed g flags first pointers final f v count bits names done s [] k h = record { met_is = h.met; puts_are = sym (append-nil k.puts) }

@@ -63,7 +63,8 @@ fn description(
     imm: u8,
     lanes: Vec<Lane>,
 ) -> Result<Description, AllocError>
-    ensures { IfOk result (λ d. description_of d ≡ description header.now imm (map lane_of lanes.items)) }
+    ensures { IfOk result (λ d. description_of d ≡ description header.now imm (map lane_of
+        lanes.items)) }
 {
     let name = header.name.copy(alloc)?;
     let params = registers(alloc, header.params.as_slice())?;
@@ -89,7 +90,8 @@ pub fn describe(
     lanes: Vec<Lane>,
 ) -> Result<Described, AllocError>
     requires { AreLanes header.now (map lane_of lanes.items) }
-    ensures is { IfOk result (λ d. described_of d ≡ described header.now imm (map lane_of lanes.items)) }
+    ensures is { IfOk result (λ d. described_of d ≡ described header.now imm (map lane_of
+        lanes.items)) }
     ensures kept { IfOk result (λ d. IsKept (described_of d)) }
 {
     let forms = canonical_lanes(alloc, lanes)?;

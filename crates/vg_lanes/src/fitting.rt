@@ -55,7 +55,7 @@ fn is_lane(header: &Header, term: &Term) -> bool
     formed && (wide && inside)
 }
 
-fn may_be_lane(header: &Header, lane: &Lane) -> bool
+fn is_fit_lane(header: &Header, lane: &Lane) -> bool
     ensures { IsTrue result ↔ MayBeLane header.now (lane_of lane.now) }
 {
     match lane {
@@ -65,14 +65,14 @@ fn may_be_lane(header: &Header, lane: &Lane) -> bool
     }
 }
 
-fn may_be_lanes(header: &Header, lanes: &[Lane]) -> bool
+fn are_fit_lanes(header: &Header, lanes: &[Lane]) -> bool
     ensures { IsTrue result ↔ AllByRecursion (MayBeLane header.now) (map lane_of lanes.now) }
 {
     match lanes {
         [] => true,
         [lane, behind @ ..] => {
-            let first = may_be_lane(header, lane);
-            let others = may_be_lanes(header, behind);
+            let first = is_fit_lane(header, lane);
+            let others = are_fit_lanes(header, behind);
             first && others
         }
     }
@@ -85,6 +85,6 @@ pub fn are_lanes(header: &Header, lanes: &[Lane]) -> bool
 {
     let width = u64::from(header.lane_width);
     let fill = (lanes.len() as u64).saturating_mul(width) == u64::from(header.register);
-    let each = may_be_lanes(header, lanes);
+    let each = are_fit_lanes(header, lanes);
     fill && each
 }

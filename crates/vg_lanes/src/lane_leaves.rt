@@ -35,7 +35,8 @@ fn push_leaves(term: &Term, to: &mut Vec<Leaf>) -> Result<(), AllocError>
 
 /// Appends the leaves of a lane, if it has a term.
 fn push_lane(lane: &Lane, to: &mut Vec<Leaf>) -> Result<(), AllocError>
-    ensures { OnOk result (to.new.items ≡ to.old.items ++ flat_map leaves (term_of (lane_of lane.now))) }
+    ensures { OnOk result (to.new.items ≡ to.old.items ++ flat_map leaves (term_of (lane_of
+        lane.now))) }
 {
     match lane {
         Lane::Tree(term) => push_leaves(term, to),

@@ -91,7 +91,8 @@ fn put_lane_line(
     number: u64,
     lane: &Lane,
 ) -> Result<(), AllocError>
-    ensures { OnOk result (to.new.items ≡ to.old.items ++ lane_line names.now number (lane_of lane.now)) }
+    ensures { OnOk result (to.new.items ≡ to.old.items ++ lane_line names.now number (lane_of
+        lane.now)) }
 {
     to.extend_from_slice(b"lane ")?;
     put_number(alloc, to, number)?;
@@ -107,7 +108,8 @@ fn put_lane_lines(
     names: &Names,
     lanes: &[Lane],
 ) -> Result<(), AllocError>
-    ensures { OnOk result (to.new.items ≡ to.old.items ++ lane_lines names.now 0 (map lane_of lanes.now)) }
+    ensures { OnOk result (to.new.items ≡ to.old.items ++ lane_lines names.now 0 (map lane_of
+        lanes.now)) }
 {
     let mut number = 0;
     let mut left = lanes;
@@ -145,7 +147,8 @@ fn write_instance(
     to: &mut Vec<u8>,
 ) -> Result<(), AllocError>
     requires { AreLanes header.now (map lane_of lanes.items) }
-    ensures { OnOk result (to.new.items ≡ to.old.items ++ instance_text header.now imm (map lane_of lanes.items)) }
+    ensures { OnOk result (to.new.items ≡ to.old.items ++ instance_text header.now imm (map lane_of
+        lanes.items)) }
 {
     let forms = canonical_lanes(alloc, lanes)?;
     let cause = first_cause(alloc, forms.as_slice())?;
@@ -168,7 +171,8 @@ pub fn list_instance(
     to: &mut Vec<u8>,
 ) -> Result<(), AllocError>
     requires { AreLanes header.now (map lane_of lanes.items) }
-    ensures done { OnOk result (to.new.items ≡ to.old.items ++ instance_text header.now imm (map lane_of lanes.items)) }
+    ensures done { OnOk result (to.new.items ≡ to.old.items ++ instance_text header.now imm (map
+        lane_of lanes.items)) }
     ensures refused { OnErr result (to.new.items ≡ to.old.items) }
 {
     let mut whole = Vec::new(alloc);

@@ -27,7 +27,7 @@ use Rattle.vg_interval.specs.declared.fault.RangeFault.{RangeFault}
 use Rattle.vg_range.specs.Acceptance.{named}
 use Rattle.vg_range.specs.Immediates.{immediate_of}
 use Rattle.vg_range.specs.Unrolled.{IsGiven, left_by, meant, unrolled, whole_from}
-use Rattle.vg_range.specs.Walk.{Stand, instance_at}
+use Rattle.vg_range.specs.Walk.{WalkState, instance_at}
 use Rattle.vg_range_laws.specs.Static.{IsStatic}
 use Rattle.vg_range_laws.proofs.Instances.{instances-are-static}
 use Rattle.vg_lift.specs.Instances.{InResult, IsLaneOf, is_dynamic_in, registers, term_in}
@@ -80,7 +80,7 @@ record Registered (h : Header) (i : Whole) : Type 0 where
 stands : (h : Header) (o : Operation) (imm : Option ℕ) (i : Whole) → unrolled h o imm ≡ whole_ok i → Registered h i
 stands h o imm i e =
     let p = bind_ok (named (resolve h o)) _ e in
-    let q = bind_ok (instance_at true p.0 imm) (λ (w : Stand). whole_ok (whole_from p.0 w)) p.2 in
+    let q = bind_ok (instance_at true p.0 imm) (λ (w : WalkState). whole_ok (whole_from p.0 w)) p.2 in
     let same : whole_from p.0 q.0 ≡ i = same_whole q.2 in
     let r = named_is (resolve h o) p.0 p.1 in
     let fs = bind_ok (functions_of [] o.defines) _ r in

@@ -91,7 +91,8 @@ fn entered(
 /// So many variables, all of them zero.
 #[tactic(auto, using(crate::proofs::Begins::zeros_are, crate::proofs::Begins::zeros_nodes))]
 fn zeros(pool: &mut Pool, alloc: Global, count: usize) -> Result<Vec<usize>, AllocError>
-    ensures is { IfOk result (λ v. map (tree_at pool.new) v.items ≡ replicate count (constant 128 0)) }
+    ensures is { IfOk result (λ v. map (tree_at pool.new) v.items ≡ replicate count (constant 128
+        0)) }
     ensures nodes { IfOk result (λ v. AreNodes pool.new v.items) }
     ensures keeps { Keeps pool.old pool.new }
 {

@@ -37,7 +37,8 @@ fn digits(number: u128, first: u32, count: u32) -> u128
 /// Bits of a whole number in two's complement from a bit on, at most 64.
 fn piece_value(number: WholeNumber, first: u32, count: u32) -> u128
     requires { count ≤ 64 }
-    ensures is { (w : _) → first + count ≤ w → result ≡ residue w (number_of number) / 2 ^ first % 2 ^ count }
+    ensures is { (w : _) → first + count ≤ w → result ≡ residue w (number_of number) / 2 ^ first % 2
+        ^ count }
     ensures small { result < 2 ^ count }
 {
     match number {
@@ -110,7 +111,8 @@ fn push_piece(
     requires bits { BitsFit pool.old bits.old.items }
     requires last { IsPiece pool.old last }
     ensures is { OnOk result (bits_of pool.new bits.new.items ≡ bits_of pool.old bits.old.items ++
-        bits_from (piece width (residue width (number_of number)) first) 0 (min 64 (width - first))) }
+        bits_from (piece width (residue width (number_of number)) first) 0 (min 64 (width -
+        first))) }
     ensures fit { OnOk result (BitsFit pool.new bits.new.items) }
     ensures last { IfOk result (λ p. IsPiece pool.new p) }
     ensures keeps { Keeps pool.old pool.new }

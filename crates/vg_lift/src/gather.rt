@@ -35,9 +35,10 @@ fn lengthened(pool: &Pool, run: Run, bits: &[Bit]) -> (Run, usize)
     requires bits { BitsFit pool.now bits.now }
     requires few { run_size run + length bits.now ≤ 128 }
     requires some { 0 < length bits.now }
-    requires next { continues (run_of pool.now run) (bit_of pool.now (get_or bits.now 0 Clear)) ≡ true }
-    ensures is { gather_from (run_of pool.now result.0) (bits_of pool.now (drop result.1 bits.now)) ≡
-        gather_from (run_of pool.now run) (bits_of pool.now bits.now) }
+    requires next { continues (run_of pool.now run) (bit_of pool.now (get_or bits.now 0 Clear)) ≡
+        true }
+    ensures is { gather_from (run_of pool.now result.0) (bits_of pool.now (drop result.1 bits.now))
+        ≡ gather_from (run_of pool.now run) (bits_of pool.now bits.now) }
     ensures fits { RunFits pool.now result.0 }
     ensures size { run_size result.0 ≡ run_size run + result.1 }
     ensures some { 0 < result.1 }

@@ -64,8 +64,8 @@ fn select_runs(pool: &mut Pool, c: usize, first: Run, second: Run) -> Result<usi
     requires second { RunFits pool.old second }
     requires same { run_size first ≡ run_size second }
     requires few { run_size first ≤ 64 }
-    ensures node { IfOk result (λ n. StandsFor pool.new n
-        (sel (run_size first) (tree_at pool.old c) (whole (run_of pool.old first)) (whole (run_of pool.old second)))) }
+    ensures node { IfOk result (λ n. StandsFor pool.new n (sel (run_size first) (tree_at pool.old c)
+        (whole (run_of pool.old first)) (whole (run_of pool.old second)))) }
     ensures keeps { Keeps pool.old pool.new }
 {
     let taken = whole_node(pool, first)?;
@@ -126,7 +126,8 @@ fn goes_on(pool: &Pool, range: Open, place: usize, x: Bit, y: Bit) -> bool
     requires range { OpenFits pool.now range }
     requires x { BitFits pool.now x }
     requires y { BitFits pool.now y }
-    ensures { result ≡ goes_on (open_of pool.now range) place (bit_of pool.now x) (bit_of pool.now y) }
+    ensures { result ≡ goes_on (open_of pool.now range) place (bit_of pool.now x) (bit_of pool.now
+        y) }
 {
     match range {
         Open::Shut => false,
@@ -142,7 +143,8 @@ fn opened(pool: &Pool, range: Open, place: usize, x: Bit, y: Bit) -> Open
     requires few { OpenFew place range }
     requires x { BitFits pool.now x }
     requires y { BitFits pool.now y }
-    requires next { goes_on (open_of pool.now range) place (bit_of pool.now x) (bit_of pool.now y) ≡ true }
+    requires next { goes_on (open_of pool.now range) place (bit_of pool.now x) (bit_of pool.now y) ≡
+        true }
     ensures is { open_of pool.now result ≡ opened (open_of pool.now range) }
     ensures fits { OpenFits pool.now result }
     ensures few { OpenFew (place + 1) result }
@@ -160,7 +162,8 @@ fn opened(pool: &Pool, range: Open, place: usize, x: Bit, y: Bit) -> Open
 fn opening(pool: &Pool, _place: usize, x: Bit, y: Bit) -> Open
     requires x { BitFits pool.now x }
     requires y { BitFits pool.now y }
-    ensures is { open_of pool.now result ≡ differ (start (bit_of pool.now x)) (start (bit_of pool.now y)) }
+    ensures is { open_of pool.now result ≡ differ (start (bit_of pool.now x)) (start (bit_of
+        pool.now y)) }
     ensures fits { OpenFits pool.now result }
     ensures few { OpenFew (_place + 1) result }
 {

@@ -43,8 +43,8 @@ fn join_all_variables(
     requires xs { AreNodes pool.old xs.now }
     requires ys { AreNodes pool.old ys.now }
     requires same { length xs.now ≡ length ys.now }
-    ensures is { IfOk result (λ v. map (tree_at pool.new) v.items ≡
-        join_variables (tree_at pool.old c) (map (tree_at pool.old) xs.now) (map (tree_at pool.old) ys.now)) }
+    ensures is { IfOk result (λ v. map (tree_at pool.new) v.items ≡ join_variables (tree_at pool.old
+        c) (map (tree_at pool.old) xs.now) (map (tree_at pool.old) ys.now)) }
     ensures nodes { IfOk result (λ v. AreNodes pool.new v.items) }
     ensures count { IfOk result (λ v. length v.items ≡ length xs.now) }
     ensures keeps { Keeps pool.old pool.new }
@@ -80,8 +80,8 @@ fn join_all_registers(
     requires xs { AllFit pool.old xs.now }
     requires ys { AllFit pool.old ys.now }
     requires same { map length xs.now ≡ map length ys.now }
-    ensures is { IfOk result (λ v. map (bits_of pool.new) v.items ≡
-        join_registers (tree_at pool.old c) (map (bits_of pool.old) xs.now) (map (bits_of pool.old) ys.now)) }
+    ensures is { IfOk result (λ v. map (bits_of pool.new) v.items ≡ join_registers (tree_at pool.old
+        c) (map (bits_of pool.old) xs.now) (map (bits_of pool.old) ys.now)) }
     ensures fit { IfOk result (λ v. AllFit pool.new v.items) }
     ensures widths { IfOk result (λ v. map length v.items ≡ map length xs.now) }
     ensures keeps { Keeps pool.old pool.new }

@@ -116,7 +116,8 @@ impl Lifted {
         requires some { 0 < width }
         requires few { width ≤ 128 }
         requires inside { lane * width + width ≤ length self.now.bits }
-        ensures node { IfOk result (λ n. StandsFor pool.new n (lane_of (bits_of pool.old self.now.bits) width lane)) }
+        ensures node { IfOk result (λ n. StandsFor pool.new n (lane_of (bits_of pool.old
+            self.now.bits) width lane)) }
         ensures keeps { Keeps pool.old pool.new }
     {
         let width = width as usize;
@@ -136,7 +137,8 @@ impl Lifted {
         requires some { 0 < width }
         requires few { width ≤ 128 }
         requires inside { lane * width + width ≤ length self.now.bits }
-        ensures is { IfOk result (λ l. shape.lane_of l ≡ sized (lane_of (bits_of pool.old self.now.bits) width lane)) }
+        ensures is { IfOk result (λ l. shape.lane_of l ≡ sized (lane_of (bits_of pool.old
+            self.now.bits) width lane)) }
         ensures keeps { Keeps pool.old pool.new }
     {
         let node = self.lane(pool, width, lane)?;

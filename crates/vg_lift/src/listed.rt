@@ -37,8 +37,8 @@ pub(crate) fn all_lanes(
     requires some { 0 < width }
     requires few { width ≤ 128 }
     requires inside { count * width ≤ length lifted.now.bits }
-    ensures is { IfOk result (λ ls. map lane_of ls.items ≡
-        lanes_from (λ k. sized (terms.lane_of (bits_of pool.old lifted.now.bits) width k)) 0 count) }
+    ensures is { IfOk result (λ ls. map lane_of ls.items ≡ lanes_from (λ k. sized (terms.lane_of
+        (bits_of pool.old lifted.now.bits) width k)) 0 count) }
     ensures keeps { Keeps pool.old pool.new }
 {
     let mut all = Vec::new(alloc);

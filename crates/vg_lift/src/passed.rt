@@ -45,7 +45,8 @@ pub(crate) fn padded_bits(
     bits: &[Bit],
     width: usize,
 ) -> Result<Items<Bit>, AllocError>
-    ensures { IfOk result (λ v. v ≡ take width bits.now ++ replicate (width - length bits.now) Clear) }
+    ensures { IfOk result (λ v. v ≡ take width bits.now ++ replicate (width - length bits.now)
+        Clear) }
 {
     let count = width.min(bits.len());
     let mut all = Vec::with_capacity(alloc, width)?;
@@ -81,7 +82,8 @@ pub(crate) fn bits_passed(
     passed: &Passed,
 ) -> Result<Items<Bit>, AllocError>
     requires fits { PassedFits pool.old passed.now }
-    ensures is { IfOk result (λ v. bits_of pool.new v ≡ bits_passed width (passed_of pool.old passed.now)) }
+    ensures is { IfOk result (λ v. bits_of pool.new v ≡ bits_passed width (passed_of pool.old
+        passed.now)) }
     ensures fit { IfOk result (λ v. BitsFit pool.new v) }
     ensures keeps { Keeps pool.old pool.new }
 {

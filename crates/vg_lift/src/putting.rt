@@ -142,7 +142,8 @@ pub(crate) fn bits_of_node(
     width: u32,
 ) -> Result<Items<Bit>, AllocError>
     requires { IsNode _pool.now node width }
-    ensures is { IfOk result (λ v. bits_of _pool.now v ≡ bits_from (tree_at _pool.now node) 0 width) }
+    ensures is { IfOk result (λ v. bits_of _pool.now v ≡ bits_from (tree_at _pool.now node) 0
+        width) }
     ensures fit { IfOk result (λ v. BitsFit _pool.now v) }
     ensures count { IfOk result (λ v. length v ≡ width) }
 {

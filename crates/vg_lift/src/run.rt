@@ -174,7 +174,8 @@ pub(crate) fn low_node(
 fn shifted_node(pool: &mut Pool, node: usize, width: u32, places: u32) -> Result<usize, AllocError>
     requires node { IsNode pool.old node width }
     requires inside { places < width }
-    ensures node { IfOk result (λ n. StandsFor pool.new n (shifted places (tree_at pool.old node))) }
+    ensures node { IfOk result (λ n. StandsFor pool.new n (shifted places (tree_at pool.old
+        node))) }
     ensures keeps { Keeps pool.old pool.new }
 {
     pool_is_shared(pool);

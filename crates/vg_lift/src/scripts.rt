@@ -364,7 +364,8 @@ fn lift_put(
     word: &Word,
 ) -> Result<(), AllocError>
     requires fits { StateFits pool.old state.old }
-    requires formed { ScriptFormed (widths_in state.old) (put register first width (word_of word.now)) }
+    requires formed { ScriptFormed (widths_in state.old) (put register first width (word_of
+        word.now)) }
     requires is_static { IsStaticWord (word_of word.now) }
     ensures leaves { OnOk result (Leaves pool.new state.old state.new
         (lifted (put register first width (word_of word.now)) (state_of pool.old state.old))) }
@@ -390,8 +391,8 @@ fn handed(
     requires fits { StateFits pool.old state.now }
     requires formed { FrameFormed (frame_of frame.now) }
     requires is_static { IsStaticFrame (frame_of frame.now) }
-    ensures is { IfOk result (λ v. bits_of pool.new v ≡ part first width
-        (get_or (left_by (state_of pool.old state.now) (frame_of frame.now)).registers register [])) }
+    ensures is { IfOk result (λ v. bits_of pool.new v ≡ part first width (get_or (left_by (state_of
+        pool.old state.now) (frame_of frame.now)).registers register [])) }
     ensures fit { IfOk result (λ v. BitsFit pool.new v) }
     ensures count { IfOk result (λ v. length v ≡ width) }
     ensures keeps { Keeps pool.old pool.new }
@@ -487,8 +488,8 @@ fn lift_turns(
     requires widths { widths_in state.old ≡ widths_in before.now }
     requires count { length state.old.variables.items ≡ length before.now.variables.items }
     requires turns { TurnsFit pool.old (widths_in before.now) turns.items }
-    ensures leaves { OnOk result (Leaves pool.new state.old state.new
-        (taken pool.old (state_of pool.old before.now) turns.entry.items (state_of pool.old state.old))) }
+    ensures leaves { OnOk result (Leaves pool.new state.old state.new (taken pool.old (state_of
+        pool.old before.now) turns.entry.items (state_of pool.old state.old))) }
     ensures keeps { Keeps pool.old pool.new }
 {
     'turns: while let Some(turn) = turns.pop() {
@@ -513,8 +514,8 @@ fn lift_turn(
     requires widths { widths_in state.old ≡ widths_in before.now }
     requires count { length state.old.variables.items ≡ length before.now.variables.items }
     requires turn { TurnFits pool.old (widths_in before.now) turn }
-    ensures leaves { OnOk result (Leaves pool.new state.old state.new
-        (joined (tree_at pool.old turn.entry.node) (lifted (script_of turn.entry.body.now) (state_of pool.old before.now))
+    ensures leaves { OnOk result (Leaves pool.new state.old state.new (joined (tree_at pool.old
+        turn.entry.node) (lifted (script_of turn.entry.body.now) (state_of pool.old before.now))
         (state_of pool.old state.old))) }
     ensures keeps { Keeps pool.old pool.new }
 {

@@ -34,8 +34,8 @@ pub fn compile_loop(
     more: bool,
 ) -> Result<Looped, AllocError>
     requires source { IsLoop (loop_of source.now) }
-    ensures { IfOk result
-        (IsCompiledLoop (entries_in catalog.now) (bits_in allowed) (loop_of source.now) width more) }
+    ensures { IfOk result (IsCompiledLoop (entries_in catalog.now) (bits_in allowed) (loop_of
+        source.now) width more) }
 {
     let turns = turns_of(source);
     let kernel = unroll(alloc, source, turns)?;

@@ -54,8 +54,8 @@ fn run_turns<T: Turn>(
     requires ready { T.is_ready runner.old }
     requires near { StayNear steps.now (size * count) places.old }
     requires long { length places.old ≡ length steps.now }
-    ensures outcome { Leaves result memory.new
-        (turns (block_of size (T.means runner.old) steps.now places.old args.now) count 0 memory.old) }
+    ensures outcome { Leaves result memory.new (turns (block_of size (T.means runner.old) steps.now
+        places.old args.now) count 0 memory.old) }
     ensures size { length memory.new ≡ length memory.old }
     ensures same { T.means runner.new ≡ T.means runner.old }
     ensures ready { T.is_ready runner.new }

@@ -11,7 +11,7 @@ use Rattle.vg_bits.proofs.ByteLists.{bits_of_bytes-append, bits_of_bytes-zero, t
 use Rattle.vg_pmean.specs.Applied.{answer, given}
 use Rattle.vg_program.specs.Meaning.{register_bits}
 use Rattle.vg_catalog.specs.Called.{called_by, imm_number, numbers_given}
-use Rattle.vg_machine.specs.Kept.{Kept, Instances, DoesCall}
+use Rattle.vg_machine.specs.ReadyInstance.{ReadyInstance, Instances, DoesCall}
 
 pub num_zeros : (n : ℕ) → num (replicate n 0) ≡ 0
 unfolding num
@@ -59,7 +59,7 @@ map-twice f g (x ∷ xs) = ap (λ t. f (g x) ∷ t) (map-twice f g xs)
 pub call_is : (i : Instances) (place : ℕ) (name rs : List ℕ) (vs : List (List ℕ)) (imm : Option ℕ) (width n : ℕ) (params : List (Reg 64)) (made : Reg 64)
     → DoesCall i place name (length rs) imm width → n ≡ imm_number imm
     → map (λ (p : Reg 64). num (bits_of_bytes p.bytes)) params ≡ map (λ v. num (register_bits vs v)) rs
-    → ((k : Kept) → slice_get i.kept place ≡ Some k → bits_of_bytes made.bytes ≡ bits 512 (num (answer k.ready n (given params n))))
+    → ((k : ReadyInstance) → slice_get i.kept place ≡ Some k → bits_of_bytes made.bytes ≡ bits 512 (num (answer k.ready n (given params n))))
     → take (8 * (width / 8)) (bits_of_bytes made.bytes) ≡ called_by i.entries name (map (λ v. register_bits vs v) rs) imm
 call_is i place name rs vs imm width n params made does e nums by =
     let taken = map (λ v. register_bits vs v) rs in

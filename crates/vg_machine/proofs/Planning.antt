@@ -24,7 +24,7 @@ use Rattle.vg_program.specs.Before.{Before, nothing_before, with_defined}
 use Rattle.vg_program.specs.Text.{defined}
 use Rattle.vg_program.specs.Valid.{IsLine, IsCallOf, AreLines, KeepsRules, header_of}
 use Rattle.vg_machine.specs.declared.instances.Called.{Called}
-use Rattle.vg_machine.specs.Kept.{Kept, Instances, IsKept, AreKept, Stays, StandsAt, AreFound, DoesCall, IsPlanned, ArePlanned, Placed, Answered, Planned, IsCalled, AreCalled}
+use Rattle.vg_machine.specs.ReadyInstance.{ReadyInstance, Instances, IsKept, AreKept, Stays, StandsAt, AreFound, DoesCall, IsPlanned, ArePlanned, Placed, Answered, Planned, IsCalled, AreCalled}
 use Rattle.std.specs.Map.{lookup}
 use Rattle.std.proofs.lemmas.Map.Entries.{place_from_lookup}
 use Rattle.vg_machine.specs.FirstPlaces.{place_from}
@@ -121,7 +121,7 @@ same_key a b e =
     λ i. record { entry = sym entry i; imm = sym imm i }
 
 -- what is found under a key is kept at its place
-pub found_stands : (test : Called → Bool) (c : Called) (table : List (Called × ℕ)) (ks : List Kept) (place : ℕ) → ((d : Called) → test d ≡ true → d ≡ c) → AreFound table ks → Some place ≡ lookup test table → StandsAt ks place c
+pub found_stands : (test : Called → Bool) (c : Called) (table : List (Called × ℕ)) (ks : List ReadyInstance) (place : ℕ) → ((d : Called) → test d ≡ true → d ≡ c) → AreFound table ks → Some place ≡ lookup test table → StandsAt ks place c
 found_stands test c table ks place decides are e =
     let at = place_from_lookup test table place (sym e) in
     let stands = are at.0 at.1 place at.2 in
@@ -146,38 +146,38 @@ answered_from before after name imm entry place found kept p =
       answers = subst (λ (n : ℕ). AnswersOne e.0.header e.0.operation n k.ready) imm_is e.2;
     }
 
-abbrev none_kept : List Kept
+abbrev none_kept : List ReadyInstance
 none_kept = []
 
 -- nothing is kept yet
-pub kept_none : (es : List Entry) (ks : List Kept) → ks ≡ [] → AreKept es ks
-kept_none es ks none at k e = let is : slice_get none_kept at ≡ Some k = subst (λ (l : List Kept). slice_get l at ≡ Some k) none e in absurd cc
+pub kept_none : (es : List Entry) (ks : List ReadyInstance) → ks ≡ [] → AreKept es ks
+kept_none es ks none at k e = let is : slice_get none_kept at ≡ Some k = subst (λ (l : List ReadyInstance). slice_get l at ≡ Some k) none e in absurd cc
 
-pub found_none : (table : List (Called × ℕ)) (ks : List Kept) → table ≡ [] → AreFound table ks
+pub found_none : (table : List (Called × ℕ)) (ks : List ReadyInstance) → table ≡ [] → AreFound table ks
 found_none table ks none i c place e = absurd (nothing_at i (subst (λ (t : List (Called × ℕ)). slice_get t i ≡ Some (c, place)) none e))
   where
     nothing_at : (i : ℕ) → (let t : List (Called × ℕ) = [] in slice_get t i ≡ Some (c, place)) → ⊥
     nothing_at i e = cc
 
 -- one more is kept
-pub kept_more : (es : List Entry) (ks : List Kept) (k : Kept) → AreKept es ks → IsKept es k → AreKept es (ks ++ k ∷ [])
+pub kept_more : (es : List Entry) (ks : List ReadyInstance) (k : ReadyInstance) → AreKept es ks → IsKept es k → AreKept es (ks ++ k ∷ [])
 kept_more es ks k all one = push_each (IsKept es) ks k all one
 
-pub found_more : (table new : List (Called × ℕ)) (ks : List Kept) (k : Kept) (place : ℕ) → place ≡ length ks → new ≡ table ++ (k.called, place) ∷ [] → AreFound table ks → AreFound new (ks ++ k ∷ [])
+pub found_more : (table new : List (Called × ℕ)) (ks : List ReadyInstance) (k : ReadyInstance) (place : ℕ) → place ≡ length ks → new ≡ table ++ (k.called, place) ∷ [] → AreFound table ks → AreFound new (ks ++ k ∷ [])
 found_more table new ks k place count grown are i c p at =
     let all = push_each (λ (x : Called × ℕ). StandsAt (ks ++ k ∷ []) x.1 x.0) table (k.called, place)
     (λ j y e. let s = are j y.0 y.1 e in (s.0, push_stays ks k y.1 s.0 s.1, s.2))
     (k, subst (λ (n : ℕ). slice_get (ks ++ k ∷ []) n ≡ Some k) (sym count) (push_last ks k), refl) in
     all i (c, p) (subst (λ (t : List (Called × ℕ)). slice_get t i ≡ Some (c, p)) grown at)
 
-pub placed_new : (es : List Entry) (ks : List Kept) (k : Kept) (place : ℕ) → place ≡ length ks → Placed (record { entries = es; kept = ks }) (record { entries = es; kept = ks ++ k ∷ [] }) k.called place
+pub placed_new : (es : List Entry) (ks : List ReadyInstance) (k : ReadyInstance) (place : ℕ) → place ≡ length ks → Placed (record { entries = es; kept = ks }) (record { entries = es; kept = ks ++ k ∷ [] }) k.called place
 placed_new es ks k place count = record {
   same = refl;
   stays = λ at y e. push_stays ks k at y e;
   stands = (k, subst (λ (n : ℕ). slice_get (ks ++ k ∷ []) n ≡ Some k) (sym count) (push_last ks k), refl);
 }
 
-pub is_kept : (es : List Entry) (k : Kept) (e : Entry) → slice_get es k.called.entry ≡ Some e → AnswersOne e.header e.operation k.called.imm k.ready → IsKept es k
+pub is_kept : (es : List Entry) (k : ReadyInstance) (e : Entry) → slice_get es k.called.entry ≡ Some e → AnswersOne e.header e.operation k.called.imm k.ready → IsKept es k
 is_kept es k e at answers = subst (λ (o : Option Entry). IsSomeAnd o (λ x. AnswersOne x.header x.operation k.called.imm k.ready)) (sym at) answers
 
 pub answered_ok : (before after : Instances) (name : List ℕ) (imm entry : ℕ) (r : Result ℕ AllocError) → Some entry ≡ place_from 0 before.entries name

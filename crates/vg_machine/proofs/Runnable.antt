@@ -29,7 +29,7 @@ use Rattle.vg_program.specs.Meaning.{State, Inputs, Instructions, operand_number
 use Rattle.vg_machine.specs.State.{IsThere, IsRunnable, AreRunnable}
 use Rattle.vg_catalog.specs.Entries.{Entry}
 use Rattle.vg_catalog.specs.Called.{called_by, headers_of}
-use Rattle.vg_machine.specs.Kept.{Instances, IsPlanned, ArePlanned}
+use Rattle.vg_machine.specs.ReadyInstance.{Instances, IsPlanned, ArePlanned}
 use Rattle.vg_machine.proofs.Registers.{lane_inside}
 
 some_of : {A : Type 0} (o : Option A) (P : A → Type 0) → IsSomeAnd o P → (x : A) × (o ≡ Some x) × P x

@@ -1,4 +1,4 @@
 pub mod FirstPlaces
-pub mod Kept
+pub mod ReadyInstance
 pub mod Planner
 pub mod State

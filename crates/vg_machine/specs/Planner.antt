@@ -2,7 +2,7 @@
 use Rattle.std.specs.Prelude.{ℕ, ◌*◌, ◌/◌, ◌==◌, ◌&&◌, Bool, List, map, nat_le}
 use Rattle.vg_catalog.specs.Entries.{Entry, entry_of}
 use Rattle.vg_machine.specs.declared.planner.Planner as code
-use Rattle.vg_machine.specs.Kept.{Instances, AreKept, AreFound, kept_of}
+use Rattle.vg_machine.specs.ReadyInstance.{Instances, AreKept, AreFound, kept_of}
 
 -- the entries that may be called, and what is made ready of them so far
 abbrev pub planned_of : code.Planner → Instances

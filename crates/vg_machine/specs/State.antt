@@ -6,7 +6,7 @@ use Rattle.vg_program.specs.Before.{Before}
 use Rattle.vg_program.specs.Vectors.{register_of}
 use Rattle.vg_program.specs.Valid.{IsLane, IsConstant, AreLines}
 use Rattle.vg_program.specs.Meaning.{State, register_bits}
-use Rattle.vg_machine.specs.Kept.{Instances, DoesCall, ArePlanned}
+use Rattle.vg_machine.specs.ReadyInstance.{Instances, DoesCall, ArePlanned}
 
 abbrev pub state_of : List ℕ → List ℕ → List (List ℕ) → State
 state_of memory scalars vectors =
@@ -34,7 +34,9 @@ IsRunnable i place (Extract v n w) vs = (v < length vs) × IsLane (length (regis
 IsRunnable i place (Call name rs imm bits cost) vs = DoesCall i place name (length rs) imm bits
 
 -- lines that keep the rules after these registers, the first of which has this number in the plan
-pub record AreRunnable (i : Instances) (plan : List ℕ) (number : ℕ) (lines : List Line) (vectors : List (List ℕ)) : Type 0 where
+pub record AreRunnable
+    (i : Instances) (plan : List ℕ) (number : ℕ) (lines : List Line) (vectors : List (List ℕ))
+    : Type 0 where
   pub before : Before
   pub widths : map length vectors ≡ before.vectors
   pub rules : AreLines before lines

@@ -4,7 +4,7 @@ ghost use Rattle.std.specs.Prelude.{◌≡◌, ◌≤◌, List, ℕ, length, map
 ghost use Rattle.std.specs.Option.{option_map_or};
 ghost use Rattle.vg_base.specs.Bits.{bits_of_bytes, num};
 ghost use Rattle.vg_catalog.specs.Called.{called_by, imm_number};
-ghost use Rattle.vg_machine.specs.Kept.{DoesCall, instances_of};
+ghost use Rattle.vg_machine.specs.ReadyInstance.{DoesCall, instances_of};
 ghost use Rattle.vg_program.specs.Meaning.{register_bits};
 
 use crate::instances::Instances;
@@ -69,8 +69,9 @@ pub(crate) fn call(
 ) -> Vector
     requires few { length registers.now ≤ 4 }
     requires most { bits ≤ 512 }
-    ensures value { (name : List ℕ) → DoesCall (instances_of instances.old) place name (length registers.now) imm bits →
-        result ≡ called_by (instances_of instances.old).entries name (map (λ v. register_bits vectors.now v) registers.now) imm }
+    ensures value { (name : List ℕ) → DoesCall (instances_of instances.old) place name (length
+        registers.now) imm bits → result ≡ called_by (instances_of instances.old).entries name (map
+        (λ v. register_bits vectors.now v) registers.now) imm }
     ensures same { instances_of instances.new ≡ instances_of instances.old }
     ensures entries { instances.new.entries.now ≡ instances.old.entries.now }
 {

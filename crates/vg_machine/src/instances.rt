@@ -2,7 +2,7 @@
 
 ghost use Rattle.std.specs.Prelude.{◌≡◌, ◌<◌, Some, length, map, slice_get};
 ghost use Rattle.vg_base.specs.Bits.{bits, bits_of_bytes, num};
-ghost use Rattle.vg_machine.specs.Kept.{Kept, instances_of, kept_of};
+ghost use Rattle.vg_machine.specs.ReadyInstance.{ReadyInstance, instances_of, kept_of};
 ghost use Rattle.vg_pmean.specs.Applied.{answer, given};
 
 use vg_bits::Reg;
@@ -43,7 +43,7 @@ pub(crate) struct Instances<'a> {
 
 /// What the one at this place answers.
 fn answer_at(kept: &mut [KeptInstance], place: usize, params: &[Reg<64>], imm: u8) -> Reg<64>
-    ensures bits { (k : Kept) → slice_get (map kept_of kept.old) place ≡ Some k →
+    ensures bits { (k : ReadyInstance) → slice_get (map kept_of kept.old) place ≡ Some k →
         bits_of_bytes result.bytes ≡ bits 512 (num (answer k.ready imm (given params.now imm))) }
     ensures same { map kept_of kept.new ≡ map kept_of kept.old }
 {
@@ -57,8 +57,9 @@ fn answer_at(kept: &mut [KeptInstance], place: usize, params: &[Reg<64>], imm: u
 impl Instances<'_> {
     /// What the one at this place answers to these parameters and this immediate. Takes no memory.
     pub(crate) fn answer(&mut self, place: usize, params: &[Reg<64>], imm: u8) -> Reg<64>
-        ensures bits { (k : Kept) → slice_get (instances_of self.old).kept place ≡ Some k →
-            bits_of_bytes result.bytes ≡ bits 512 (num (answer k.ready imm (given params.now imm))) }
+        ensures bits { (k : ReadyInstance) → slice_get (instances_of self.old).kept place ≡ Some k →
+            bits_of_bytes result.bytes ≡ bits 512 (num (answer k.ready imm (given params.now
+            imm))) }
         ensures same { instances_of self.new ≡ instances_of self.old }
         ensures entries { self.new.entries.now ≡ self.old.entries.now }
     {

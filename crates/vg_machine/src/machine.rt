@@ -34,7 +34,7 @@ impl<'a> Model for Machine<'a> {
     ghost use Rattle.std.specs.Prelude.{◌≤◌, length, vec_capacity};
     ghost use Rattle.vg_program.specs.Valid.{KeepsRules};
     ghost use Rattle.vg_catalog.specs.Called.{headers_of};
-    ghost use Rattle.vg_machine.specs.Kept.{Loaded, ArePlanned, instances_of};
+    ghost use Rattle.vg_machine.specs.ReadyInstance.{Loaded, ArePlanned, instances_of};
     ghost use Rattle.vg_range.specs.contracts.checked.Checked as checked;
     ghost use Rattle.std.specs.Coded.{codes};
 
@@ -89,8 +89,8 @@ impl<'a> Machine<'a> {
     /// the next run begins anew.
     #[tactic(auto, unfolding(vg_program::specs::Meaning::meaning), using(crate::proofs::Runnable::runnable_all))]
     pub fn run(&mut self, memory: &mut [u8], places: &[u64], args: &[u64]) -> Outcome
-        ensures outcome { Leaves result memory.new
-            (meaning (called_by (map entry_of self.old.entries)) self.old.program memory.old places.now args.now) }
+        ensures outcome { Leaves result memory.new (meaning (called_by (map entry_of
+            self.old.entries)) self.old.program memory.old places.now args.now) }
         ensures size { length memory.new ≡ length memory.old }
         ensures program { self.new ≡ self.old }
     {

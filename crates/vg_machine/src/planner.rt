@@ -4,7 +4,7 @@ ghost use Rattle.std.specs.Prelude.{◌≡◌, ◌<◌, [], length, map, slice_g
 ghost use Rattle.vg_catalog.specs.Called.{headers_of};
 ghost use Rattle.vg_catalog.specs.Entries.{entry_of};
 ghost use Rattle.vg_catalog.specs.Written.{AllWritten};
-ghost use Rattle.vg_machine.specs.Kept.{AreCalled, ArePlanned, Answered, IsCalled, Placed, Planned, instances_of, kept_of};
+ghost use Rattle.vg_machine.specs.ReadyInstance.{AreCalled, ArePlanned, Answered, IsCalled, Placed, Planned, instances_of, kept_of};
 ghost use Rattle.vg_machine.specs.Planner.{IsSound, has_room, planned_of};
 ghost use Rattle.vg_names.specs.Written.{IsWritten};
 ghost use Rattle.vg_pmean.specs.Entries.{AnswersOne};
@@ -180,7 +180,8 @@ fn planned_lines<'a>(
     requires called { AreCalled (map entry_of entries.now) lines.now }
     requires written { AllWritten (map entry_of entries.now) }
     ensures entries { IfOk result (λ made. made.0.entries.now ≡ entries.now) }
-    ensures planned { IfOk result (λ made. ArePlanned (instances_of made.0) made.1.items 0 lines.now) }
+    ensures planned { IfOk result (λ made. ArePlanned (instances_of made.0) made.1.items 0
+        lines.now) }
 {
     let mut planner = Planner::new(alloc, entries)?;
     let mut plan = Vec::new(alloc);
@@ -204,7 +205,8 @@ pub(crate) fn planned<'a>(
     requires rules { KeepsRules (headers_of (map entry_of entries.now)) program.now }
     requires written { AllWritten (map entry_of entries.now) }
     ensures entries { IfOk result (λ made. made.0.entries.now ≡ entries.now) }
-    ensures planned { IfOk result (λ made. ArePlanned (instances_of made.0) made.1.items 0 program.now.lines) }
+    ensures planned { IfOk result (λ made. ArePlanned (instances_of made.0) made.1.items 0
+        program.now.lines) }
 {
     planned_lines(alloc, entries, program.lines.as_slice())
 }

@@ -8,7 +8,7 @@ ghost use Rattle.vg_base.specs.Address.{place_of};
 ghost use Rattle.vg_memory.specs.Outcome.{Leaves};
 ghost use Rattle.vg_machine.specs.State.{state_of, IsAccess, IsComputed, IsMade, IsRunnable, AreRunnable};
 ghost use Rattle.vg_catalog.specs.Called.{called_by};
-ghost use Rattle.vg_machine.specs.Kept.{instances_of};
+ghost use Rattle.vg_machine.specs.ReadyInstance.{instances_of};
 
 use crate::calling::call;
 use crate::inputs::Inputs;
@@ -32,9 +32,9 @@ fn register_at(vectors: &[Vector], number: u32) -> &Vector
 
 /// What is read into a register, or None for a trap.
 fn loaded(inputs: &Inputs, size: VectorSize, address: Address, memory: &[u8]) -> Option<Vector>
-    ensures { MatchOption result
-        (loaded memory.now (place_of inputs.now.places address) (bytes_of size) ≡ None)
-        (λ register. (read : List ℕ) × (loaded memory.now (place_of inputs.now.places address) (bytes_of size) ≡ Some read) × (register ≡ widened (register_of size) read)) }
+    ensures { MatchOption result (loaded memory.now (place_of inputs.now.places address) (bytes_of
+        size) ≡ None) (λ register. (read : List ℕ) × (loaded memory.now (place_of inputs.now.places
+        address) (bytes_of size) ≡ Some read) × (register ≡ widened (register_of size) read)) }
 {
     let read = memory::load(memory, inputs.address(address), size.bytes() as usize)?;
     Some(Vector::widened(read, size.register() as usize / 8))
@@ -51,8 +51,9 @@ fn access(
     requires access { IsAccess line.now vectors.old.items }
     requires scalars { vec_len scalars.old < vec_capacity scalars.old }
     requires vectors { vec_len vectors.old < vec_capacity vectors.old }
-    ensures outcome { (called : Instructions) → Leaves result (state_of memory.new scalars.new.items vectors.new.items)
-        (step called inputs.now line.now (state_of memory.old scalars.old.items vectors.old.items)) }
+    ensures outcome { (called : Instructions) → Leaves result (state_of memory.new scalars.new.items
+        vectors.new.items) (step called inputs.now line.now (state_of memory.old scalars.old.items
+        vectors.old.items)) }
     ensures size { length memory.new ≡ length memory.old }
     ensures one_scalar { vec_len scalars.new ≤ vec_len scalars.old + 1 }
     ensures one_vector { vec_len vectors.new ≤ vec_len vectors.old + 1 }
@@ -165,9 +166,9 @@ fn made(
     vectors: &[Vector],
 ) -> Vector
     requires { IsMade (instances_of instances.old) place line.now vectors.now }
-    ensures value { (memory : List ℕ) →
-        step (called_by (instances_of instances.old).entries) inputs.now line.now (state_of memory scalars.now vectors.now)
-        ≡ Some (with_vector (state_of memory scalars.now vectors.now) result) }
+    ensures value { (memory : List ℕ) → step (called_by (instances_of instances.old).entries)
+        inputs.now line.now (state_of memory scalars.now vectors.now) ≡ Some (with_vector (state_of
+        memory scalars.now vectors.now) result) }
     ensures instances { instances_of instances.new ≡ instances_of instances.old }
     ensures entries { instances.new.entries.now ≡ instances.old.entries.now }
 {
@@ -265,7 +266,8 @@ pub(crate) fn run(
     scalars: &mut Vec<u64>,
     vectors: &mut Vec<Vector>,
 ) -> Outcome
-    requires runnable { AreRunnable (instances_of instances.old) plan.now 0 lines.now vectors.old.items }
+    requires runnable { AreRunnable (instances_of instances.old) plan.now 0 lines.now
+        vectors.old.items }
     requires scalars { vec_len scalars.old + length lines.now ≤ vec_capacity scalars.old }
     requires vectors { vec_len vectors.old + length lines.now ≤ vec_capacity vectors.old }
     ensures outcome { Leaves result (state_of memory.new scalars.new.items vectors.new.items)

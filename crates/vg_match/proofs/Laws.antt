@@ -13,8 +13,8 @@ use Rattle.vg_terms.specs.Value.{number_at, value}
 use Rattle.vg_shapes.specs.declared.match_table.Bound.{Bound}
 use Rattle.vg_shapes.specs.declared.match_table.Match.{Match}
 use Rattle.vg_shapes.specs.declared.ssa.Ssa.{Ssa}
-use Rattle.vg_shapes.specs.declared.unit.Unit.{Unit as Work}
-use Rattle.vg_shapes.specs.declared.unit.Unit.TheVariants.{Load, Store, Operation}
+use Rattle.vg_shapes.specs.declared.ssa_unit.SsaUnit.{SsaUnit}
+use Rattle.vg_shapes.specs.declared.ssa_unit.SsaUnit.TheVariants.{Load, Store, Operation}
 use Rattle.vg_shapes.specs.declared.wanted.Wanted.{Wanted}
 use Rattle.vg_shapes.specs.declared.wanted.Wanted.TheVariants.{Value, Constant, Nothing}
 use Rattle.vg_shapes.specs.Description.{Description}
@@ -149,7 +149,7 @@ turned-formed ssa v t u cuts at e = elim (known ssa (cuts_of ssa) cuts.argument_
   | inr w ↦ work w.0 w.2
 ]
   where
-    work : (x : Work) → IsUnitTerm v x t → WellFormed t
+    work : (x : SsaUnit) → IsUnitTerm v x t → WellFormed t
     work (Load a w) is = absurd (none-some u (sym (ap turned is) ∙ e))
     work (Store a w x) is = absurd (none-some u (sym (ap turned is) ∙ e))
     work (Operation op w k xs) is = is.0

@@ -205,9 +205,8 @@ pub(crate) fn fit_turned(
     bound: Vec<Bound>,
 ) -> Result<Option<Vec<Bound>>, AllocError>
     requires { AreByTerm least.now }
-    ensures { IfOk result
-        (λ found. option_map (λ b. b.items) found
-        ≡ fit_turned (map tree least.now.terms.now) value (tree lane.now) (tree t.now) bound.items) }
+    ensures { IfOk result (λ found. option_map (λ b. b.items) found ≡ fit_turned (map tree
+        least.now.terms.now) value (tree lane.now) (tree t.now) bound.items) }
 {
     match (lane, t) {
         (

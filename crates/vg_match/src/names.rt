@@ -6,7 +6,7 @@ ghost use Rattle.vg_shapes.specs.Sound.{cut_key, name_of, unit_name};
 ghost use Rattle.vg_terms.specs.Term.{leaf, tree};
 
 use std::alloc::{AllocError, Global};
-use vg_shapes::{Ssa, Unit};
+use vg_shapes::{Ssa, SsaUnit};
 use vg_terms::{LeafKey, Term, make_const, make_leaf};
 
 // The leaf of a value whose term is not looked into.
@@ -23,14 +23,14 @@ fn cut_leaf(width: u32, value: u32) -> Term
 }
 
 // The name of the value of a unit, by its number and its cut term; a constant for a store.
-fn unit_name(alloc: Global, value: u32, cut: &Term, unit: &Unit) -> Result<Term, AllocError>
+fn unit_name(alloc: Global, value: u32, cut: &Term, unit: &SsaUnit) -> Result<Term, AllocError>
     ensures { IfOk result
         (λ name. tree name ≡ unwrap_or (unit_name value (tree cut.now) unit.now) no_name) }
 {
     match unit {
-        Unit::Load { address: _, width } => Ok(cut_leaf(width.bits(), value)),
-        Unit::Store { .. } => Ok(make_const(8, 0)),
-        Unit::Operation { .. } => {
+        SsaUnit::Load { address: _, width } => Ok(cut_leaf(width.bits(), value)),
+        SsaUnit::Store { .. } => Ok(make_const(8, 0)),
+        SsaUnit::Operation { .. } => {
             if cut.width() == 1 {
                 cut.copy(alloc)
             } else {

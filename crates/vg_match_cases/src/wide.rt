@@ -6,13 +6,13 @@ use std::alloc::{AllocError, Global};
 use std::test::Fail;
 use vg_base::{Address, Items, Name, Width};
 use vg_match::build;
-use vg_shapes::{Description, Operands, Operator, Ssa, Unit, Wanted};
+use vg_shapes::{Description, Operands, Operator, Ssa, SsaUnit, Wanted};
 use vg_terms::{LeafKey, Term, TwoOp, make_const, make_leaf, make_sel, make_two};
 
 /// Values that are being numbered: their units, terms and cut terms.
 #[derive(Drop)]
 struct Values {
-    units: Vec<Unit>,
+    units: Vec<SsaUnit>,
     terms: Vec<Term>,
     cuts: Vec<Term>,
 }
@@ -24,7 +24,7 @@ const PLACE: Address = Address {
 };
 
 impl Values {
-    fn push(&mut self, unit: Unit, term: Term, cut: Term) -> Result<(), AllocError> {
+    fn push(&mut self, unit: SsaUnit, term: Term, cut: Term) -> Result<(), AllocError> {
         self.units.push(unit)?;
         self.terms.push(term)?;
         self.cuts.push(cut)?;
@@ -33,7 +33,7 @@ impl Values {
 
     /// A load of 32 bits, by its number.
     fn load(&mut self, value: u32) -> Result<(), AllocError> {
-        let unit = Unit::Load {
+        let unit = SsaUnit::Load {
             address: PLACE,
             width: Width::W32,
         };
@@ -42,7 +42,7 @@ impl Values {
 
     /// An operation. The matches of a kernel do not tell what it does, as terms do.
     fn operation(&mut self, term: Term, cut: Term) -> Result<(), AllocError> {
-        let unit = Unit::Operation {
+        let unit = SsaUnit::Operation {
             op: Operator::Select,
             width: Width::W32,
             amount: 0,
@@ -57,7 +57,7 @@ impl Values {
 
     /// A store of a value.
     fn store(&mut self, value: u32) -> Result<(), AllocError> {
-        let unit = Unit::Store {
+        let unit = SsaUnit::Store {
             address: PLACE,
             width: Width::W32,
             value: Wanted::Value(value),

@@ -1,4 +1,5 @@
--- Assignments of the code, as the definition of names speaks of them; and how they are found along a list of statements.
+-- Assignments of the code, as the definition of names speaks of them; and how they are found along a list of
+-- statements.
 use Rattle.std.specs.Prelude.{ℕ, Bool, List, [], ◌∷◌, map, not, Option, Some, None}
 use Rattle.std.specs.List.{list_any}
 use Rattle.std.specs.Str.{bytes_eq}

@@ -5,4 +5,5 @@ use Rattle.vg_pseudo.specs.Signs.{IsSigned, signed_in}
 
 abbrev pub SignsAreDecided : Type 0
 SignsAreDecided =
-    (given : List Register) (as' : List Assignment) (n : List ℕ) → IsTrue (signed_in given as' (length as') n) ↔ IsSigned given as' n
+    (given : List Register) (as' : List Assignment) (n : List ℕ) →
+    IsTrue (signed_in given as' (length as') n) ↔ IsSigned given as' n

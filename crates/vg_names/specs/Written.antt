@@ -1,5 +1,5 @@
--- What texts can say of numbers: those of arms and of highest bits are below 2 ^ 127, and the registers of an instruction have
--- at most so many bits.
+-- What texts can say of numbers: those of arms and of highest bits are below 2 ^ 127, and the registers of an
+-- instruction have at most so many bits.
 use Rattle.std.specs.Prelude.{◌≡◌, ℕ, ◌^◌, ◌<◌, ◌≤◌, List, [], ◌∷◌, Option, Some, None, Ok}
 use Rattle.vg_pseudo.specs.declared.header.Header.{Header}
 use Rattle.vg_pseudo.specs.declared.header.Param.{Param}

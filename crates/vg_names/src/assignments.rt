@@ -56,8 +56,9 @@ fn unhidden<'a>(
     value: &'a Expr,
     found: &mut Vec<Assignment<'a>>,
 ) -> Result<(), AllocError>
-    ensures { OnOk result (map assignment_view found.new.items ≡
-        map assignment_view found.old.items ++ filter (is_local given.now) (unhidden (map (λ t. t.now) turns.now) name.now (form_view form) (expression_of value.now))) }
+    ensures { OnOk result (map assignment_view found.new.items ≡ map assignment_view found.old.items
+        ++ filter (is_local given.now) (unhidden (map (λ t. t.now) turns.now) name.now (form_view
+        form) (expression_of value.now))) }
 {
     if has_name(turns, name) | given.has(name) {
         return Ok(());
@@ -81,8 +82,9 @@ fn assigned<'a>(
     value: &'a Expr,
     found: &mut Vec<Assignment<'a>>,
 ) -> Result<(), AllocError>
-    ensures { OnOk result (map assignment_view found.new.items ≡
-        map assignment_view found.old.items ++ filter (is_local given.now) (target_assigned (map (λ t. t.now) turns.now) (expression_of target.now) (expression_of value.now))) }
+    ensures { OnOk result (map assignment_view found.new.items ≡ map assignment_view found.old.items
+        ++ filter (is_local given.now) (target_assigned (map (λ t. t.now) turns.now) (expression_of
+        target.now) (expression_of value.now))) }
 {
     match target {
         Expr::Name { name, .. } => unhidden(
@@ -138,8 +140,9 @@ pub(crate) fn collect<'a>(
     code: &'a Stmt,
     found: &mut Vec<Assignment<'a>>,
 ) -> Result<(), AllocError>
-    ensures { OnOk result (map assignment_view found.new.items ≡
-        map assignment_view found.old.items ++ filter (is_local given.now) (assignments (map (λ t. t.now) turns.now) (statements_of code.now))) }
+    ensures { OnOk result (map assignment_view found.new.items ≡ map assignment_view found.old.items
+        ++ filter (is_local given.now) (assignments (map (λ t. t.now) turns.now) (statements_of
+        code.now))) }
 {
     let mut left = code;
     'statements: loop {
@@ -160,9 +163,11 @@ fn first<'a>(
     code: &'a Stmt,
     found: &mut Vec<Assignment<'a>>,
 ) -> Result<Option<&'a Stmt>, AllocError>
-    ensures found { OnOk result (map assignment_view found.new.items ≡
-        map assignment_view found.old.items ++ filter (is_local given.now) (first_assigned (map (λ t. t.now) turns.now) (statements_of code.now))) }
-    ensures rest { IfOk result (λ o. option_map (λ s. statements_of s.now) o ≡ behind_first (statements_of code.now)) }
+    ensures found { OnOk result (map assignment_view found.new.items ≡ map assignment_view
+        found.old.items ++ filter (is_local given.now) (first_assigned (map (λ t. t.now) turns.now)
+        (statements_of code.now))) }
+    ensures rest { IfOk result (λ o. option_map (λ s. statements_of s.now) o ≡ behind_first
+        (statements_of code.now)) }
     ensures inside { IfOk result (λ o. IfSome o (λ s. size-Stmt s.now < size-Stmt code.now)) }
 {
     match code {
@@ -224,8 +229,9 @@ fn inside<'a>(
     body: &'a Stmt,
     found: &mut Vec<Assignment<'a>>,
 ) -> Result<(), AllocError>
-    ensures { OnOk result (map assignment_view found.new.items ≡
-        map assignment_view found.old.items ++ filter (is_local given.now) (assignments (variable.now ∷ map (λ t. t.now) turns.now) (statements_of body.now))) }
+    ensures { OnOk result (map assignment_view found.new.items ≡ map assignment_view found.old.items
+        ++ filter (is_local given.now) (assignments (variable.now ∷ map (λ t. t.now) turns.now)
+        (statements_of body.now))) }
 {
     let around = around(alloc, turns, variable)?;
     collect(alloc, given, around.as_slice(), body, found)
@@ -237,7 +243,8 @@ pub(crate) fn around<'a>(
     turns: &[&'a [u8]],
     variable: &'a Name,
 ) -> Result<Vec<&'a [u8]>, AllocError>
-    ensures { IfOk result (λ v. map (λ t. t.now) v.items ≡ variable.now ∷ map (λ t. t.now) turns.now) }
+    ensures { IfOk result (λ v. map (λ t. t.now) v.items ≡ variable.now ∷ map (λ t. t.now)
+        turns.now) }
 {
     let mut around = Vec::new(alloc);
     around.push(variable.bytes())?;

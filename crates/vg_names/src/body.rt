@@ -27,8 +27,8 @@ pub(crate) fn resolved_body(
     functions: &LastNames,
     statements: &Stmt,
 ) -> Result<Body, NameFault>
-    ensures { Gives body_of result
-        (body_over parameters (scope_over registers.now variables.now functions.now) (statements_of statements.now)) }
+    ensures { Gives body_of result (body_over parameters (scope_over registers.now variables.now
+        functions.now) (statements_of statements.now)) }
 {
     let scope = Scope::new(alloc, registers, variables, functions);
     let code = code_of(alloc, &scope, statements)?;
@@ -49,8 +49,8 @@ pub(crate) fn resolved_function(
     functions: &LastNames,
     define: &Define,
 ) -> Result<Function, NameFault>
-    ensures { Gives function_view result
-        (function_over (scope_over registers.now variables.now functions.now) (define_of define.now)) }
+    ensures { Gives function_view result (function_over (scope_over registers.now variables.now
+        functions.now) (define_of define.now)) }
 {
     let parameters = define.params.as_slice().len();
     let body = resolved_body(

@@ -56,8 +56,10 @@ fn with_local(
     is_signed: bool,
     forms: Forms,
 ) -> Result<BodyNames, AllocError>
-    ensures registers { IfOk result (λ b. b.registers ≡ names.registers ++ registers_of_local marked.now name.now is_signed forms) }
-    ensures variables { IfOk result (λ b. b.variables ≡ with_variable marked.now names.variables name.now) }
+    ensures registers { IfOk result (λ b. b.registers ≡ names.registers ++ registers_of_local
+        marked.now name.now is_signed forms) }
+    ensures variables { IfOk result (λ b. b.variables ≡ with_variable marked.now names.variables
+        name.now) }
 {
     let BodyNames {
         registers,
@@ -100,7 +102,8 @@ fn with_locals(
     flags: &[bool],
     forms: &[Forms],
 ) -> Result<BodyNames, AllocError>
-    ensures registers { IfOk result (λ b. b.registers ≡ given ++ registers_from marked.now flags.now forms.now 0 locals.now) }
+    ensures registers { IfOk result (λ b. b.registers ≡ given ++ registers_from marked.now flags.now
+        forms.now 0 locals.now) }
     ensures variables { IfOk result (λ b. b.variables ≡ variables_behind marked.now [] locals.now) }
 {
     let mut names = BodyNames {
@@ -124,8 +127,8 @@ fn flags_of(
     locals: &Names,
     assignments: &[Assignment],
 ) -> Result<Vec<bool>, AllocError>
-    ensures { IfOk result (λ flags. flags.items ≡
-        signed_after (filter has_sign given.now) locals.now (map assignment_view assignments.now) (length assignments.now)) }
+    ensures { IfOk result (λ flags. flags.items ≡ signed_after (filter has_sign given.now)
+        locals.now (map assignment_view assignments.now) (length assignments.now)) }
 {
     let signed = given.signed(alloc)?;
     signed_locals(alloc, signed.as_slice(), locals, assignments)
@@ -133,7 +136,8 @@ fn flags_of(
 
 /// Leaves the assignments to names that are marked.
 fn keep_marked(marked: &Names, assignments: &mut Vec<Assignment>)
-    ensures { assignments.new.items ≡ filter (λ a. has_name marked.now a.name.now) assignments.old.items }
+    ensures { assignments.new.items ≡ filter (λ a. has_name marked.now a.name.now)
+        assignments.old.items }
 {
     assignments.retain(|assignment| marked.has(assignment.name));
 }
@@ -154,9 +158,10 @@ pub(crate) fn body_names(
     marked: &Names,
     body: &Stmt,
 ) -> Result<BodyNames, AllocError>
-    ensures registers { IfOk result (λ b. b.registers ≡
-        given ++ local_registers given marked.now (local_assignments given (statements_of body.now))) }
-    ensures variables { IfOk result (λ b. b.variables ≡ number_locals marked.now (local_assignments given (statements_of body.now))) }
+    ensures registers { IfOk result (λ b. b.registers ≡ given ++ local_registers given marked.now
+        (local_assignments given (statements_of body.now))) }
+    ensures variables { IfOk result (λ b. b.variables ≡ number_locals marked.now (local_assignments
+        given (statements_of body.now))) }
 {
     let mut assignments = Vec::new(alloc);
     collect(alloc, &given, &[], body, &mut assignments)?;

@@ -51,7 +51,8 @@ fn next<'a>(
     scope: &Scope<'a>,
     code: &'a Stmt,
 ) -> Result<Option<(Piece, &'a Stmt)>, NameFault>
-    ensures read { Gives (option_map (λ p. (behind p.0, statements_of p.1.now))) result (next_of scope.now (statements_of code.now)) }
+    ensures read { Gives (option_map (λ p. (behind p.0, statements_of p.1.now))) result (next_of
+        scope.now (statements_of code.now)) }
     ensures inside { IfOk result (λ o. IfSome o (λ p. size-Stmt p.1.now < size-Stmt code.now)) }
 {
     match code {
@@ -104,7 +105,8 @@ fn assign(
     target: &Expr,
     value: &Expr,
 ) -> Result<Piece, NameFault>
-    ensures { Gives behind result (assign_of scope.now place (expression_of target.now) (expression_of value.now)) }
+    ensures { Gives behind result (assign_of scope.now place (expression_of target.now)
+        (expression_of value.now)) }
 {
     let target = target_of(alloc, scope, place, target)?;
     let value = Box::new(alloc, resolved(alloc, scope, value)?)?;
@@ -124,7 +126,8 @@ fn above(
     low: &Expr,
     value: &Expr,
 ) -> Result<Piece, NameFault>
-    ensures { Gives behind result (above_of scope.now place name.now (expression_of low.now) (expression_of value.now)) }
+    ensures { Gives behind result (above_of scope.now place name.now (expression_of low.now)
+        (expression_of value.now)) }
 {
     let _register = assigned_register(place, scope.named(name.bytes()))?;
     let _low = resolved(alloc, scope, low)?;
@@ -143,8 +146,8 @@ fn repeat<'a>(
     first: &Expr,
     last: &Expr,
 ) -> Result<Piece, NameFault>
-    ensures { Gives behind result
-        (repeat_of scope.now place variable.now (expression_of first.now) (expression_of last.now) (statements_of body.now)) }
+    ensures { Gives behind result (repeat_of scope.now place variable.now (expression_of first.now)
+        (expression_of last.now) (statements_of body.now)) }
 {
     let first = Box::new(alloc, resolved(alloc, scope, first)?)?;
     let last = Box::new(alloc, resolved(alloc, scope, last)?)?;
@@ -175,7 +178,8 @@ fn way<'a>(
     body: &'a Stmt,
     condition: &Expr,
 ) -> Result<Piece, NameFault>
-    ensures { Gives behind result (way_of scope.now (expression_of condition.now) (statements_of body.now)) }
+    ensures { Gives behind result (way_of scope.now (expression_of condition.now) (statements_of
+        body.now)) }
 {
     let condition = Box::new(alloc, resolved(alloc, scope, condition)?)?;
     let body = Box::new(alloc, code_of(alloc, scope, body)?)?;
@@ -190,7 +194,8 @@ fn pick<'a>(
     arms: &'a Stmt,
     selector: &Expr,
 ) -> Result<Piece, NameFault>
-    ensures { Gives behind result (pick_of scope.now (expression_of selector.now) (statements_of arms.now)) }
+    ensures { Gives behind result (pick_of scope.now (expression_of selector.now) (statements_of
+        arms.now)) }
 {
     let selector = Box::new(alloc, resolved(alloc, scope, selector)?)?;
     let arms = Box::new(alloc, code_of(alloc, scope, arms)?)?;

@@ -46,7 +46,8 @@ fn read_name(spot: Spot, meaning: Meaning) -> Result<ResolvedExpr, NameFault>
 
 /// A register whose bits are read, with its number.
 fn register_of<'a>(place: Place, meaning: Meaning<'a>) -> Result<(usize, &'a Register), NameFault>
-    ensures { Gives (λ r. (r.0, register_view r.1.now)) result (register_of place (meaning_view meaning.entry)) }
+    ensures { Gives (λ r. (r.0, register_view r.1.now)) result (register_of place (meaning_view
+        meaning.entry)) }
 {
     match meaning {
         Meaning::Register(register, facts) => Ok((register, facts)),
@@ -140,7 +141,8 @@ fn slice(
     high: ResolvedExpr,
     low: ResolvedExpr,
 ) -> Result<ResolvedExpr, NameFault>
-    ensures { Gives expr_of result (Ok (node.slice spot is_signed register spread (expr_of high) (expr_of low))) }
+    ensures { Gives expr_of result (Ok (node.slice spot is_signed register spread (expr_of high)
+        (expr_of low))) }
 {
     let high = Box::new(alloc, high)?;
     let low = Box::new(alloc, low)?;
@@ -163,7 +165,8 @@ fn bit(
     name: &[u8],
     index: &Expr,
 ) -> Result<ResolvedExpr, NameFault>
-    ensures { Gives expr_of result (resolved scope.now (tree.bit spot name.now (expression_of index.now))) }
+    ensures { Gives expr_of result (resolved scope.now (tree.bit spot name.now (expression_of
+        index.now))) }
 {
     let (register, _) = register_of(spot.inner, scope.named(name))?;
     let index = Box::new(alloc, resolved(alloc, scope, index)?)?;
@@ -186,7 +189,8 @@ fn element(
     size: Width,
     index: &Expr,
 ) -> Result<ResolvedExpr, NameFault>
-    ensures { Gives expr_of result (resolved scope.now (tree.element spot name.now size (expression_of index.now))) }
+    ensures { Gives expr_of result (resolved scope.now (tree.element spot name.now size
+        (expression_of index.now))) }
 {
     let (register, facts) = register_of(spot.inner, scope.named(name))?;
     let index = Box::new(alloc, resolved(alloc, scope, index)?)?;
@@ -240,7 +244,8 @@ fn choice(
     first: ResolvedExpr,
     second: ResolvedExpr,
 ) -> Result<ResolvedExpr, NameFault>
-    ensures { Gives expr_of result (Ok (node.choice spot (expr_of condition) (expr_of first) (expr_of second))) }
+    ensures { Gives expr_of result (Ok (node.choice spot (expr_of condition) (expr_of first)
+        (expr_of second))) }
 {
     let condition = Box::new(alloc, condition)?;
     let first = Box::new(alloc, first)?;
@@ -262,7 +267,8 @@ fn call(
     name: &[u8],
     arguments: &Arguments,
 ) -> Result<ResolvedExpr, NameFault>
-    ensures { Gives expr_of result (resolved scope.now (tree.call spot name.now (arguments_of arguments.now))) }
+    ensures { Gives expr_of result (resolved scope.now (tree.call spot name.now (arguments_of
+        arguments.now))) }
 {
     let Some(function) = scope.function(name) else {
         return Err(NameFault::UnknownName { place: spot.inner });
@@ -308,7 +314,8 @@ fn next_argument<'a>(
 ) -> Result<Option<(ResolvedExpr, &'a Arguments)>, NameFault>
     ensures read { Gives (option_map (λ p. (expr_of p.0, arguments_of p.1.now))) result
         (next_argument_of scope.now (arguments_of arguments.now)) }
-    ensures inside { IfOk result (λ o. IfSome o (λ p. size-Arguments p.1.now < size-Arguments arguments.now)) }
+    ensures inside { IfOk result (λ o. IfSome o (λ p. size-Arguments p.1.now < size-Arguments
+        arguments.now)) }
 {
     match arguments {
         Arguments::End => Ok(None),

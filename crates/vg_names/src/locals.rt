@@ -36,7 +36,8 @@ fn repeated<T: Copy>(alloc: Global, value: T, count: usize) -> Result<Vec<T>, Al
 
 /// One form more of a local, if there is one.
 fn note_form(forms: &mut Vec<Forms>, local: Option<usize>, form: Form)
-    ensures { forms.new.items ≡ changed local (λ s. form_behind s (form_view form)) forms.old.items }
+    ensures { forms.new.items ≡ changed local (λ s. form_behind s (form_view form))
+        forms.old.items }
 {
     if let Some(local) = local {
         let count = forms.as_slice().len();
@@ -52,7 +53,8 @@ pub(crate) fn forms_of(
     names: &Names,
     assignments: &[Assignment],
 ) -> Result<Vec<Forms>, AllocError>
-    ensures { IfOk result (λ forms. forms.items ≡ gathered with_form Unseen names.now (map assignment_view assignments.now)) }
+    ensures { IfOk result (λ forms. forms.items ≡ gathered with_form Unseen names.now (map
+        assignment_view assignments.now)) }
 {
     let mut forms = repeated(alloc, Forms::Unseen, names.count())?;
     'assignments: for assignment in assignments {
@@ -80,8 +82,9 @@ fn signed_next(
     known: SignedNames,
     assignments: &[Assignment],
 ) -> Result<Vec<bool>, AllocError>
-    ensures { IfOk result (λ flags. flags.items ≡
-        signed_next (map (λ r. register_view r.now) known.entry.given.now) known.entry.locals.now (map assignment_view assignments.now) known.entry.flags.now) }
+    ensures { IfOk result (λ flags. flags.items ≡ signed_next (map (λ r. register_view r.now)
+        known.entry.given.now) known.entry.locals.now (map assignment_view assignments.now)
+        known.entry.flags.now) }
 {
     let mut flags = repeated(alloc, false, known.locals.count())?;
     'assignments: for assignment in assignments {
@@ -98,8 +101,8 @@ pub(crate) fn signed_locals<'a>(
     locals: &'a Names,
     assignments: &[Assignment],
 ) -> Result<Vec<bool>, AllocError>
-    ensures { IfOk result (λ flags. flags.items ≡
-        signed_after (map (λ r. register_view r.now) given.now) locals.now (map assignment_view assignments.now) (length assignments.now)) }
+    ensures { IfOk result (λ flags. flags.items ≡ signed_after (map (λ r. register_view r.now)
+        given.now) locals.now (map assignment_view assignments.now) (length assignments.now)) }
 {
     let mut flags = repeated(alloc, false, locals.count())?;
     'steps: for _step in 0..assignments.len() {

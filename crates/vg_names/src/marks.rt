@@ -36,7 +36,8 @@ pub(crate) fn mark(
     expr: &Expr,
     names: &mut Names,
 ) -> Result<(), AllocError>
-    ensures { OnOk result (names.new ≡ marked (map (λ t. t.now) turns.now) (expression_of expr.now) names.old) }
+    ensures { OnOk result (names.new ≡ marked (map (λ t. t.now) turns.now) (expression_of expr.now)
+        names.old) }
 {
     match expr {
         Expr::Number { .. } => Ok(()),
@@ -87,7 +88,8 @@ fn mark_all(
     arguments: &Arguments,
     names: &mut Names,
 ) -> Result<(), AllocError>
-    ensures { OnOk result (names.new ≡ all_marked (map (λ t. t.now) turns.now) (arguments_of arguments.now) names.old) }
+    ensures { OnOk result (names.new ≡ all_marked (map (λ t. t.now) turns.now) (arguments_of
+        arguments.now) names.old) }
 {
     let mut left = arguments;
     'arguments: while let Arguments::More { argument, rest } = left {
@@ -107,7 +109,8 @@ pub(crate) fn mark_in<'a>(
     code: &'a Stmt,
     names: &mut Names,
 ) -> Result<(), AllocError>
-    ensures { OnOk result (names.new ≡ marked_in (map (λ t. t.now) turns.now) (statements_of code.now) names.old) }
+    ensures { OnOk result (names.new ≡ marked_in (map (λ t. t.now) turns.now) (statements_of
+        code.now) names.old) }
 {
     let mut left = code;
     'statements: loop {
@@ -127,8 +130,10 @@ fn mark_first<'a>(
     code: &'a Stmt,
     names: &mut Names,
 ) -> Result<Option<&'a Stmt>, AllocError>
-    ensures marked { OnOk result (names.new ≡ first_marked (map (λ t. t.now) turns.now) (statements_of code.now) names.old) }
-    ensures rest { IfOk result (λ o. option_map (λ s. statements_of s.now) o ≡ behind_first (statements_of code.now)) }
+    ensures marked { OnOk result (names.new ≡ first_marked (map (λ t. t.now) turns.now)
+        (statements_of code.now) names.old) }
+    ensures rest { IfOk result (λ o. option_map (λ s. statements_of s.now) o ≡ behind_first
+        (statements_of code.now)) }
     ensures inside { IfOk result (λ o. IfSome o (λ s. size-Stmt s.now < size-Stmt code.now)) }
 {
     match code {
@@ -207,7 +212,8 @@ fn mark_inside<'a>(
     body: &'a Stmt,
     names: &mut Names,
 ) -> Result<(), AllocError>
-    ensures { OnOk result (names.new ≡ marked_in (variable.now ∷ map (λ t. t.now) turns.now) (statements_of body.now) names.old) }
+    ensures { OnOk result (names.new ≡ marked_in (variable.now ∷ map (λ t. t.now) turns.now)
+        (statements_of body.now) names.old) }
 {
     let around = around(alloc, turns, variable)?;
     mark_in(alloc, around.as_slice(), body, names)

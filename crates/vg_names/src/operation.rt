@@ -30,8 +30,10 @@ struct Defined {
 
 /// The names of a DEFINE.
 fn define_names(alloc: Global, define: &Define) -> Result<BodyNames, AllocError>
-    ensures registers { IfOk result (λ b. b.registers ≡ (define_scope [] (define_of define.now)).registers) }
-    ensures variables { IfOk result (λ b. b.variables ≡ (define_scope [] (define_of define.now)).variables) }
+    ensures registers { IfOk result (λ b. b.registers ≡ (define_scope [] (define_of
+        define.now)).registers) }
+    ensures variables { IfOk result (λ b. b.variables ≡ (define_scope [] (define_of
+        define.now)).variables) }
 {
     let given = define_registers(alloc, define.params.as_slice())?;
     let mut marked = Names::new(alloc);
@@ -54,7 +56,8 @@ fn resolved_define(
 
 /// The DEFINEs in their order, each after those before it.
 fn resolved_defines(alloc: Global, defines: &[Define]) -> Result<Defined, NameFault>
-    ensures functions { Gives (λ d. map function_view d.functions.items) result (functions_of [] (map define_of defines.now)) }
+    ensures functions { Gives (λ d. map function_view d.functions.items) result (functions_of []
+        (map define_of defines.now)) }
     ensures names { IfOk result (λ d. d.names ≡ map (λ d. d.name) (map define_of defines.now)) }
 {
     let mut functions = Vec::new(alloc);
@@ -78,9 +81,9 @@ fn operation_body(
     functions: &LastNames,
     body: &Stmt,
 ) -> Result<Body, NameFault>
-    ensures { Gives body_of result (body_over (length operands)
-        (scope_of (operands ++ result_register header.now ∷ []) (bracketed_in [] (statements_of body.now)) functions.now (statements_of body.now))
-        (statements_of body.now)) }
+    ensures { Gives body_of result (body_over (length operands) (scope_of (operands ++
+        result_register header.now ∷ []) (bracketed_in [] (statements_of body.now)) functions.now
+        (statements_of body.now)) (statements_of body.now)) }
 {
     let count = operands.count();
     let result = result_register(alloc, header)?;

@@ -90,7 +90,8 @@ impl Registers {
 
     /// The last register of this name, with its number.
     pub(crate) fn last(&self, name: &[u8]) -> Option<(usize, &Register)>
-        ensures { option_map (λ p. (p.0, register_view p.1.now)) result ≡ last_register 0 None self.now name.now }
+        ensures { option_map (λ p. (p.0, register_view p.1.now)) result ≡ last_register 0 None
+            self.now name.now }
     {
         let number = self.names.last(name)?;
         let register = self.all.get(number)?;
@@ -99,7 +100,8 @@ impl Registers {
 
     /// Those of which some bits are read as signed.
     pub(crate) fn signed(&self, alloc: Global) -> Result<Vec<&Register>, AllocError>
-        ensures { IfOk result (λ s. map (λ r. register_view r.now) s.items ≡ filter has_sign self.now) }
+        ensures { IfOk result (λ s. map (λ r. register_view r.now) s.items ≡ filter has_sign
+            self.now) }
     {
         signed_of(alloc, self.all.as_slice())
     }
@@ -116,7 +118,8 @@ fn widths_of(alloc: Global, all: &[Register]) -> Result<Vec<u128>, AllocError>
 }
 
 fn signed_of(alloc: Global, all: &[Register]) -> Result<Vec<&Register>, AllocError>
-    ensures { IfOk result (λ s. map (λ r. register_view r.now) s.items ≡ filter has_sign (map register_view all.now)) }
+    ensures { IfOk result (λ s. map (λ r. register_view r.now) s.items ≡ filter has_sign (map
+        register_view all.now)) }
 {
     let mut signed = Vec::new(alloc);
     'registers: for register in all {
@@ -130,8 +133,8 @@ fn with_signed<'a>(
     mut signed: Vec<&'a Register>,
     register: &'a Register,
 ) -> Result<Vec<&'a Register>, AllocError>
-    ensures { IfOk result (λ s. map (λ r. register_view r.now) s.items ≡
-        map (λ r. register_view r.now) signed.entry.items ++ filter has_sign (register_view register.now ∷ [])) }
+    ensures { IfOk result (λ s. map (λ r. register_view r.now) s.items ≡ map (λ r. register_view
+        r.now) signed.entry.items ++ filter has_sign (register_view register.now ∷ [])) }
 {
     if register.signed_slices | register.signed_whole {
         signed.push(register)?;

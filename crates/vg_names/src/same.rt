@@ -219,7 +219,8 @@ pub(crate) fn spread(high: &Expr, low: &Expr) -> Option<u128>
 }
 
 fn spread_by(left: &Expr, right: &Expr, low: &Expr) -> Option<u128>
-    ensures { result ≡ spread_by (expression_of left.now) (expression_of right.now) (expression_of low.now) }
+    ensures { result ≡ spread_by (expression_of left.now) (expression_of right.now) (expression_of
+        low.now) }
 {
     match right {
         Expr::Number { value, .. } if same(left, low) => Some(*value),

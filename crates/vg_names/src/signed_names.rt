@@ -27,26 +27,30 @@ pub(crate) struct SignedNames<'a, 'f> {
 
 /// Whether a register of this name has signed slices.
 fn signed_slices(given: &[&Register], name: &[u8]) -> bool
-    ensures { result ≡ is_signed_register (λ r. r.signed_slices) (map (λ r. register_view r.now) given.now) name.now }
+    ensures { result ≡ is_signed_register (λ r. r.signed_slices) (map (λ r. register_view r.now)
+        given.now) name.now }
 {
     is_any_signed_slices(given, name)
 }
 
 fn is_any_signed_slices(given: &[&Register], name: &[u8]) -> bool
-    ensures { result ≡ list_any (λ r. bytes_eq r.now.name name.now && r.now.signed_slices) given.now }
+    ensures { result ≡ list_any (λ r. bytes_eq r.now.name name.now && r.now.signed_slices)
+        given.now }
 {
     given.iter().any(|register| is_text(register.name.bytes(), name) && register.signed_slices)
 }
 
 /// Whether a register of this name is signed as a whole.
 fn signed_whole(given: &[&Register], name: &[u8]) -> bool
-    ensures { result ≡ is_signed_register (λ r. r.signed_whole) (map (λ r. register_view r.now) given.now) name.now }
+    ensures { result ≡ is_signed_register (λ r. r.signed_whole) (map (λ r. register_view r.now)
+        given.now) name.now }
 {
     is_any_signed_whole(given, name)
 }
 
 fn is_any_signed_whole(given: &[&Register], name: &[u8]) -> bool
-    ensures { result ≡ list_any (λ r. bytes_eq r.now.name name.now && r.now.signed_whole) given.now }
+    ensures { result ≡ list_any (λ r. bytes_eq r.now.name name.now && r.now.signed_whole)
+        given.now }
 {
     given.iter().any(|register| is_text(register.name.bytes(), name) && register.signed_whole)
 }
@@ -54,14 +58,16 @@ fn is_any_signed_whole(given: &[&Register], name: &[u8]) -> bool
 impl<'a, 'f> SignedNames<'a, 'f> {
     /// Whether the slices and elements of a name are signed.
     fn slices(&self, name: &[u8]) -> bool
-        ensures { result ≡ is_signed_register (λ r. r.signed_slices) (map (λ r. register_view r.now) self.now.given.now) name.now }
+        ensures { result ≡ is_signed_register (λ r. r.signed_slices) (map (λ r. register_view r.now)
+            self.now.given.now) name.now }
     {
         signed_slices(self.given, name)
     }
 
     /// Whether its bare name is.
     fn whole(&self, name: &[u8]) -> bool
-        ensures { result ≡ whole_of (map (λ r. register_view r.now) self.now.given.now) self.now.locals.now self.now.flags.now name.now }
+        ensures { result ≡ whole_of (map (λ r. register_view r.now) self.now.given.now)
+            self.now.locals.now self.now.flags.now name.now }
     {
         match self.locals.place(name) {
             Some(local) => self.flags.get(local).copied().unwrap_or(false),
@@ -71,8 +77,9 @@ impl<'a, 'f> SignedNames<'a, 'f> {
 
     /// Whether an expression is signed inside FORs over these variables.
     pub(crate) fn is_signed(&self, turns: &[&[u8]], expr: &Expr) -> bool
-        ensures { result ≡ is_signed (signs_of (map (λ r. register_view r.now) self.now.given.now) self.now.locals.now self.now.flags.now)
-            (map (λ t. t.now) turns.now) (expression_of expr.now) }
+        ensures { result ≡ is_signed (signs_of (map (λ r. register_view r.now) self.now.given.now)
+            self.now.locals.now self.now.flags.now) (map (λ t. t.now) turns.now) (expression_of
+            expr.now) }
     {
         match expr {
             Expr::Number { .. } => false,

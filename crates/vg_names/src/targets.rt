@@ -22,7 +22,8 @@ pub(crate) fn assigned_register<'a>(
     place: Place,
     meaning: Meaning<'a>,
 ) -> Result<(usize, &'a Register), NameFault>
-    ensures { Gives (λ r. (r.0, register_view r.1.now)) result (assigned_register place (meaning_view meaning.entry)) }
+    ensures { Gives (λ r. (r.0, register_view r.1.now)) result (assigned_register place
+        (meaning_view meaning.entry)) }
 {
     match meaning {
         Meaning::Register(register, facts) => {
@@ -96,7 +97,8 @@ fn bits(
     high: &Expr,
     low: &Expr,
 ) -> Result<Target, NameFault>
-    ensures { Gives target_view result (bits_of scope.now place name.now (expression_of high.now) (expression_of low.now)) }
+    ensures { Gives target_view result (bits_of scope.now place name.now (expression_of high.now)
+        (expression_of low.now)) }
 {
     let (register, _) = assigned_register(place, scope.named(name))?;
     let high = Box::new(alloc, resolved(alloc, scope, high)?)?;
@@ -117,7 +119,8 @@ fn lane(
     size: u32,
     index: &Expr,
 ) -> Result<Target, NameFault>
-    ensures { Gives target_view result (lane_of scope.now place name.now size (expression_of index.now)) }
+    ensures { Gives target_view result (lane_of scope.now place name.now size (expression_of
+        index.now)) }
 {
     let (register, _) = assigned_register(place, scope.named(name))?;
     let index = Box::new(alloc, resolved(alloc, scope, index)?)?;

@@ -10,7 +10,7 @@ use Rattle.std.proofs.lemmas.List.Sorted.{IsPermutation-refl}
 use Rattle.vg_shapes.specs.declared.match_table.Match.{Match}
 use Rattle.vg_shapes.specs.declared.order.Node.{Node}
 use Rattle.vg_shapes.specs.declared.order.Node.TheVariants.{PackAt, UnitAt}
-use Rattle.vg_shapes.specs.declared.pack.Pack.{Pack as Packed}
+use Rattle.vg_shapes.specs.declared.pack.Pack.{Pack}
 use Rattle.vg_shapes.specs.declared.pack.Pack.TheVariants.{Stores, Loads, Call}
 use Rattle.vg_shapes.specs.declared.ssa.Ssa.{Ssa}
 use Rattle.vg_shapes.specs.DepList.{is_listed}
@@ -30,16 +30,16 @@ any-same : (p q : ℕ → Bool) (us : List ℕ) → ((u : ℕ) → p u ≡ q u) 
 any-same p q [] h = refl
 any-same p q (u ∷ us) h = λ i. h u i || any-same p q us h i
 
-pack-same : (ssa : Ssa) (matches : List Match) (p : Packed) (x : ℕ) → pack_depends_by (dependences ssa) ssa matches p x ≡ pack_depends ssa matches p x
+pack-same : (ssa : Ssa) (matches : List Match) (p : Pack) (x : ℕ) → pack_depends_by (dependences ssa) ssa matches p x ≡ pack_depends ssa matches p x
 pack-same ssa matches (Stores us) x = any-same (λ u. is_listed (dependences ssa) u x) (λ u. depends_on ssa u x) us (λ u. lists-dependences ssa u x)
 pack-same ssa matches (Loads us) x = any-same (λ u. is_listed (dependences ssa) u x) (λ u. depends_on ssa u x) us (λ u. lists-dependences ssa u x)
 pack-same ssa matches (Call d lanes) x = refl
 
-node-same : (ssa : Ssa) (matches : List Match) (packs : List Packed) (n : Node) (x : ℕ) → node_depends_by (dependences ssa) ssa matches packs n x ≡ node_depends ssa matches packs n x
+node-same : (ssa : Ssa) (matches : List Match) (packs : List Pack) (n : Node) (x : ℕ) → node_depends_by (dependences ssa) ssa matches packs n x ≡ node_depends ssa matches packs n x
 node-same ssa matches packs (UnitAt v) x = lists-dependences ssa v x
 node-same ssa matches packs (PackAt k) x = by (slice_get packs k)
   where
-    by : (o : Option Packed) → option_map_or (λ p. pack_depends_by (dependences ssa) ssa matches p x) o false ≡ option_map_or (λ p. pack_depends ssa matches p x) o false
+    by : (o : Option Pack) → option_map_or (λ p. pack_depends_by (dependences ssa) ssa matches p x) o false ≡ option_map_or (λ p. pack_depends ssa matches p x) o false
     by None = refl
     by (Some p) = pack-same ssa matches p x
 
@@ -48,19 +48,19 @@ follows-same : (depends other : Node → ℕ → Bool) (units : Node → List �
 follows-same depends other units done [] h f = tt
 follows-same depends other units done (n ∷ ns) h f = (λ x d. f.0 x (h n x ∙ d), follows-same depends other units (done ++ n ∷ []) ns h f.1)
 
-leads-to : (ssa : Ssa) (matches : List Match) (packs : List Packed) (last n : Node) (ms : List Node) → LeadsToBy (dependences ssa) ssa matches packs last n ms → LeadsTo ssa matches packs last n ms
+leads-to : (ssa : Ssa) (matches : List Match) (packs : List Pack) (last n : Node) (ms : List Node) → LeadsToBy (dependences ssa) ssa matches packs last n ms → LeadsTo ssa matches packs last n ms
 leads-to ssa matches packs last n [] d = (d.0, d.1, sym (node-same ssa matches packs n d.0) ∙ d.2)
 leads-to ssa matches packs last n (m ∷ ms) d = ((d.0.0, d.0.1, sym (node-same ssa matches packs n d.0.0) ∙ d.0.2), leads-to ssa matches packs last m ms d.1)
 
-leads-by : (ssa : Ssa) (matches : List Match) (packs : List Packed) (last n : Node) (ms : List Node) → LeadsTo ssa matches packs last n ms → LeadsToBy (dependences ssa) ssa matches packs last n ms
+leads-by : (ssa : Ssa) (matches : List Match) (packs : List Pack) (last n : Node) (ms : List Node) → LeadsTo ssa matches packs last n ms → LeadsToBy (dependences ssa) ssa matches packs last n ms
 leads-by ssa matches packs last n [] d = (d.0, d.1, node-same ssa matches packs n d.0 ∙ d.2)
 leads-by ssa matches packs last n (m ∷ ms) d = ((d.0.0, d.0.1, node-same ssa matches packs n d.0.0 ∙ d.0.2), leads-by ssa matches packs last m ms d.1)
 
-cycle-to : (ssa : Ssa) (matches : List Match) (packs : List Packed) (ns : List Node) → IsCycleBy (dependences ssa) ssa matches packs ns → IsCycle ssa matches packs ns
+cycle-to : (ssa : Ssa) (matches : List Match) (packs : List Pack) (ns : List Node) → IsCycleBy (dependences ssa) ssa matches packs ns → IsCycle ssa matches packs ns
 cycle-to ssa matches packs [] c = c
 cycle-to ssa matches packs (n ∷ ns) c = (c.0, leads-to ssa matches packs n n ns c.1)
 
-cycle-by : (ssa : Ssa) (matches : List Match) (packs : List Packed) (ns : List Node) → IsCycle ssa matches packs ns → IsCycleBy (dependences ssa) ssa matches packs ns
+cycle-by : (ssa : Ssa) (matches : List Match) (packs : List Pack) (ns : List Node) → IsCycle ssa matches packs ns → IsCycleBy (dependences ssa) ssa matches packs ns
 cycle-by ssa matches packs [] c = c
 cycle-by ssa matches packs (n ∷ ns) c = (c.0, leads-by ssa matches packs n n ns c.1)
 

@@ -12,7 +12,7 @@ use Rattle.vg_shapes.specs.declared.match_table.Bound.{Bound}
 use Rattle.vg_shapes.specs.declared.match_table.Match.{Match}
 use Rattle.vg_shapes.specs.declared.order.Node.{Node}
 use Rattle.vg_shapes.specs.declared.order.Node.TheVariants.{PackAt, UnitAt}
-use Rattle.vg_shapes.specs.declared.pack.Pack.{Pack as Packed}
+use Rattle.vg_shapes.specs.declared.pack.Pack.{Pack}
 use Rattle.vg_shapes.specs.Nodes.{packed, units_at}
 use Rattle.vg_shapes.specs.Order.{count_of, numbers_from, one_if, Stands}
 use Rattle.vg_shapes.specs.Pack.{bounds_from, units_of}
@@ -75,10 +75,10 @@ own-others owners before units k pack h others x z =
       | inr other ↦ get_or-set_other owners u x (Some pack) None other ∙ others x (omega arith)
     ]
 
-pub pack-units : (packs : List Packed) (k : ℕ) (p : Packed) → k < length packs → p ≡ get_or packs k p → units_at packs (PackAt k) ≡ units_of p
+pub pack-units : (packs : List Pack) (k : ℕ) (p : Pack) → k < length packs → p ≡ get_or packs k p → units_at packs (PackAt k) ≡ units_of p
 pack-units packs k p h e = ap (λ o. option_map_or units_of o []) (slice_get-get_or packs k p h ∙ ap Some (sym e))
 
-pub packed-has : (packs : List Packed) (k : ℕ) (x : ℕ) (p : Packed) → k < length packs → p ≡ get_or packs k p → Stands x (units_of p) → Stands x (packed packs)
+pub packed-has : (packs : List Pack) (k : ℕ) (x : ℕ) (p : Pack) → k < length packs → p ≡ get_or packs k p → Stands x (units_of p) → Stands x (packed packs)
 packed-has [] k x p h e s = absurd (omega arith)
 packed-has (q ∷ packs) zero x p h e s =
     let sum = count_of-append x (units_of q) (packed packs) in
@@ -89,12 +89,12 @@ packed-has (q ∷ packs) (suc k) x p h e s =
     let rest = packed-has packs k x p (omega arith) e s in
     omega arith
 
-packed-more : (packs : List Packed) (k : ℕ) (p : Packed) → k < length packs → p ≡ get_or packs k p → packed (take (k + 1) packs) ≡ packed (take k packs) ++ units_of p
+packed-more : (packs : List Pack) (k : ℕ) (p : Pack) → k < length packs → p ≡ get_or packs k p → packed (take (k + 1) packs) ≡ packed (take k packs) ++ units_of p
 packed-more packs k p h e =
     ap packed (take_more packs k p h ∙ ap (λ q. take k packs ++ q ∷ []) (sym e))
     ∙ flat_map-append units_of (take k packs) (p ∷ []) ∙ ap (λ l. packed (take k packs) ++ l) (append-nil (units_of p))
 
-pub owner-more : (packs : List Packed) (k x : ℕ) (p : Packed) (units : List ℕ) (old new : Option ℕ) → k < length packs → p ≡ get_or packs k p → units ≡ units_of p
+pub owner-more : (packs : List Pack) (k x : ℕ) (p : Pack) (units : List ℕ) (old new : Option ℕ) → k < length packs → p ≡ get_or packs k p → units ≡ units_of p
     → (Stands x units → new ≡ Some k) → (count_of x units ≡ 0 → new ≡ old) → IsOwner packs (take k packs) x old → IsOwner packs (take (k + 1) packs) x new
 owner-more packs k x p units old new h e u theirs others was = by (count_of x units) refl
   where
@@ -127,7 +127,7 @@ nodes-more k nodes new e n =
     ∙ sym (ap (map PackAt) (numbers_from-more 0 k) ∙ map-append PackAt (numbers_from 0 k) ((0 + k) ∷ []))
     ∙ ap (λ m. map PackAt (numbers_from 0 m)) next
 
-pub needs-more : (first end : ℕ) (matches : List Match) (packs : List Packed) (k : ℕ) (p : Packed) (nodes now : List Node) (needs more : List Needs) (one : Needs)
+pub needs-more : (first end : ℕ) (matches : List Match) (packs : List Pack) (k : ℕ) (p : Pack) (nodes now : List Node) (needs more : List Needs) (one : Needs)
     → k < length packs → p ≡ get_or packs k p → one ≡ pack_needs first end matches p → needs ≡ map (node_needs first end matches packs) nodes
     → now ≡ nodes ++ PackAt k ∷ [] → more ≡ needs ++ one ∷ [] → more ≡ map (node_needs first end matches packs) now
 needs-more first end matches packs k p nodes now needs more one h e is so n m =

@@ -8,7 +8,7 @@ use Rattle.std.proofs.lemmas.List.Sorted.{Contains-permutation}
 use Rattle.vg_shapes.specs.declared.match_table.Match.{Match}
 use Rattle.vg_shapes.specs.declared.order.Node.{Node}
 use Rattle.vg_shapes.specs.declared.order.Node.TheVariants.{UnitAt}
-use Rattle.vg_shapes.specs.declared.pack.Pack.{Pack as Packed}
+use Rattle.vg_shapes.specs.declared.pack.Pack.{Pack}
 use Rattle.vg_shapes.specs.declared.ssa.Ssa.{Ssa}
 use Rattle.vg_shapes.specs.Nodes.{ArePacks, nodes, units_at}
 use Rattle.vg_shapes.specs.Order.{all_units, count_of, Follows, numbers_from, Stands}
@@ -60,7 +60,7 @@ follows-at depends units done (n ∷ ns) (suc k) x follows h d =
     (follows-at depends units (done ++ n ∷ []) ns k x follows.1 (omega arith) d)
 
 -- each unit stands once
-few-units : (deps : List (ℕ × ℕ)) (ssa : Ssa) (matches : List Match) (packs : List Packed) (order : List Node) (x : ℕ) → ArePacks ssa packs → IsOrderBy deps ssa matches packs order → count_of x (all_units (units_at packs) order) < 2
+few-units : (deps : List (ℕ × ℕ)) (ssa : Ssa) (matches : List Match) (packs : List Pack) (order : List Node) (x : ℕ) → ArePacks ssa packs → IsOrderBy deps ssa matches packs order → count_of x (all_units (units_at packs) order) < 2
 few-units deps ssa matches packs order x good is =
     let same = nodes-have_units ssa packs order good is.once x in
     let most = at-most x (arguments ssa) (length ssa.units) in
@@ -76,7 +76,7 @@ few-units deps ssa matches packs order x good is =
     ]
 
 -- a node on which the node at a place depends stands at an earlier place
-earlier : (deps : List (ℕ × ℕ)) (ssa : Ssa) (matches : List Match) (packs : List Packed) (order : List Node) (k : ℕ) (n m : Node) → ArePacks ssa packs → IsOrderBy deps ssa matches packs order
+earlier : (deps : List (ℕ × ℕ)) (ssa : Ssa) (matches : List Match) (packs : List Pack) (order : List Node) (k : ℕ) (n m : Node) → ArePacks ssa packs → IsOrderBy deps ssa matches packs order
     → k < length order → at order k ≡ n → NodeDependsBy deps ssa matches packs n m → Contains (nodes ssa packs) m → (j : ℕ) × (j < k) × (at order j ≡ m)
 earlier deps ssa matches packs order k n m good is h e d c =
     let x = d.0 in
@@ -94,7 +94,7 @@ earlier deps ssa matches packs order k n m good is h e d c =
     (p, omega arith, node)
 
 -- along a chain to its end
-chain : (deps : List (ℕ × ℕ)) (ssa : Ssa) (matches : List Match) (packs : List Packed) (order : List Node) (k : ℕ) (n last : Node) (ms : List Node) → ArePacks ssa packs → IsOrderBy deps ssa matches packs order
+chain : (deps : List (ℕ × ℕ)) (ssa : Ssa) (matches : List Match) (packs : List Pack) (order : List Node) (k : ℕ) (n last : Node) (ms : List Node) → ArePacks ssa packs → IsOrderBy deps ssa matches packs order
     → k < length order → at order k ≡ n → LeadsToBy deps ssa matches packs last n ms → AllByRecursion (Contains (nodes ssa packs)) ms → Contains (nodes ssa packs) last → (j : ℕ) × (j < k) × (at order j ≡ last)
 chain deps ssa matches packs order k n last [] good is h e leads all c = earlier deps ssa matches packs order k n last good is h e leads c
 chain deps ssa matches packs order k n last (m ∷ ms) good is h e leads all c =
@@ -104,7 +104,7 @@ chain deps ssa matches packs order k n last (m ∷ ms) good is h e leads all c =
     (rest.0, (let b = rest.1 in omega arith), rest.2)
 
 -- no place is left for the first node of a cycle
-no-place : (deps : List (ℕ × ℕ)) (ssa : Ssa) (matches : List Match) (packs : List Packed) (order : List Node) (n : Node) (ms : List Node) (bound k : ℕ) → ArePacks ssa packs → IsOrderBy deps ssa matches packs order
+no-place : (deps : List (ℕ × ℕ)) (ssa : Ssa) (matches : List Match) (packs : List Pack) (order : List Node) (n : Node) (ms : List Node) (bound k : ℕ) → ArePacks ssa packs → IsOrderBy deps ssa matches packs order
     → IsCycleBy deps ssa matches packs (n ∷ ms) → k < bound → k < length order → at order k ≡ n → ⊥
 no-place deps ssa matches packs order n ms zero k good is cycle b h e = absurd (omega arith)
 no-place deps ssa matches packs order n ms (suc bound) k good is cycle b h e =

@@ -9,7 +9,7 @@ use Rattle.vg_shapes.specs.declared.match_table.Bound.{Bound}
 use Rattle.vg_shapes.specs.declared.match_table.Match.{Match}
 use Rattle.vg_shapes.specs.declared.order.Node.{Node}
 use Rattle.vg_shapes.specs.declared.order.Node.TheVariants.{PackAt, UnitAt}
-use Rattle.vg_shapes.specs.declared.pack.Pack.{Pack as Packed}
+use Rattle.vg_shapes.specs.declared.pack.Pack.{Pack}
 use Rattle.vg_shapes.specs.declared.pack.Pack.TheVariants.{Stores, Loads, Call}
 use Rattle.vg_shapes.specs.declared.ssa.Ssa.{Ssa}
 use Rattle.vg_shapes.specs.declared.wanted.Wanted.{Wanted}
@@ -116,14 +116,14 @@ found-among first end x (b ∷ bounds) low high e = elim (or_cases _ _ e) [
 abbrev end_of : Ssa → ℕ
 end_of ssa = arguments ssa + length ssa.units
 
-pack-found : (deps : List (ℕ × ℕ)) (ssa : Ssa) (matches : List Match) (p : Packed) (x : ℕ) → Stands x (concat (rows_of deps (pack_needs (arguments ssa) (end_of ssa) matches p))) → pack_depends_by deps ssa matches p x ≡ true
+pack-found : (deps : List (ℕ × ℕ)) (ssa : Ssa) (matches : List Match) (p : Pack) (x : ℕ) → Stands x (concat (rows_of deps (pack_needs (arguments ssa) (end_of ssa) matches p))) → pack_depends_by deps ssa matches p x ≡ true
 pack-found deps ssa matches (Stores us) x s = rows-found deps x us s
 pack-found deps ssa matches (Loads us) x s = rows-found deps x us s
 pack-found deps ssa matches (Call d lanes) x s =
     let found = among-found (arguments ssa) (end_of ssa) x (bounds_from matches d 0 lanes) (stands-nil x _ s) in
     and_from _ _ (inside-unit ssa x found.0 found.1) found.2
 
-found-pack : (deps : List (ℕ × ℕ)) (ssa : Ssa) (matches : List Match) (p : Packed) (x : ℕ) → pack_depends_by deps ssa matches p x ≡ true → Stands x (concat (rows_of deps (pack_needs (arguments ssa) (end_of ssa) matches p)))
+found-pack : (deps : List (ℕ × ℕ)) (ssa : Ssa) (matches : List Match) (p : Pack) (x : ℕ) → pack_depends_by deps ssa matches p x ≡ true → Stands x (concat (rows_of deps (pack_needs (arguments ssa) (end_of ssa) matches p)))
 found-pack deps ssa matches (Stores us) x e = found-rows deps x us e
 found-pack deps ssa matches (Loads us) x e = found-rows deps x us e
 found-pack deps ssa matches (Call d lanes) x e =
@@ -131,38 +131,38 @@ found-pack deps ssa matches (Call d lanes) x e =
     let inside = unit-inside ssa x both.0 in
     nil-stands x _ (found-among (arguments ssa) (end_of ssa) x (bounds_from matches d 0 lanes) inside.0 inside.1 both.1)
 
-node-found : (deps : List (ℕ × ℕ)) (ssa : Ssa) (matches : List Match) (packs : List Packed) (q : Node) (x : ℕ) → Stands x (concat (rows_of deps (node_needs (arguments ssa) (end_of ssa) matches packs q))) → node_depends_by deps ssa matches packs q x ≡ true
+node-found : (deps : List (ℕ × ℕ)) (ssa : Ssa) (matches : List Match) (packs : List Pack) (q : Node) (x : ℕ) → Stands x (concat (rows_of deps (node_needs (arguments ssa) (end_of ssa) matches packs q))) → node_depends_by deps ssa matches packs q x ≡ true
 node-found deps ssa matches packs (UnitAt v) x s = stands-found x (row_of deps v) (stands-nil x (row_of deps v) s)
 node-found deps ssa matches packs (PackAt k) x s = by (slice_get packs k) s
   where
-    by : (o : Option Packed) → Stands x (concat (rows_of deps (option_map_or (pack_needs (arguments ssa) (end_of ssa) matches) o (Those [])))) → option_map_or (λ p. pack_depends_by deps ssa matches p x) o false ≡ true
+    by : (o : Option Pack) → Stands x (concat (rows_of deps (option_map_or (pack_needs (arguments ssa) (end_of ssa) matches) o (Those [])))) → option_map_or (λ p. pack_depends_by deps ssa matches p x) o false ≡ true
     by None s = absurd (omega arith)
     by (Some p) s = pack-found deps ssa matches p x s
 
-found-node : (deps : List (ℕ × ℕ)) (ssa : Ssa) (matches : List Match) (packs : List Packed) (q : Node) (x : ℕ) → node_depends_by deps ssa matches packs q x ≡ true → Stands x (concat (rows_of deps (node_needs (arguments ssa) (end_of ssa) matches packs q)))
+found-node : (deps : List (ℕ × ℕ)) (ssa : Ssa) (matches : List Match) (packs : List Pack) (q : Node) (x : ℕ) → node_depends_by deps ssa matches packs q x ≡ true → Stands x (concat (rows_of deps (node_needs (arguments ssa) (end_of ssa) matches packs q)))
 found-node deps ssa matches packs (UnitAt v) x e = nil-stands x (row_of deps v) (found-stands x (row_of deps v) e)
 found-node deps ssa matches packs (PackAt k) x e = by (slice_get packs k) e
   where
-    by : (o : Option Packed) → option_map_or (λ p. pack_depends_by deps ssa matches p x) o false ≡ true → Stands x (concat (rows_of deps (option_map_or (pack_needs (arguments ssa) (end_of ssa) matches) o (Those []))))
+    by : (o : Option Pack) → option_map_or (λ p. pack_depends_by deps ssa matches p x) o false ≡ true → Stands x (concat (rows_of deps (option_map_or (pack_needs (arguments ssa) (end_of ssa) matches) o (Those []))))
     by None e = absurd (cc)
     by (Some p) e = found-pack deps ssa matches p x e
 
 -- ---- nodes by number
 
-needs-are : (deps : List (ℕ × ℕ)) (ssa : Ssa) (matches : List Match) (packs : List Packed) (g : Graph) (n : ℕ) → IsGraphOf ssa matches packs g → n < length g.nodes
+needs-are : (deps : List (ℕ × ℕ)) (ssa : Ssa) (matches : List Match) (packs : List Pack) (g : Graph) (n : ℕ) → IsGraphOf ssa matches packs g → n < length g.nodes
     → needs_at deps g n ≡ concat (rows_of deps (node_needs (arguments ssa) (end_of ssa) matches packs (node_at g n)))
 needs-are deps ssa matches packs g n is h =
     ap (λ q. concat (rows_of deps q)) (ap (λ (l : List Needs). slice_index_or l n (Those [])) is.needs ∙ get_or-map (node_needs (arguments ssa) (end_of ssa) matches packs) g.nodes n (UnitAt 0) (Those []) h)
 
-pub needs-depend : (deps : List (ℕ × ℕ)) (ssa : Ssa) (matches : List Match) (packs : List Packed) (g : Graph) (n x : ℕ) → IsGraphOf ssa matches packs g → n < length g.nodes
+pub needs-depend : (deps : List (ℕ × ℕ)) (ssa : Ssa) (matches : List Match) (packs : List Pack) (g : Graph) (n x : ℕ) → IsGraphOf ssa matches packs g → n < length g.nodes
     → Stands x (needs_at deps g n) → node_depends_by deps ssa matches packs (node_at g n) x ≡ true
 needs-depend deps ssa matches packs g n x is h s = node-found deps ssa matches packs (node_at g n) x (subst (Stands x) (needs-are deps ssa matches packs g n is h) s)
 
-pub depends-need : (deps : List (ℕ × ℕ)) (ssa : Ssa) (matches : List Match) (packs : List Packed) (g : Graph) (n x : ℕ) → IsGraphOf ssa matches packs g → n < length g.nodes
+pub depends-need : (deps : List (ℕ × ℕ)) (ssa : Ssa) (matches : List Match) (packs : List Pack) (g : Graph) (n x : ℕ) → IsGraphOf ssa matches packs g → n < length g.nodes
     → node_depends_by deps ssa matches packs (node_at g n) x ≡ true → Stands x (needs_at deps g n)
 depends-need deps ssa matches packs g n x is h e = subst (Stands x) (sym (needs-are deps ssa matches packs g n is h)) (found-node deps ssa matches packs (node_at g n) x e)
 
-pub long-needs : (ssa : Ssa) (matches : List Match) (packs : List Packed) (g : Graph) → IsGraphOf ssa matches packs g → length g.needs ≡ length g.nodes
+pub long-needs : (ssa : Ssa) (matches : List Match) (packs : List Pack) (g : Graph) → IsGraphOf ssa matches packs g → length g.needs ≡ length g.nodes
 long-needs ssa matches packs g is = ap length is.needs ∙ length-map g.nodes (node_needs (arguments ssa) (end_of ssa) matches packs)
 
 pub no-needs : (deps : List (ℕ × ℕ)) (g : Graph) (n x : ℕ) → length g.needs ≤ n → Stands x (needs_at deps g n) → ⊥
@@ -176,17 +176,17 @@ rows-unit deps ssa x (u ∷ us) names e = elim (or_cases _ _ e) [
   | inr rest ↦ rows-unit deps ssa x us names rest
 ]
 
-pub depends-unit : (deps : List (ℕ × ℕ)) (ssa : Ssa) (matches : List Match) (packs : List Packed) (q : Node) (x : ℕ) → NameUnits ssa deps → node_depends_by deps ssa matches packs q x ≡ true → is_unit ssa x ≡ true
+pub depends-unit : (deps : List (ℕ × ℕ)) (ssa : Ssa) (matches : List Match) (packs : List Pack) (q : Node) (x : ℕ) → NameUnits ssa deps → node_depends_by deps ssa matches packs q x ≡ true → is_unit ssa x ≡ true
 depends-unit deps ssa matches packs (UnitAt v) x names e = names v x e
 depends-unit deps ssa matches packs (PackAt k) x names e = by (slice_get packs k) e
   where
-    by : (o : Option Packed) → option_map_or (λ p. pack_depends_by deps ssa matches p x) o false ≡ true → is_unit ssa x ≡ true
+    by : (o : Option Pack) → option_map_or (λ p. pack_depends_by deps ssa matches p x) o false ≡ true → is_unit ssa x ≡ true
     by None e = absurd (cc)
     by (Some (Stores us)) e = rows-unit deps ssa x us names e
     by (Some (Loads us)) e = rows-unit deps ssa x us names e
     by (Some (Call d lanes)) e = (and_parts _ _ e).0
 
-pub is-graph : (deps : List (ℕ × ℕ)) (ssa : Ssa) (matches : List Match) (packs : List Packed) (g : Graph) → IsGraphOf ssa matches packs g → NameUnits ssa deps → IsGraph deps g
+pub is-graph : (deps : List (ℕ × ℕ)) (ssa : Ssa) (matches : List Match) (packs : List Pack) (g : Graph) → IsGraphOf ssa matches packs g → NameUnits ssa deps → IsGraph deps g
 is-graph deps ssa matches packs g is names =
     let long = long-needs ssa matches packs g is in
     record {

@@ -8,7 +8,7 @@ use Rattle.std.proofs.lemmas.List.{get_or-map, get_or_append_left, get_or_defaul
 use Rattle.vg_shapes.specs.declared.match_table.Match.{Match}
 use Rattle.vg_shapes.specs.declared.order.Node.{Node}
 use Rattle.vg_shapes.specs.declared.order.Node.TheVariants.{PackAt, UnitAt}
-use Rattle.vg_shapes.specs.declared.pack.Pack.{Pack as Packed}
+use Rattle.vg_shapes.specs.declared.pack.Pack.{Pack}
 use Rattle.vg_shapes.specs.declared.ssa.Ssa.{Ssa}
 use Rattle.vg_shapes.specs.Nodes.{ArePacks, is_packed, nodes, packed, units_at}
 use Rattle.vg_shapes.specs.Order.{count_of, numbers_from, one_if, Stands}
@@ -66,14 +66,14 @@ found-stands x (y ∷ ys) e = elim (cases_Bool (x == y)) [
   | inr f ↦ (let rest = found-stands x ys (sym (ap (λ b. b || list_any (nat_eq x) ys) f) ∙ e) in omega arith)
 ]
 
-pub pack-stands : (packs : List Packed) (k x : ℕ) → k < length packs → Stands x (units_at packs (PackAt k)) → Stands x (packed packs)
+pub pack-stands : (packs : List Pack) (k x : ℕ) → k < length packs → Stands x (units_at packs (PackAt k)) → Stands x (packed packs)
 pack-stands [] k x h s = absurd (omega arith)
 pack-stands (p ∷ packs) k x h s =
     let q = get_or (p ∷ packs) k p in
     let same : q ≡ get_or (p ∷ packs) k q = get_or_default (p ∷ packs) k p q h in
     packed-has (p ∷ packs) k x q h same (subst (Stands x) (pack-units (p ∷ packs) k q h same) s)
 
-owner-packed : (packs : List Packed) (x : ℕ) (o : Option ℕ) → IsOwner packs packs x o → is_none o ≡ not (is_packed packs x)
+owner-packed : (packs : List Pack) (x : ℕ) (o : Option ℕ) → IsOwner packs packs x o → is_none o ≡ not (is_packed packs x)
 owner-packed packs x None h = sym (ap not (none-found x (packed packs) h))
 owner-packed packs x (Some k) h = sym (ap not (stands-found x (packed packs) (pack-stands packs k x h.0 h.1)))
 
@@ -93,7 +93,7 @@ unit-inside ssa x e = elim (cases_Bool (nat_lt x (arguments ssa))) [
       (low, omega arith)
 ]
 
-pub packed-inside : (ssa : Ssa) (packs : List Packed) (first count x : ℕ) → ArePacks ssa packs → first ≡ arguments ssa → count ≡ length ssa.units → Stands x (packed packs) → x < first + count
+pub packed-inside : (ssa : Ssa) (packs : List Pack) (first count x : ℕ) → ArePacks ssa packs → first ≡ arguments ssa → count ≡ length ssa.units → Stands x (packed packs) → x < first + count
 packed-inside ssa packs first count x good f n s = elim (cases_Bool (is_unit ssa x)) [
   | inl t ↦ (let b = (unit-inside ssa x t).1 in omega arith)
   | inr e ↦ absurd (let most = good.once x in let none : one_if (is_unit ssa x) ≡ 0 = ap one_if e in omega arith)
@@ -101,14 +101,14 @@ packed-inside ssa packs first count x good f n s = elim (cases_Bool (is_unit ssa
 
 -- ---- the whole
 
-map-units : (first end : ℕ) (matches : List Match) (packs : List Packed) (vs : List ℕ) → map (node_needs first end matches packs) (map UnitAt vs) ≡ map (λ v. RowsOf (v ∷ [])) vs
+map-units : (first end : ℕ) (matches : List Match) (packs : List Pack) (vs : List ℕ) → map (node_needs first end matches packs) (map UnitAt vs) ≡ map (λ v. RowsOf (v ∷ [])) vs
 map-units first end matches packs [] = refl
 map-units first end matches packs (v ∷ vs) = ap (λ l. RowsOf (v ∷ []) ∷ l) (map-units first end matches packs vs)
 
 pub few-nodes : (n count : ℕ) (nodes : List Node) (owners : List (Option ℕ)) → nodes ≡ map PackAt (numbers_from 0 n) → n ≤ 16777216 → length owners ≤ 33554432 → length nodes + length owners < 4294967296
 few-nodes n count nodes owners e h l = (let m = ap length e ∙ length-map (numbers_from 0 n) PackAt ∙ length-numbers 0 n in omega arith)
 
-pub graph-made : (ssa : Ssa) (matches : List Match) (packs : List Packed) (first count : ℕ) (before nodes_now : List Node) (was needs_now : List Needs) (owners : List (Option ℕ)) (homes : List ℕ)
+pub graph-made : (ssa : Ssa) (matches : List Match) (packs : List Pack) (first count : ℕ) (before nodes_now : List Node) (was needs_now : List Needs) (owners : List (Option ℕ)) (homes : List ℕ)
     → first ≡ arguments ssa → count ≡ length ssa.units
     → (length packs ≤ 16777216) × (first ≤ 16777216) × (count ≤ 16777216)
     → before ≡ map PackAt (numbers_from 0 (length packs)) → was ≡ map (node_needs first (first + count) matches packs) before

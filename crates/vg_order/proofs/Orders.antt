@@ -10,7 +10,7 @@ use Rattle.std.proofs.lemmas.List.Sorted.{IsPermutation-map}
 use Rattle.vg_shapes.specs.declared.match_table.Match.{Match}
 use Rattle.vg_shapes.specs.declared.order.Node.{Node}
 use Rattle.vg_shapes.specs.declared.order.Node.TheVariants.{PackAt, UnitAt}
-use Rattle.vg_shapes.specs.declared.pack.Pack.{Pack as Packed}
+use Rattle.vg_shapes.specs.declared.pack.Pack.{Pack}
 use Rattle.vg_shapes.specs.declared.ssa.Ssa.{Ssa}
 use Rattle.vg_shapes.specs.Nodes.{is_packed, nodes, units_at}
 use Rattle.vg_shapes.specs.Order.{all_units, count_of, Follows, numbers_from, one_if, Stands}
@@ -31,7 +31,7 @@ use Rattle.vg_order.proofs.Rising.{count_of-past, count_of-within}
 -- ---- orders
 
 -- a unit of a node that is done stands among the units that are done
-done-units : (packs : List Packed) (node : ℕ → Node) (m x : ℕ) (done : List ℕ) → Stands m done → Stands x (units_at packs (node m)) → Stands x (all_units (units_at packs) (map node done))
+done-units : (packs : List Pack) (node : ℕ → Node) (m x : ℕ) (done : List ℕ) → Stands m done → Stands x (units_at packs (node m)) → Stands x (all_units (units_at packs) (map node done))
 done-units packs node m x [] s t = absurd (omega arith)
 done-units packs node m x (n ∷ done) s t =
     let sum = count_of-append x (units_at packs (node n)) (all_units (units_at packs) (map node done)) in
@@ -40,7 +40,7 @@ done-units packs node m x (n ∷ done) s t =
       | inr other ↦ (let none : one_if (m == n) ≡ 0 = ap one_if other in let rest = done-units packs node m x done (omega arith) t in omega arith)
     ]
 
-graph-follows : (deps : List (ℕ × ℕ)) (ssa : Ssa) (matches : List Match) (packs : List Packed) (g : Graph) (done order : List ℕ) → IsGraphOf ssa matches packs g → NameUnits ssa deps
+graph-follows : (deps : List (ℕ × ℕ)) (ssa : Ssa) (matches : List Match) (packs : List Pack) (g : Graph) (done order : List ℕ) → IsGraphOf ssa matches packs g → NameUnits ssa deps
     → FollowsHomes (needs_at deps g) (home_at g) done order → ((n : ℕ) → Stands n order → n < length g.nodes)
     → Follows (node_depends_by deps ssa matches packs) (units_at packs) (map (node_at g) done) (map (node_at g) order)
 graph-follows deps ssa matches packs g done [] is names follows inside = tt
@@ -54,7 +54,7 @@ graph-follows deps ssa matches packs g done (n ∷ order) is names follows insid
           (graph-follows deps ssa matches packs g (done ++ n ∷ []) order is names follows.1 (λ m s. inside m (omega arith))),
     )
 
-pub graph-order : (deps : List (ℕ × ℕ)) (ssa : Ssa) (matches : List Match) (packs : List Packed) (g : Graph) (order : List ℕ) → IsGraphOf ssa matches packs g → NameUnits ssa deps
+pub graph-order : (deps : List (ℕ × ℕ)) (ssa : Ssa) (matches : List Match) (packs : List Pack) (g : Graph) (order : List ℕ) → IsGraphOf ssa matches packs g → NameUnits ssa deps
     → IsOrdered (needs_at deps g) (home_at g) (length g.needs) order → IsOrderBy deps ssa matches packs (map (node_at g) order)
 graph-order deps ssa matches packs g order is names o =
     let long = long-needs ssa matches packs g is in
@@ -73,7 +73,7 @@ graph-order deps ssa matches packs g order is names o =
 
 -- ---- cycles
 
-graph-leads : (deps : List (ℕ × ℕ)) (ssa : Ssa) (matches : List Match) (packs : List Packed) (g : Graph) (end u : ℕ) (us : List ℕ) → IsGraphOf ssa matches packs g → NameUnits ssa deps
+graph-leads : (deps : List (ℕ × ℕ)) (ssa : Ssa) (matches : List Match) (packs : List Pack) (g : Graph) (end u : ℕ) (us : List ℕ) → IsGraphOf ssa matches packs g → NameUnits ssa deps
     → AllByRecursion (IsInside g) (u ∷ us) → LeadsBack (needs_at deps g) (home_at g) end (u ∷ us)
     → LeadsToBy deps ssa matches packs (node_at g end) (node_at g (home_at g u)) (map (λ v. node_at g (home_at g v)) us)
 graph-leads deps ssa matches packs g end u [] is names all back =
@@ -88,7 +88,7 @@ graph-leads deps ssa matches packs g end u (v ∷ vs) is names all back = (
   graph-leads deps ssa matches packs g end v vs is names all.1 back.1,
 )
 
-graph-contains : (ssa : Ssa) (matches : List Match) (packs : List Packed) (g : Graph) (us : List ℕ) → IsGraphOf ssa matches packs g → AllByRecursion (IsInside g) us
+graph-contains : (ssa : Ssa) (matches : List Match) (packs : List Pack) (g : Graph) (us : List ℕ) → IsGraphOf ssa matches packs g → AllByRecursion (IsInside g) us
     → AllByRecursion (Contains (nodes ssa packs)) (map (λ v. node_at g (home_at g v)) us)
 graph-contains ssa matches packs g [] is all = tt
 graph-contains ssa matches packs g (u ∷ us) is all = (
@@ -96,12 +96,12 @@ graph-contains ssa matches packs g (u ∷ us) is all = (
   graph-contains ssa matches packs g us is all.1,
 )
 
-graph-units : (ssa : Ssa) (matches : List Match) (packs : List Packed) (g : Graph) (us : List ℕ) → IsGraphOf ssa matches packs g → AllByRecursion (IsInside g) us
+graph-units : (ssa : Ssa) (matches : List Match) (packs : List Pack) (g : Graph) (us : List ℕ) → IsGraphOf ssa matches packs g → AllByRecursion (IsInside g) us
     → AreUnitsOf packs us (map (λ v. node_at g (home_at g v)) us)
 graph-units ssa matches packs g [] is all = refl
 graph-units ssa matches packs g (u ∷ us) is all = ((is.homes u all.0).1, graph-units ssa matches packs g us is all.1)
 
-graph-cycle : (deps : List (ℕ × ℕ)) (ssa : Ssa) (matches : List Match) (packs : List Packed) (g : Graph) (us : List ℕ) → IsGraphOf ssa matches packs g → NameUnits ssa deps
+graph-cycle : (deps : List (ℕ × ℕ)) (ssa : Ssa) (matches : List Match) (packs : List Pack) (g : Graph) (us : List ℕ) → IsGraphOf ssa matches packs g → NameUnits ssa deps
     → ClosesBy (needs_at deps g) (home_at g) us → AllByRecursion (IsInside g) us → AreOnce (map (home_at g) us) → NamesCycle deps ssa matches packs us
 graph-cycle deps ssa matches packs g [] is names closes all once = absurd closes
 graph-cycle deps ssa matches packs g (u ∷ us) is names closes all once = (
@@ -111,7 +111,7 @@ graph-cycle deps ssa matches packs g (u ∷ us) is names closes all once = (
   once-from_map (home_at g) (u ∷ us) once,
 )
 
-pub graph-tells : (deps : List (ℕ × ℕ)) (ssa : Ssa) (matches : List Match) (packs : List Packed) (g : Graph) (fault : OrderFault) → IsGraphOf ssa matches packs g → NameUnits ssa deps
+pub graph-tells : (deps : List (ℕ × ℕ)) (ssa : Ssa) (matches : List Match) (packs : List Pack) (g : Graph) (fault : OrderFault) → IsGraphOf ssa matches packs g → NameUnits ssa deps
     → Closes deps g fault → Tells deps ssa matches packs fault
 graph-tells deps ssa matches packs g (Cycle units) is names c = graph-cycle deps ssa matches packs g units.items is names c.0 c.1 c.2
 graph-tells deps ssa matches packs g (Memory e) is names c = tt
@@ -125,7 +125,7 @@ all-kept (v ∷ vs) = ap (λ l. v ∷ l) (all-kept vs)
 pub empty-nodes : (ssa : Ssa) → nodes ssa [] ≡ map UnitAt (numbers_from (arguments ssa) (length ssa.units))
 empty-nodes ssa = ap (map UnitAt) (all-kept (numbers_from (arguments ssa) (length ssa.units)))
 
-empty-node : (ssa : Ssa) (matches : List Match) (packs : List Packed) (g : Graph) (n : ℕ) → packs ≡ [] → IsGraphOf ssa matches packs g → n < length g.nodes → node_at g n ≡ UnitAt (arguments ssa + n)
+empty-node : (ssa : Ssa) (matches : List Match) (packs : List Pack) (g : Graph) (n : ℕ) → packs ≡ [] → IsGraphOf ssa matches packs g → n < length g.nodes → node_at g n ≡ UnitAt (arguments ssa + n)
 empty-node ssa matches packs g n e is h =
     let all : g.nodes ≡ map UnitAt (numbers_from (arguments ssa) (length ssa.units)) = is.nodes ∙ ap (nodes ssa) e ∙ empty-nodes ssa in
     let long = length-map (numbers_from (arguments ssa) (length ssa.units)) UnitAt in
@@ -141,7 +141,7 @@ only-one x y s = elim (cases_Bool (x == y)) [
   | inr f ↦ absurd (let none : one_if (x == y) ≡ 0 = ap one_if f in omega arith)
 ]
 
-pub graph-rises : (deps : List (ℕ × ℕ)) (ssa : Ssa) (matches : List Match) (packs : List Packed) (g : Graph) → packs ≡ [] → IsGraphOf ssa matches packs g → NameUnits ssa deps → NameLesser deps → IsRising deps g
+pub graph-rises : (deps : List (ℕ × ℕ)) (ssa : Ssa) (matches : List Match) (packs : List Pack) (g : Graph) → packs ≡ [] → IsGraphOf ssa matches packs g → NameUnits ssa deps → NameLesser deps → IsRising deps g
 graph-rises deps ssa matches packs g e is names less =
     let graph = is-graph deps ssa matches packs g is names in
     let long = long-needs ssa matches packs g is in
@@ -166,7 +166,7 @@ graph-rises deps ssa matches packs g e is names less =
       ],
     )
 
-pub graph-numbers : (deps : List (ℕ × ℕ)) (ssa : Ssa) (matches : List Match) (packs : List Packed) (g : Graph) (order : List ℕ) (found : List Node) → IsGraphOf ssa matches packs g → NameUnits ssa deps
+pub graph-numbers : (deps : List (ℕ × ℕ)) (ssa : Ssa) (matches : List Match) (packs : List Pack) (g : Graph) (order : List ℕ) (found : List Node) → IsGraphOf ssa matches packs g → NameUnits ssa deps
     → (IsRising deps g → order ≡ numbers_from 0 (length g.needs)) → found ≡ map (node_at g) order
     → packs ≡ [] → NameLesser deps → found ≡ map UnitAt (numbers_from (arguments ssa) (length ssa.units))
 graph-numbers deps ssa matches packs g order found is names rising f e less =

@@ -2,7 +2,7 @@
 use Rattle.std.specs.Prelude.{ℕ, List, map}
 use Rattle.std.specs.List.{AllByRecursion}
 use Rattle.vg_shapes.specs.declared.match_table.Match.{Match}
-use Rattle.vg_shapes.specs.declared.pack.Pack.{Pack as Packed}
+use Rattle.vg_shapes.specs.declared.pack.Pack.{Pack}
 use Rattle.vg_shapes.specs.declared.ssa.Ssa.{Ssa}
 use Rattle.vg_order.specs.declared.fault.OrderFault.{OrderFault}
 use Rattle.vg_order.specs.declared.fault.OrderFault.TheVariants.{Cycle, Memory}
@@ -11,7 +11,7 @@ use Rattle.vg_order.specs.declared.graph.Graph.{Graph}
 use Rattle.vg_order.specs.Paths.{ClosesBy, home_at, IsInside, needs_at}
 
 -- units whose nodes are a cycle
-abbrev pub Tells : List (ℕ × ℕ) → Ssa → List Match → List Packed → OrderFault → Type 0
+abbrev pub Tells : List (ℕ × ℕ) → Ssa → List Match → List Pack → OrderFault → Type 0
 Tells deps ssa matches packs (Cycle units) = NamesCycle deps ssa matches packs units.items
 Tells deps ssa matches packs (Memory e) = Unit {0}
 

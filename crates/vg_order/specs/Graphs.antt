@@ -6,7 +6,7 @@ use Rattle.vg_shapes.specs.declared.match_table.Bound.{Bound}
 use Rattle.vg_shapes.specs.declared.match_table.Match.{Match}
 use Rattle.vg_shapes.specs.declared.order.Node.{Node}
 use Rattle.vg_shapes.specs.declared.order.Node.TheVariants.{PackAt, UnitAt}
-use Rattle.vg_shapes.specs.declared.pack.Pack.{Pack as Packed}
+use Rattle.vg_shapes.specs.declared.pack.Pack.{Pack}
 use Rattle.vg_shapes.specs.declared.pack.Pack.TheVariants.{Stores, Loads, Call}
 use Rattle.vg_shapes.specs.declared.ssa.Ssa.{Ssa}
 use Rattle.vg_shapes.specs.declared.wanted.Wanted.{Wanted}
@@ -37,13 +37,13 @@ abbrev pub lane_bounds : List Match → ℕ → ℕ → Option ℕ → List Boun
 lane_bounds matches d lane None = []
 lane_bounds matches d lane (Some v) = option_map_or (λ m. m.bound) (match_at matches d lane v) []
 
-abbrev pub pack_needs : ℕ → ℕ → List Match → Packed → Needs
+abbrev pub pack_needs : ℕ → ℕ → List Match → Pack → Needs
 pack_needs first end matches (Stores us) = RowsOf us
 pack_needs first end matches (Loads us) = RowsOf us
 pack_needs first end matches (Call d lanes) =
     Those (units_among first end (bounds_from matches d 0 lanes))
 
-abbrev pub node_needs : ℕ → ℕ → List Match → List Packed → Node → Needs
+abbrev pub node_needs : ℕ → ℕ → List Match → List Pack → Node → Needs
 node_needs first end matches packs (PackAt k) =
     option_map_or (pack_needs first end matches) (slice_get packs k) (Those [])
 node_needs first end matches packs (UnitAt v) = RowsOf (v ∷ [])
@@ -51,11 +51,11 @@ node_needs first end matches packs (UnitAt v) = RowsOf (v ∷ [])
 -- ---- the node of a unit
 
 -- the pack of which a unit is one, and none where it is in none of the packs that were looked at
-abbrev pub IsOwner : List Packed → List Packed → ℕ → Option ℕ → Type 0
+abbrev pub IsOwner : List Pack → List Pack → ℕ → Option ℕ → Type 0
 IsOwner packs done x None = count_of x (packed done) ≡ 0
 IsOwner packs done x (Some k) = (k < length packs) × Stands x (units_at packs (PackAt k))
 
-abbrev pub AreOwners : List Packed → List Packed → List (Option ℕ) → Type 0
+abbrev pub AreOwners : List Pack → List Pack → List (Option ℕ) → Type 0
 AreOwners packs done owners = (x : ℕ) → IsOwner packs done x (slice_index_or owners x None)
 
 -- the units that no pack owns, from the first one up to an end
@@ -84,10 +84,11 @@ node_at g n = slice_index_or g.nodes n (UnitAt 0)
 
 -- ---- the whole
 
-pub record IsGraphOf (ssa : Ssa) (matches : List Match) (packs : List Packed) (g : Graph) : Type 0 where
+pub record IsGraphOf (ssa : Ssa) (matches : List Match) (packs : List Pack) (g : Graph) : Type 0 where
   pub first : g.first ≡ arguments ssa
   pub long : length g.homes ≡ arguments ssa + length ssa.units
   pub nodes : g.nodes ≡ nodes ssa packs
   pub needs : g.needs ≡ map (node_needs (arguments ssa) (arguments ssa + length ssa.units) matches packs) g.nodes
-  pub homes : (x : ℕ) → IsInside g x → (home_at g x < length g.nodes) × Stands x (units_at packs (node_at g (home_at g x)))
+  pub homes : (x : ℕ) → IsInside g x →
+      (home_at g x < length g.nodes) × Stands x (units_at packs (node_at g (home_at g x)))
   pub few : (length g.homes < 2 ^ 32) × (length g.needs < 2 ^ 32)

@@ -3,7 +3,7 @@ use Rattle.std.specs.Prelude.{◌≡◌, ◌↔◌, ℕ, List, [], length, map}
 use Rattle.vg_shapes.specs.declared.match_table.Match.{Match}
 use Rattle.vg_shapes.specs.declared.order.Node.{Node}
 use Rattle.vg_shapes.specs.declared.order.Node.TheVariants.{UnitAt}
-use Rattle.vg_shapes.specs.declared.pack.Pack.{Pack as Packed}
+use Rattle.vg_shapes.specs.declared.pack.Pack.{Pack}
 use Rattle.vg_shapes.specs.declared.ssa.Ssa.{Ssa}
 use Rattle.vg_shapes.specs.Depends.{dependences}
 use Rattle.vg_shapes.specs.Nodes.{ArePacks, IsCycle, IsOrder}
@@ -14,7 +14,7 @@ use Rattle.vg_order.specs.ByList.{IsCycleBy, IsOrderBy, NameLesser, NameUnits}
 -- nodes that have an order have no cycle
 abbrev pub OrdersHaveNoCycle : Type 0
 OrdersHaveNoCycle =
-    (deps : List (ℕ × ℕ)) (ssa : Ssa) (matches : List Match) (packs : List Packed)
+    (deps : List (ℕ × ℕ)) (ssa : Ssa) (matches : List Match) (packs : List Pack)
     (order cycle : List Node) →
     ArePacks ssa packs → IsOrderBy deps ssa matches packs order →
     IsCycleBy deps ssa matches packs cycle → ⊥
@@ -22,7 +22,7 @@ OrdersHaveNoCycle =
 -- by the list of all dependences of a kernel, orders and cycles are those of its plans
 abbrev pub DependencesGiveOrders : Type 0
 DependencesGiveOrders =
-    (ssa : Ssa) (matches : List Match) (packs : List Packed) (ns : List Node) →
+    (ssa : Ssa) (matches : List Match) (packs : List Pack) (ns : List Node) →
     (IsOrderBy (dependences ssa) ssa matches packs ns ↔ IsOrder ssa matches packs ns)
     × (IsCycleBy (dependences ssa) ssa matches packs ns ↔ IsCycle ssa matches packs ns)
 

@@ -34,6 +34,8 @@ StopsAt homes placed rows left (Some x) =
     Stands x (concat rows) × (flag_at placed (slice_index homes x) ≡ false)
 
 -- a look that began at a place
-pub record Looked (homes : List ℕ) (placed : List Bool) (rows : List (List ℕ)) (from : Cursor) (look : Look) : Type 0 where
+pub record Looked
+    (homes : List ℕ) (placed : List Bool) (rows : List (List ℕ)) (from : Cursor) (look : Look)
+    : Type 0 where
   pub passes : Passes homes placed (left_from rows from) (left_from rows look.cursor)
   pub stops : StopsAt homes placed rows (left_from rows look.cursor) look.open

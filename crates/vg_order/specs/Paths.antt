@@ -61,7 +61,9 @@ count_true [] = 0
 count_true (b ∷ bs) = one_if b + count_true bs
 
 -- what is known of the nodes that are placed, and of those that are not
-pub record IsPlaced (needs left : ℕ → List ℕ) (homes : List ℕ) (count : ℕ) (order : List ℕ) (placed : List Bool) : Type 0 where
+pub record IsPlaced
+    (needs left : ℕ → List ℕ) (homes : List ℕ) (count : ℕ) (order : List ℕ) (placed : List Bool)
+    : Type 0 where
   pub counts : (n : ℕ) → count_of n order ≡ one_if (flag_at placed n)
   pub follows : FollowsHomes needs (slice_index homes) [] order
   pub long : length placed ≡ count
@@ -104,7 +106,10 @@ ClosesBy needs home [] = ⊥
 ClosesBy needs home (u ∷ us) = LeadsBack needs home (home u) (u ∷ us)
 
 -- A path of units whose nodes wait for each other, with its top. The flags say which nodes are on it.
-pub record OnPath (needs : ℕ → List ℕ) (homes : List ℕ) (count : ℕ) (placed : List Bool) (path : List ℕ) (on : List Bool) (top : ℕ) : Type 0 where
+pub record OnPath
+    (needs : ℕ → List ℕ) (homes : List ℕ) (count : ℕ) (placed : List Bool) (path : List ℕ) (on : List Bool)
+    (top : ℕ)
+    : Type 0 where
   pub leads : LeadsUp needs (slice_index homes) (path ++ top ∷ [])
   pub counts : (n : ℕ) → count_of n (map (slice_index homes) (path ++ top ∷ [])) ≡ one_if (flag_at on n)
   pub waits : (n : ℕ) → flag_at on n ≡ true → flag_at placed n ≡ false

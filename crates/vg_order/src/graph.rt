@@ -93,7 +93,8 @@ fn lane_bounds(table: &MatchTable, description: u32, lane: u32, value: Option<u3
 }
 
 fn match_bounds(table: &MatchTable, description: u32, lane: u32, value: u32) -> &[Bound]
-    ensures { result.now ≡ option_map_or (λ m. m.bound) (match_at table.now description lane value) [] }
+    ensures { result.now ≡ option_map_or (λ m. m.bound) (match_at table.now description lane value)
+        [] }
 {
     match table.get(description, lane, value) {
         Some(found) => found.bound.as_slice(),
@@ -110,7 +111,8 @@ fn call_units(
     description: u32,
     lanes: &[Option<u32>],
 ) -> Result<Vec<u32>, AllocError>
-    ensures { IfOk result (λ units. units.items ≡ units_among first end (bounds_from table.now description 0 lanes.now)) }
+    ensures { IfOk result (λ units. units.items ≡ units_among first end (bounds_from table.now
+        description 0 lanes.now)) }
 {
     if lanes.len() > MOST {
         return Err(AllocError);
@@ -158,8 +160,10 @@ fn pack_nodes(
     packs: &[Pack],
 ) -> Result<NodeList, AllocError>
     requires { length packs.now < 2 ^ 32 }
-    ensures nodes { IfOk result (λ list. list.nodes.items ≡ map PackAt (numbers_from 0 (length packs.now))) }
-    ensures needs { IfOk result (λ list. list.needs.items ≡ map (node_needs first end table.now packs.now) list.nodes.items) }
+    ensures nodes { IfOk result (λ list. list.nodes.items ≡ map PackAt (numbers_from 0 (length
+        packs.now))) }
+    ensures needs { IfOk result (λ list. list.needs.items ≡ map (node_needs first end table.now
+        packs.now) list.nodes.items) }
 {
     let mut list = NodeList {
         nodes: Vec::new(alloc),
@@ -194,8 +198,10 @@ fn computed(alloc: Global, lanes: &[Option<u32>]) -> Result<Vec<u32>, AllocError
 // Makes a pack the owner of units.
 fn own(owners: &mut Vec<Option<u32>>, units: &[u32], pack: u32)
     requires { (x : ℕ) → Stands x units.now → x < length owners.old.items }
-    ensures theirs { (x : ℕ) → Stands x units.now → slice_index_or owners.new.items x None ≡ Some pack }
-    ensures others { (x : ℕ) → count_of x units.now ≡ 0 → slice_index_or owners.new.items x None ≡ slice_index_or owners.old.items x None }
+    ensures theirs { (x : ℕ) → Stands x units.now → slice_index_or owners.new.items x None ≡ Some
+        pack }
+    ensures others { (x : ℕ) → count_of x units.now ≡ 0 → slice_index_or owners.new.items x None ≡
+        slice_index_or owners.old.items x None }
     ensures long { length owners.new.items ≡ length owners.old.items }
 {
     for k in 0..units.len() {
@@ -226,7 +232,8 @@ fn settle(
     owner: Option<u32>,
 ) -> Result<u32, AllocError>
     requires { length list.old.nodes.items < 2 ^ 32 }
-    ensures { IfOk result (λ home. Settles unit list.old.nodes.items list.new.nodes.items list.old.needs.items list.new.needs.items home owner) }
+    ensures { IfOk result (λ home. Settles unit list.old.nodes.items list.new.nodes.items
+        list.old.needs.items list.new.needs.items home owner) }
 {
     if let Some(pack) = owner {
         return Ok(pack);
@@ -247,9 +254,12 @@ fn homes(
     requires first { first ≤ length owners.now }
     requires few { length list.old.nodes.items + length owners.now < 2 ^ 32 }
     ensures long { IfOk result (λ homes. length homes.items ≡ length owners.now) }
-    ensures nodes { OnOk result (list.new.nodes.items ≡ list.old.nodes.items ++ map UnitAt (free_from owners.now first (length owners.now))) }
-    ensures needs { OnOk result (list.new.needs.items ≡ list.old.needs.items ++ map (λ v. RowsOf (v ∷ [])) (free_from owners.now first (length owners.now))) }
-    ensures homes { IfOk result (λ homes. (x : ℕ) → first ≤ x → x < length owners.now → IsHome list.new.nodes.items x (slice_index homes.items x) (slice_index_or owners.now x None)) }
+    ensures nodes { OnOk result (list.new.nodes.items ≡ list.old.nodes.items ++ map UnitAt
+        (free_from owners.now first (length owners.now))) }
+    ensures needs { OnOk result (list.new.needs.items ≡ list.old.needs.items ++ map (λ v. RowsOf (v
+        ∷ [])) (free_from owners.now first (length owners.now))) }
+    ensures homes { IfOk result (λ homes. (x : ℕ) → first ≤ x → x < length owners.now → IsHome
+        list.new.nodes.items x (slice_index homes.items x) (slice_index_or owners.now x None)) }
 {
     let mut homes = vec![in alloc; 0u32; first]?;
     'units: for unit in first..owners.len() {

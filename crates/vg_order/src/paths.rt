@@ -47,8 +47,10 @@ impl Path {
 // The index of the first unit of a node, else the number of units.
 fn place_in(units: &[u32], homes: &[u32], node: u32) -> usize
     ensures range { result ≤ length units.now }
-    ensures found { result < length units.now → slice_index homes.now (slice_index units.now result) ≡ node }
-    ensures none { result ≡ length units.now → (k : ℕ) → k < length units.now → slice_index homes.now (slice_index units.now k) ≢ node }
+    ensures found { result < length units.now → slice_index homes.now (slice_index units.now result)
+        ≡ node }
+    ensures none { result ≡ length units.now → (k : ℕ) → k < length units.now → slice_index
+        homes.now (slice_index units.now k) ≢ node }
 {
     for k in 0..units.len() {
         if home_of(homes, units[k]) == node {
@@ -95,7 +97,8 @@ fn step(
     requires valid { IsProgress deps.now graph.now progress.old }
     requires on_path { StandsOn deps.now graph.now progress.old path.old top }
     ensures valid { OnOk result (IsProgress deps.now graph.now progress.new) }
-    ensures steps { IfOk result (λ next. Steps deps.now graph.now progress.old progress.new path.old path.new top next) }
+    ensures steps { IfOk result (λ next. Steps deps.now graph.now progress.old progress.new path.old
+        path.new top next) }
     ensures cycle { IfErr result (λ fault. Closes deps.now graph.now fault) }
 {
     let homes = graph.homes.as_slice();
@@ -130,7 +133,8 @@ pub(crate) fn climb(
     ensures valid { OnOk result (IsProgress deps.now graph.now progress.new) }
     ensures rest { OnOk result (IsAtRest graph.now path.new) }
     ensures stays { OnOk result (StaysPlaced progress.old.placed.items progress.new.placed.items) }
-    ensures placed { OnOk result (flag_at progress.new.placed.items (home_at graph.now unit) ≡ true) }
+    ensures placed { OnOk result (flag_at progress.new.placed.items (home_at graph.now unit) ≡
+        true) }
     ensures cycle { IfErr result (λ fault. Closes deps.now graph.now fault) }
 {
     let mut top = unit;

@@ -32,7 +32,8 @@ pub(crate) fn visit(
     requires waits { flag_at progress.old.placed.items node ≡ false }
     requires valid { IsProgress deps.now graph.now progress.old }
     ensures valid { OnOk result (IsProgress deps.now graph.now progress.new) }
-    ensures visits { IfOk result (λ unit. Visits deps.now graph.now progress.old progress.new node unit) }
+    ensures visits { IfOk result (λ unit. Visits deps.now graph.now progress.old progress.new node
+        unit) }
 {
     let from = progress.cursors[node as usize];
     let needs = &graph.needs.as_slice()[node as usize];

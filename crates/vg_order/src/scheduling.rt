@@ -35,8 +35,11 @@ fn place(
     ensures valid { OnOk result (IsProgress deps.now graph.now progress.new) }
     ensures rest { OnOk result (IsAtRest graph.now path.new) }
     ensures stays { OnOk result (StaysPlaced progress.old.placed.items progress.new.placed.items) }
-    ensures placed { OnOk result (flag_at progress.new.placed.items (home_at graph.now unit) ≡ true) }
-    ensures ready { OnOk result (flag_at progress.old.placed.items (home_at graph.now unit) ≡ false → IsReady deps.now graph.now progress.old.placed.items (home_at graph.now unit) → progress.new.order.items ≡ progress.old.order.items ++ home_at graph.now unit ∷ []) }
+    ensures placed { OnOk result (flag_at progress.new.placed.items (home_at graph.now unit) ≡
+        true) }
+    ensures ready { OnOk result (flag_at progress.old.placed.items (home_at graph.now unit) ≡ false
+        → IsReady deps.now graph.now progress.old.placed.items (home_at graph.now unit) →
+        progress.new.order.items ≡ progress.old.order.items ++ home_at graph.now unit ∷ []) }
     ensures cycle { IfErr result (λ fault. Closes deps.now graph.now fault) }
 {
     let node = home_of(graph.homes.as_slice(), unit);
@@ -62,8 +65,10 @@ fn place_units(
     requires rest { IsAtRest graph.now path.old }
     requires none { progress.old.order.items ≡ [] }
     ensures valid { OnOk result (IsProgress deps.now graph.now progress.new) }
-    ensures placed { OnOk result (AreUnitsPlaced graph.now progress.new.placed.items (length graph.now.homes)) }
-    ensures rising { OnOk result (IsRising deps.now graph.now → progress.new.order.items ≡ numbers_from 0 (length graph.now.needs)) }
+    ensures placed { OnOk result (AreUnitsPlaced graph.now progress.new.placed.items (length
+        graph.now.homes)) }
+    ensures rising { OnOk result (IsRising deps.now graph.now → progress.new.order.items ≡
+        numbers_from 0 (length graph.now.needs)) }
     ensures cycle { IfErr result (λ fault. Closes deps.now graph.now fault) }
 {
     let end = graph.homes.as_slice().len();
@@ -87,7 +92,8 @@ fn place_last(
     ensures valid { OnOk result (IsProgress deps.now graph.now progress.new) }
     ensures stays { OnOk result (StaysPlaced progress.old.placed.items progress.new.placed.items) }
     ensures placed { OnOk result (flag_at progress.new.placed.items node ≡ true) }
-    ensures same { OnOk result (flag_at progress.old.placed.items node ≡ true → progress.new.order.items ≡ progress.old.order.items) }
+    ensures same { OnOk result (flag_at progress.old.placed.items node ≡ true →
+        progress.new.order.items ≡ progress.old.order.items) }
 {
     if !flag_at(progress.placed.as_slice(), node) {
         visit(deps, graph, progress, node)?;
@@ -102,7 +108,8 @@ fn place_rest(deps: &DepList, graph: &Graph, progress: &mut Progress) -> Result<
     requires units { AreUnitsPlaced graph.now progress.old.placed.items (length graph.now.homes) }
     ensures valid { OnOk result (IsProgress deps.now graph.now progress.new) }
     ensures placed { OnOk result (AreAllPlaced progress.new.placed.items (length graph.now.needs)) }
-    ensures same { OnOk result (AreAllPlaced progress.old.placed.items (length graph.now.needs) → progress.new.order.items ≡ progress.old.order.items) }
+    ensures same { OnOk result (AreAllPlaced progress.old.placed.items (length graph.now.needs) →
+        progress.new.order.items ≡ progress.old.order.items) }
 {
     let count = graph.needs.as_slice().len();
     'nodes: for node in 0..count {
@@ -138,8 +145,10 @@ fn empty(alloc: Global, count: usize) -> Result<Path, AllocError>
 // Places all nodes.
 fn place_all(alloc: Global, deps: &DepList, graph: &Graph) -> Result<Vec<u32>, OrderFault>
     requires { IsGraph deps.now graph.now }
-    ensures order { IfOk result (λ order. IsOrdered (needs_at deps.now graph.now) (home_at graph.now) (length graph.now.needs) order.items) }
-    ensures rising { IfOk result (λ order. IsRising deps.now graph.now → order.items ≡ numbers_from 0 (length graph.now.needs)) }
+    ensures order { IfOk result (λ order. IsOrdered (needs_at deps.now graph.now) (home_at
+        graph.now) (length graph.now.needs) order.items) }
+    ensures rising { IfOk result (λ order. IsRising deps.now graph.now → order.items ≡ numbers_from
+        0 (length graph.now.needs)) }
     ensures cycle { IfErr result (λ fault. Closes deps.now graph.now fault) }
 {
     let count = graph.needs.as_slice().len();
@@ -161,7 +170,8 @@ fn node_at(nodes: &[Node], number: u32) -> Node
 }
 
 fn nodes_at(alloc: Global, nodes: &[Node], numbers: &[u32]) -> Result<Vec<Node>, AllocError>
-    ensures { IfOk result (λ found. found.items ≡ map (λ n. slice_index_or nodes.now n (UnitAt 0)) numbers.now) }
+    ensures { IfOk result (λ found. found.items ≡ map (λ n. slice_index_or nodes.now n (UnitAt 0))
+        numbers.now) }
 {
     numbers
         .iter()
@@ -186,7 +196,8 @@ pub fn schedule(
     requires units { NameUnits ssa.now deps.now }
     ensures order { IfOk result (λ order. IsOrderBy deps.now ssa.now table.now plan.now order) }
     ensures cycle { IfErr result (λ fault. Tells deps.now ssa.now table.now plan.now fault) }
-    ensures numbers { IfOk result (λ order. plan.now ≡ [] → NameLesser deps.now → order ≡ map UnitAt (numbers_from (arguments ssa.now) (length ssa.now.units))) }
+    ensures numbers { IfOk result (λ order. plan.now ≡ [] → NameLesser deps.now → order ≡ map UnitAt
+        (numbers_from (arguments ssa.now) (length ssa.now.units))) }
 {
     let graph = graph_of(alloc, plan.as_slice(), table, ssa)?;
     let numbers = place_all(alloc, deps, &graph)?;

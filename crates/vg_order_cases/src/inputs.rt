@@ -8,7 +8,7 @@ ghost use Rattle.vg_shapes.specs.declared.pack.Pack.TheVariants.{Loads};
 use std::alloc::{AllocError, Global};
 use vg_base::{Address, Items, Name, Width};
 use vg_order::{OrderFault, schedule};
-use vg_shapes::{DepList, Lanes, MatchTable, Node, Order, Pack, Plan, Ssa, Unit};
+use vg_shapes::{DepList, Lanes, MatchTable, Node, Order, Pack, Plan, Ssa, SsaUnit};
 
 /// What came of a plan: the order, or the units of a cycle.
 #[derive(Drop)]
@@ -23,7 +23,7 @@ pub enum Outcome {
 fn kernel(alloc: Global, count: usize) -> Result<Ssa, AllocError>
     ensures { IfOk result (λ ssa. HasUnits ssa count) }
 {
-    let load = Unit::Load {
+    let load = SsaUnit::Load {
         address: Address {
             pointer: 0,
             offset: 0,

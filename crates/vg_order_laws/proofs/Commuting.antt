@@ -10,8 +10,8 @@ use Rattle.vg_base.specs.Width.{bits_of, size_of}
 use Rattle.vg_bits.proofs.ByteLists.{length-bytes}
 use Rattle.vg_shapes.specs.declared.access.Access.{Access}
 use Rattle.vg_shapes.specs.declared.ssa.Ssa.{Ssa}
-use Rattle.vg_shapes.specs.declared.unit.Unit.{Unit as Work}
-use Rattle.vg_shapes.specs.declared.unit.Unit.TheVariants.{Load, Store, Operation}
+use Rattle.vg_shapes.specs.declared.ssa_unit.SsaUnit.{SsaUnit}
+use Rattle.vg_shapes.specs.declared.ssa_unit.SsaUnit.TheVariants.{Load, Store, Operation}
 use Rattle.vg_shapes.specs.Depends.{conflict_at, conflict_of}
 use Rattle.vg_shapes.specs.Layout.{access_at, access_of, AreApart, noalias_flags, Respects}
 use Rattle.vg_shapes.specs.RunUnits.{number_of}
@@ -26,13 +26,13 @@ bind_some (Some x) = refl
 bind_some None = refl
 
 -- the accesses of two units are apart where one of them writes
-abbrev UnitsApart : List ℕ → Work → Work → Type 0
+abbrev UnitsApart : List ℕ → SsaUnit → SsaUnit → Type 0
 UnitsApart places u v = (x y : Access) → access_of u ≡ Some x → access_of v ≡ Some y → (x.writes || y.writes) ≡ true → AreApart places x y
 
 at_size : (places : List ℕ) (a : Address) (n : ℕ) (b : Address) (w : Width) (k : ℕ) → Apart (place_of places a) n (place_of places b) (size_of w) → Apart (place_of places a) n (place_of places b) (length (bytes (size_of w) k))
 at_size places a n b w k h = rw (length-bytes (size_of w) k) h
 
-works-commute : (places : List ℕ) (numbers : ℕ → ℕ) (i j : ℕ) (u v : Work) → UnitsApart places u v → (m : List ℕ) → (work_step places numbers i u m >>= work_step places numbers j v) ≡ (work_step places numbers j v m >>= work_step places numbers i u)
+works-commute : (places : List ℕ) (numbers : ℕ → ℕ) (i j : ℕ) (u v : SsaUnit) → UnitsApart places u v → (m : List ℕ) → (work_step places numbers i u m >>= work_step places numbers j v) ≡ (work_step places numbers j v m >>= work_step places numbers i u)
 works-commute places numbers i j (Operation op w k xs) v apart m = sym (bind_some (work_step places numbers j v m))
 works-commute places numbers i j (Load a w) (Operation op v k xs) apart m = bind_some (work_step places numbers i (Load a w) m)
 works-commute places numbers i j (Store a w z) (Operation op v k xs) apart m = bind_some (work_step places numbers i (Store a w z) m)
@@ -52,7 +52,7 @@ works-commute places numbers i j (Store a w z) (Store b v y) apart m =
 pub units-commute : UnitsCommute
 units-commute ssa places numbers x y respects h m = by (unit_at ssa x) (unit_at ssa y) refl refl
   where
-    by : (u v : Option Work) → unit_at ssa x ≡ u → unit_at ssa y ≡ v → (step_of v places numbers y m >>= step_of u places numbers x) ≡ (step_of u places numbers x m >>= step_of v places numbers y)
+    by : (u v : Option SsaUnit) → unit_at ssa x ≡ u → unit_at ssa y ≡ v → (step_of v places numbers y m >>= step_of u places numbers x) ≡ (step_of u places numbers x m >>= step_of v places numbers y)
     by None v a b = bind_some (step_of v places numbers y m)
     by (Some u) None a b = sym (bind_some (work_step places numbers x u m))
     by (Some u) (Some v) a b = sym (works-commute places numbers x y u v (λ p q e g writes.

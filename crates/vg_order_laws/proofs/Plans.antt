@@ -14,10 +14,10 @@ use Rattle.vg_shapes.specs.declared.access.Access.{Access}
 use Rattle.vg_shapes.specs.declared.match_table.Match.{Match}
 use Rattle.vg_shapes.specs.declared.order.Node.{Node}
 use Rattle.vg_shapes.specs.declared.order.Node.TheVariants.{PackAt, UnitAt}
-use Rattle.vg_shapes.specs.declared.pack.Pack.{Pack as Packed}
+use Rattle.vg_shapes.specs.declared.pack.Pack.{Pack}
 use Rattle.vg_shapes.specs.declared.pack.Pack.TheVariants.{Stores, Loads, Call}
 use Rattle.vg_shapes.specs.declared.ssa.Ssa.{Ssa}
-use Rattle.vg_shapes.specs.declared.unit.Unit.{Unit as Work}
+use Rattle.vg_shapes.specs.declared.ssa_unit.SsaUnit.{SsaUnit}
 use Rattle.vg_shapes.specs.Depends.{conflict_at, conflict_of, depends_on, uses_at}
 use Rattle.vg_shapes.specs.Layout.{access_at, access_of, noalias_flags}
 use Rattle.vg_shapes.specs.Nodes.{ArePacks, CallsOperations, is_packed, IsOrder, node_depends, nodes, pack_depends, packed, units_at}
@@ -39,12 +39,12 @@ count_of-units units x (n ∷ ns) = count_of-append x (units n) (flat_map units 
 pub count_of-permuted : {N : Type 0} (units : N → List ℕ) (x : ℕ) (ns ms : List N) → IsPermutation ns ms → count_of x (flat_map units ms) ≡ count_of x (flat_map units ns)
 count_of-permuted units x ns ms p = count_of-units units x ms ∙ sum_by-IsPermutation (λ n. count_of x (units n)) ns ms p ∙ sym (count_of-units units x ns)
 
-seam : (done : List Packed) (p : Packed) (rest : List Packed) → slice_get (done ++ p ∷ rest) (length done) ≡ Some p
+seam : (done : List Pack) (p : Pack) (rest : List Pack) → slice_get (done ++ p ∷ rest) (length done) ≡ Some p
 seam [] p rest = refl
 seam (d ∷ done) p rest = seam done p rest
 
 -- the packs from an index on
-pack-units : (packs done rest : List Packed) → packs ≡ done ++ rest → flat_map (units_at packs) (map PackAt (numbers_from (length done) (length rest))) ≡ packed rest
+pack-units : (packs done rest : List Pack) → packs ≡ done ++ rest → flat_map (units_at packs) (map PackAt (numbers_from (length done) (length rest))) ≡ packed rest
 pack-units packs done [] e = refl
 pack-units packs done (p ∷ rest) e =
     let here : units_at packs (PackAt (length done)) ≡ units_of p = ap (λ o. option_map_or units_of o []) (ap (λ l. slice_get l (length done)) e ∙ seam done p rest) in
@@ -52,11 +52,11 @@ pack-units packs done (p ∷ rest) e =
     (λ i. here i ++ flat_map (units_at packs) (map PackAt (numbers_from (next i) (length rest))))
     ∙ ap (λ l. units_of p ++ l) (pack-units packs (done ++ p ∷ []) rest (e ∙ sym (append_assoc done (p ∷ []) rest)))
 
-unit-units : (packs : List Packed) (vs : List ℕ) → flat_map (units_at packs) (map UnitAt vs) ≡ vs
+unit-units : (packs : List Pack) (vs : List ℕ) → flat_map (units_at packs) (map UnitAt vs) ≡ vs
 unit-units packs [] = refl
 unit-units packs (v ∷ vs) = ap (λ l. v ∷ l) (unit-units packs vs)
 
-pub node-units : (ssa : Ssa) (packs : List Packed) → flat_map (units_at packs) (nodes ssa packs) ≡ packed packs ++ filter (λ v. not (is_packed packs v)) (unit_numbers ssa)
+pub node-units : (ssa : Ssa) (packs : List Pack) → flat_map (units_at packs) (nodes ssa packs) ≡ packed packs ++ filter (λ v. not (is_packed packs v)) (unit_numbers ssa)
 node-units ssa packs =
     flat_map-append (units_at packs) (map PackAt (numbers_from 0 (length packs))) _
     ∙ (λ i. pack-units packs [] packs refl i ++ unit-units packs (filter (λ v. not (is_packed packs v)) (unit_numbers ssa)) i)
@@ -131,7 +131,7 @@ count_of-unit ssa x e = elim (cases_Bool (nat_lt x (arguments ssa))) [
     not-less a b f = ltb-false a b f
 
 -- whatever order the nodes are in
-pub nodes-have_units : (ssa : Ssa) (packs : List Packed) (order : List Node) → ArePacks ssa packs → IsPermutation (nodes ssa packs) order → AreUnits ssa (all_units (units_at packs) order)
+pub nodes-have_units : (ssa : Ssa) (packs : List Pack) (order : List Node) → ArePacks ssa packs → IsPermutation (nodes ssa packs) order → AreUnits ssa (all_units (units_at packs) order)
 nodes-have_units ssa packs order good same x =
     let outside = filter (λ v. not (is_packed packs v)) (unit_numbers ssa) in
     let all : count_of x (all_units (units_at packs) order) ≡ count_of x (packed packs) + count_of x outside =
@@ -170,7 +170,7 @@ both-true true true e = (refl, refl)
 both-true true false e = absurd (cc)
 both-true false b e = absurd (cc)
 
-conflict-unit : (flags : List Bool) (o : Option Work) (y : Option Access) → conflict_of flags (o >>= access_of) y ≡ true → is_some o ≡ true
+conflict-unit : (flags : List Bool) (o : Option SsaUnit) (y : Option Access) → conflict_of flags (o >>= access_of) y ≡ true → is_some o ≡ true
 conflict-unit flags None y e = absurd (cc)
 conflict-unit flags (Some u) y e = refl
 
@@ -202,17 +202,17 @@ none-conflict ssa (u ∷ us) x all =
     nothing true = refl
     nothing false = refl
 
-pack-sees : (ssa : Ssa) (matches : List Match) (p : Packed) (x : ℕ) → CallsOperations ssa p → conflicts ssa (units_of p) x ≡ true → pack_depends ssa matches p x ≡ true
+pack-sees : (ssa : Ssa) (matches : List Match) (p : Pack) (x : ℕ) → CallsOperations ssa p → conflicts ssa (units_of p) x ≡ true → pack_depends ssa matches p x ≡ true
 pack-sees ssa matches (Stores us) x calls e = any-weaker (λ y. nat_lt x y && conflict_at ssa x y) (λ u. depends_on ssa u x) us (conflict-depends ssa x) e
 pack-sees ssa matches (Loads us) x calls e = any-weaker (λ y. nat_lt x y && conflict_at ssa x y) (λ u. depends_on ssa u x) us (conflict-depends ssa x) e
 pack-sees ssa matches (Call d lanes) x calls e = absurd (true≢false (sym e ∙ none-conflict ssa (units_of (Call d lanes)) x calls))
 
-listed-pack : (ssa : Ssa) (packs : List Packed) (k : ℕ) (p : Packed) → AllByRecursion (CallsOperations ssa) packs → slice_get packs k ≡ Some p → CallsOperations ssa p
+listed-pack : (ssa : Ssa) (packs : List Pack) (k : ℕ) (p : Pack) → AllByRecursion (CallsOperations ssa) packs → slice_get packs k ≡ Some p → CallsOperations ssa p
 listed-pack ssa [] k p all e = absurd (cc)
 listed-pack ssa (q ∷ packs) zero p all e = let same : q ≡ p = cc in subst (CallsOperations ssa) same all.0
 listed-pack ssa (q ∷ packs) (suc k) p all e = listed-pack ssa packs k p all.1 e
 
-nodes-see : (ssa : Ssa) (matches : List Match) (packs : List Packed) → ArePacks ssa packs → (n : Node) (x : ℕ) → conflicts ssa (units_at packs n) x ≡ true → node_depends ssa matches packs n x ≡ true
+nodes-see : (ssa : Ssa) (matches : List Match) (packs : List Pack) → ArePacks ssa packs → (n : Node) (x : ℕ) → conflicts ssa (units_at packs n) x ≡ true → node_depends ssa matches packs n x ≡ true
 nodes-see ssa matches packs good (UnitAt v) x e = conflict-depends ssa x v (single (nat_lt x v && conflict_at ssa x v) e)
   where
     single : (a : Bool) → (a || false) ≡ true → a ≡ true
@@ -220,7 +220,7 @@ nodes-see ssa matches packs good (UnitAt v) x e = conflict-depends ssa x v (sing
     single false e = absurd (cc)
 nodes-see ssa matches packs good (PackAt k) x e = by (slice_get packs k) refl e
   where
-    by : (o : Option Packed) → slice_get packs k ≡ o → conflicts ssa (option_map_or units_of o []) x ≡ true → option_map_or (λ p. pack_depends ssa matches p x) o false ≡ true
+    by : (o : Option Pack) → slice_get packs k ≡ o → conflicts ssa (option_map_or units_of o []) x ≡ true → option_map_or (λ p. pack_depends ssa matches p x) o false ≡ true
     by None g h = absurd (cc)
     by (Some p) g h = pack-sees ssa matches p x (listed-pack ssa packs k p good.calls g) h
 

@@ -9,10 +9,10 @@ use Rattle.vg_base.specs.Memory.{loaded, stored}
 use Rattle.vg_base.specs.Address.{place_of}
 use Rattle.vg_base.specs.Width.{bits_of, size_of}
 use Rattle.vg_shapes.specs.declared.ssa.Ssa.{Ssa}
-use Rattle.vg_shapes.specs.declared.unit.Operands.{Operands}
-use Rattle.vg_shapes.specs.declared.unit.Operator.{Operator}
-use Rattle.vg_shapes.specs.declared.unit.Unit.{Unit as Work}
-use Rattle.vg_shapes.specs.declared.unit.Unit.TheVariants.{Load, Store, Operation}
+use Rattle.vg_shapes.specs.declared.ssa_unit.Operands.{Operands}
+use Rattle.vg_shapes.specs.declared.ssa_unit.Operator.{Operator}
+use Rattle.vg_shapes.specs.declared.ssa_unit.SsaUnit.{SsaUnit}
+use Rattle.vg_shapes.specs.declared.ssa_unit.SsaUnit.TheVariants.{Load, Store, Operation}
 use Rattle.vg_shapes.specs.declared.wanted.Wanted.{Wanted}
 use Rattle.vg_shapes.specs.declared.wanted.Wanted.TheVariants.{Value, Constant, Nothing}
 use Rattle.vg_shapes.specs.Order.{numbers_from}
@@ -28,13 +28,13 @@ went_well (Some x) f e = (x, refl, e)
 went_well None f e = cc
 
 -- a unit gives one number more
-one-more : (places : List ℕ) (u : Work) (r t : Reached) → unit_run places u r ≡ Some t → (n : ℕ) × (t.numbers ≡ r.numbers ++ n ∷ [])
+one-more : (places : List ℕ) (u : SsaUnit) (r t : Reached) → unit_run places u r ≡ Some t → (n : ℕ) × (t.numbers ≡ r.numbers ++ n ∷ [])
 one-more places (Load a w) r t e = let went = went_well (loaded r.memory (place_of places a) (size_of w)) _ e in (number went.0, (let same : Some (reached r.memory r.numbers (number went.0)) ≡ Some t = went.2 in cc))
 one-more places (Store a w x) r t e = let went = went_well (stored r.memory (place_of places a) (bytes (size_of w) (number_of (slice_index r.numbers) x))) _ e in (0, (let same : Some (reached went.0 r.numbers 0) ≡ Some t = went.2 in cc))
 one-more places (Operation op w k xs) r t e = (result_of (slice_index r.numbers) op (bits_of w) k xs, (let same : Some (reached r.memory r.numbers (result_of (slice_index r.numbers) op (bits_of w) k xs)) ≡ Some t = e in cc))
 
 -- numbers that were given stay
-pub more-numbers : (places : List ℕ) (us : List Work) (r t : Reached) → run_units places us r ≡ Some t → (more : List ℕ) × (t.numbers ≡ r.numbers ++ more)
+pub more-numbers : (places : List ℕ) (us : List SsaUnit) (r t : Reached) → run_units places us r ≡ Some t → (more : List ℕ) × (t.numbers ≡ r.numbers ++ more)
 unfolding run_units
 more-numbers places [] r t e = ([], (let same : r ≡ t = cc in ap (λ (q : Reached). q.numbers) (sym same) ∙ sym (append-nil r.numbers)))
 more-numbers places (u ∷ us) r t e =
@@ -49,7 +49,7 @@ earlier-number numbers more (Constant w n) h = refl
 earlier-number numbers more Nothing h = refl
 
 -- what a unit does in a run is what it does where the numbers are those of the whole run
-unit-known : (places : List ℕ) (u : Work) (r t : Reached) (more : List ℕ) → TakesEarlier (length r.numbers) u → unit_run places u r ≡ Some t
+unit-known : (places : List ℕ) (u : SsaUnit) (r t : Reached) (more : List ℕ) → TakesEarlier (length r.numbers) u → unit_run places u r ≡ Some t
     → let numbers = slice_index (t.numbers ++ more) in (work_step places numbers (length r.numbers) u r.memory ≡ Some t.memory) × HasNumber numbers (length r.numbers) u
 unit-known places (Load a w) r t more early e =
     let went = went_well (loaded r.memory (place_of places a) (size_of w)) _ e in
@@ -80,18 +80,18 @@ unit-known places (Operation op w k xs) r t more early e =
     (ap (λ (q : Reached). Some q.memory) same, is ∙ (λ j. operation_result op (bits_of w) k (stays xs.first early.0 j) (stays xs.second early.1 j) (stays xs.third early.2 j)))
 
 -- the unit with a number
-pub unit-there : (ssa : Ssa) (done : List Work) (u : Work) (us : List Work) (n : ℕ) → ssa.units ≡ done ++ u ∷ us → n ≡ arguments ssa + length done → unit_at ssa n ≡ Some u
+pub unit-there : (ssa : Ssa) (done : List SsaUnit) (u : SsaUnit) (us : List SsaUnit) (n : ℕ) → ssa.units ≡ done ++ u ∷ us → n ≡ arguments ssa + length done → unit_at ssa n ≡ Some u
 unit-there ssa done u us n e g =
     cond-false _ _ _ (le-ltb n (arguments ssa) (omega arith))
     ∙ ap (λ k. slice_get ssa.units k) (let k : n - arguments ssa ≡ length done = omega arith in k)
     ∙ ap (λ l. slice_get l (length done)) e ∙ at_seam done u us
   where
-    at_seam : (done : List Work) (u : Work) (us : List Work) → slice_get (done ++ u ∷ us) (length done) ≡ Some u
+    at_seam : (done : List SsaUnit) (u : SsaUnit) (us : List SsaUnit) → slice_get (done ++ u ∷ us) (length done) ≡ Some u
     at_seam [] u us = refl
     at_seam (d ∷ done) u us = at_seam done u us
 
 -- a run of the last units that is done
-pub known-run : (ssa : Ssa) (places : List ℕ) (done us : List Work) (r t : Reached) → ssa.units ≡ done ++ us → length r.numbers ≡ arguments ssa + length done → TakeEarlier (length r.numbers) us → run_units places us r ≡ Some t
+pub known-run : (ssa : Ssa) (places : List ℕ) (done us : List SsaUnit) (r t : Reached) → ssa.units ≡ done ++ us → length r.numbers ≡ arguments ssa + length done → TakeEarlier (length r.numbers) us → run_units places us r ≡ Some t
     → (run_steps (unit_step ssa places (slice_index t.numbers)) (numbers_from (length r.numbers) (length us)) r.memory ≡ Some t.memory) × HaveNumbers (slice_index t.numbers) (length r.numbers) us
 unfolding run_units run_steps
 known-run ssa places done [] r t e g early run = (let same : r ≡ t = cc in ap (λ (q : Reached). Some q.memory) same, tt)

@@ -11,8 +11,8 @@ use Rattle.vg_base.specs.Bits.{bytes}
 use Rattle.vg_base.specs.Memory.{loaded, stored}
 use Rattle.vg_base.specs.Width.{size_of}
 use Rattle.vg_bits.proofs.ByteLists.{length-bytes}
-use Rattle.vg_shapes.specs.declared.unit.Unit.{Unit as Work}
-use Rattle.vg_shapes.specs.declared.unit.Unit.TheVariants.{Load, Store, Operation}
+use Rattle.vg_shapes.specs.declared.ssa_unit.SsaUnit.{SsaUnit}
+use Rattle.vg_shapes.specs.declared.ssa_unit.SsaUnit.TheVariants.{Load, Store, Operation}
 use Rattle.vg_shapes.specs.RunUnits.{number_of, Reached, run_units, unit_run}
 use Rattle.vg_order_laws.specs.Laws.{RunsTrapOutside}
 use Rattle.vg_order_laws.specs.Steps.{is_inside, stays_inside}
@@ -40,13 +40,13 @@ stored_steps memory (pos at) new size f same long = rw (← long) (elim (cases_B
   | inr outside ↦ rw outside refl
 ])
 
-unit_steps : (places : List ℕ) (u : Work) (r : Reached) → Steps (unit_run places u r) (stays_inside places (length r.memory) u) (length r.memory)
+unit_steps : (places : List ℕ) (u : SsaUnit) (r : Reached) → Steps (unit_run places u r) (stays_inside places (length r.memory) u) (length r.memory)
 unit_steps places (Load a w) r = loaded_steps r.memory (place_of places a) (size_of w) _ (λ read. refl)
 unit_steps places (Store a w x) r = stored_steps r.memory (place_of places a) (bytes (size_of w) (number_of (slice_index r.numbers) x)) (size_of w) _ (λ after. refl) (length-bytes (size_of w) (number_of (slice_index r.numbers) x))
 unit_steps places (Operation op w k xs) r = (refl, refl)
 
 -- a step and what follows it
-behind_step : (places : List ℕ) (us : List Work) (long : ℕ) (o : Option Reached) (inside : Bool) → Steps o inside long → ((t : Reached) → is_some (run_units places us t) ≡ list_all (stays_inside places (length t.memory)) us) → is_some (o >>= run_units places us) ≡ (inside && list_all (stays_inside places long) us)
+behind_step : (places : List ℕ) (us : List SsaUnit) (long : ℕ) (o : Option Reached) (inside : Bool) → Steps o inside long → ((t : Reached) → is_some (run_units places us t) ≡ list_all (stays_inside places (length t.memory)) us) → is_some (o >>= run_units places us) ≡ (inside && list_all (stays_inside places long) us)
 behind_step places us long None inside e others = rw e refl
 behind_step places us long (Some t) inside e others = rw e.0 (others t ∙ ap (λ (n : ℕ). list_all (stays_inside places n) us) e.1)
 

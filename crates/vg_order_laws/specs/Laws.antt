@@ -4,9 +4,9 @@ use Rattle.std.specs.List.{list_all, list_any}
 use Rattle.std.specs.Option.{is_some}
 use Rattle.vg_shapes.specs.declared.match_table.Match.{Match}
 use Rattle.vg_shapes.specs.declared.order.Node.{Node}
-use Rattle.vg_shapes.specs.declared.pack.Pack.{Pack as Packed}
+use Rattle.vg_shapes.specs.declared.pack.Pack.{Pack}
 use Rattle.vg_shapes.specs.declared.ssa.Ssa.{Ssa}
-use Rattle.vg_shapes.specs.declared.unit.Unit.{Unit as Work}
+use Rattle.vg_shapes.specs.declared.ssa_unit.SsaUnit.{SsaUnit}
 use Rattle.vg_shapes.specs.Depends.{conflict_at}
 use Rattle.vg_shapes.specs.Layout.{Respects}
 use Rattle.vg_shapes.specs.Nodes.{ArePacks, IsOrder, units_at}
@@ -49,7 +49,7 @@ LegalOrdersRun =
 -- the same of a legal order of packs and the units outside them
 abbrev pub PlanOrdersRun : Type 0
 PlanOrdersRun =
-    (ssa : Ssa) (places : List ℕ) (numbers : ℕ → ℕ) (matches : List Match) (packs : List Packed)
+    (ssa : Ssa) (places : List ℕ) (numbers : ℕ → ℕ) (matches : List Match) (packs : List Pack)
     (order : List Node) →
     Respects ssa places → ArePacks ssa packs → IsOrder ssa matches packs order →
     (memory : List ℕ) →
@@ -70,5 +70,5 @@ RunsAreSteps =
 -- a run ends without a trap exactly where each unit stays inside the memory
 abbrev pub RunsTrapOutside : Type 0
 RunsTrapOutside =
-    (places : List ℕ) (us : List Work) (r : Reached) →
+    (places : List ℕ) (us : List SsaUnit) (r : Reached) →
     is_some (run_units places us r) ≡ list_all (stays_inside places (length r.memory)) us

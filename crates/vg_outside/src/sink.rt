@@ -23,7 +23,8 @@ pub trait Sink {
     /// Writes the bytes after what was written. On `Err` only some of the first were written.
     fn write(&mut self, bytes: &[u8]) -> Result<(), SinkFault>
         ensures whole { OnOk result (Appends (written self.old) bytes.now (written self.new)) }
-        ensures front { OnErr result (AppendsFront (written self.old) bytes.now (written self.new)) }
+        ensures front { OnErr result (AppendsFront (written self.old) bytes.now (written
+            self.new)) }
         ensures fault { OnErr result (Rose (faults self.old) (faults self.new)) }
         ensures faults_never_fall { faults self.old ≤ faults self.new };
 }

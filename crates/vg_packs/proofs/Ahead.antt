@@ -10,15 +10,15 @@ use Rattle.vg_base.specs.Width.{bits_of, size_of}
 use Rattle.vg_plans.specs.Members.{Has}
 use Rattle.vg_plans.proofs.Lists.{has-flat_map}
 use Rattle.vg_plans.proofs.Members.{from-flat_map}
-use Rattle.vg_packing.specs.Groups.{ahead, is_aligned, is_aligned_at, stores_ahead, stores_at, unit_numbers}
-use Rattle.vg_packing.specs.Taken.{first_width, unit_width}
-use Rattle.vg_packing.proofs.Inside.{unit-number}
-use Rattle.vg_packing.proofs.SameTests.{eq-itself}
-use Rattle.vg_shapes.specs.declared.pack.Pack.{Pack as Packed}
+use Rattle.vg_kernel_plans.specs.Groups.{ahead, is_aligned, is_aligned_at, stores_ahead, stores_at, unit_numbers}
+use Rattle.vg_kernel_plans.specs.Taken.{first_width, unit_width}
+use Rattle.vg_kernel_plans.proofs.Inside.{unit-number}
+use Rattle.vg_kernel_plans.proofs.SameTests.{eq-itself}
+use Rattle.vg_shapes.specs.declared.pack.Pack.{Pack}
 use Rattle.vg_shapes.specs.declared.pack.Pack.TheVariants.{Stores, Loads, Call}
 use Rattle.vg_shapes.specs.declared.ssa.Ssa.{Ssa}
-use Rattle.vg_shapes.specs.declared.unit.Unit.{Unit as Work}
-use Rattle.vg_shapes.specs.declared.unit.Unit.TheVariants.{Load, Store, Operation}
+use Rattle.vg_shapes.specs.declared.ssa_unit.SsaUnit.{SsaUnit}
+use Rattle.vg_shapes.specs.declared.ssa_unit.SsaUnit.TheVariants.{Load, Store, Operation}
 use Rattle.vg_shapes.specs.declared.wanted.Wanted.{Wanted}
 use Rattle.vg_shapes.specs.Pack.{stores_before}
 use Rattle.vg_shapes.specs.Units.{arguments, is_unit, unit_at}
@@ -82,7 +82,7 @@ pub record IsStoreOf (ssa : Ssa) (v : ℕ) (s : PlacedStore) : Type 0 where
   pub store : unit_at ssa v ≡ Some (Store s.address s.width value)
   pub rank : s.rank ≡ stores_before ssa s.address s.width v
 
-placed-is : (ssa : Ssa) (v : ℕ) (u : Option Work) (s : PlacedStore) → unit_at ssa v ≡ u
+placed-is : (ssa : Ssa) (v : ℕ) (u : Option SsaUnit) (s : PlacedStore) → unit_at ssa v ≡ u
     → Has s (placed_as v (λ a w. stores_before ssa a w v) u) → IsStoreOf ssa v s
 placed-is ssa v None s e h = absurd h
 placed-is ssa v (Some (Load a w)) s e h = absurd h
@@ -134,14 +134,14 @@ is-placed ssa v a w x e =
     let own : Has s (of v) = subst (λ u. Has s (placed_as v (λ a w. stores_before ssa a w v) u)) (sym e) (inl refl) in
     (s, has-flat_map of v s (unit_numbers ssa) (number-has v (arguments ssa) (length ssa.units) n.0 n.1) own, refl)
 
-not-aligned : (ssa : Ssa) (size v : ℕ) (u : Option Work) → ((a : Address) (w : Width) (x : Wanted) → u ≡ Some (Store a w x) → ⊥)
+not-aligned : (ssa : Ssa) (size v : ℕ) (u : Option SsaUnit) → ((a : Address) (w : Width) (x : Wanted) → u ≡ Some (Store a w x) → ⊥)
     → is_aligned_at ssa size v u ≡ false
 not-aligned ssa size v None n = refl
 not-aligned ssa size v (Some (Load a w)) n = refl
 not-aligned ssa size v (Some (Operation op w k xs)) n = refl
 not-aligned ssa size v (Some (Store a w x)) n = absurd (n a w x refl)
 
-aligned-as : (ssa : Ssa) (size v : ℕ) (u : Option Work) (a : Address) (w : Width) (x : Wanted) → u ≡ Some (Store a w x)
+aligned-as : (ssa : Ssa) (size v : ℕ) (u : Option SsaUnit) (a : Address) (w : Width) (x : Wanted) → u ≡ Some (Store a w x)
     → is_aligned_at ssa size v u ≡ nat_eq ((stores_ahead ssa a w (stores_before ssa a w v) (length ssa.units) * size_of w) % size) 0
 aligned-as ssa size v u a w x e = rw e refl
 
@@ -165,7 +165,7 @@ aligned-by ssa size v = by_link (find (λ (l : Link). nat_eq l.unit v) (ahead_li
         ∙ ap (λ r. nat_eq ((stores_ahead ssa s.address s.width r most * size_of s.width) % size) 0) i.rank
         ∙ sym (aligned-as ssa size v (unit_at ssa v) s.address s.width i.value i.store)
 
-pub pack-aligned : (ssa : Ssa) (links : List Link) → links ≡ aheads_of (placed ssa) → (p : Packed) → is_pack_aligned ssa links p ≡ is_aligned ssa p
+pub pack-aligned : (ssa : Ssa) (links : List Link) → links ≡ aheads_of (placed ssa) → (p : Pack) → is_pack_aligned ssa links p ≡ is_aligned ssa p
 pack-aligned ssa links e (Stores []) = refl
 pack-aligned ssa links e (Stores (v ∷ us)) =
     let size = length (v ∷ us) * first_width ssa (v ∷ us) / 8 in
@@ -173,7 +173,7 @@ pack-aligned ssa links e (Stores (v ∷ us)) =
 pack-aligned ssa links e (Loads us) = refl
 pack-aligned ssa links e (Call d lanes) = refl
 
-pub all-aligned : (ssa : Ssa) (links : List Link) → links ≡ aheads_of (placed ssa) → (ps : List Packed)
+pub all-aligned : (ssa : Ssa) (links : List Link) → links ≡ aheads_of (placed ssa) → (ps : List Pack)
     → filter (is_pack_aligned ssa links) ps ≡ filter (is_aligned ssa) ps
 all-aligned ssa links e [] = refl
 all-aligned ssa links e (p ∷ ps) = rw (pack-aligned ssa links e p, all-aligned ssa links e ps) refl
@@ -186,7 +186,7 @@ some-bytes n W16 e = omega (arith, e)
 some-bytes n W32 e = omega (arith, e)
 some-bytes n W64 e = omega (arith, e)
 
-no-bytes-at : (ssa : Ssa) (n v : ℕ) (u : Option Work) → suc n * unit_width u / 8 ≡ 0 → is_aligned_at ssa (suc n * unit_width u / 8) v u ≡ false
+no-bytes-at : (ssa : Ssa) (n v : ℕ) (u : Option SsaUnit) → suc n * unit_width u / 8 ≡ 0 → is_aligned_at ssa (suc n * unit_width u / 8) v u ≡ false
 no-bytes-at ssa n v None e = refl
 no-bytes-at ssa n v (Some (Load a w)) e = refl
 no-bytes-at ssa n v (Some (Operation op w k xs)) e = refl

@@ -4,16 +4,16 @@ use Rattle.std.specs.Prelude.{◌&&◌, nat_eq, Option, Some, None, is_some}
 use Rattle.std.specs.Cmp.Lexicographic.{pointwise}
 use Rattle.std.proofs.lemmas.Bool.{cases_Bool}
 use Rattle.std.proofs.lemmas.Bool.Decides.{nat_tests}
-use Rattle.vg_packing.specs.Held.{lanes_from}
-use Rattle.vg_packing.specs.Producers.{are_matched, can_be_produced, call_producer, lanes_for}
+use Rattle.vg_kernel_plans.specs.Held.{lanes_from}
+use Rattle.vg_kernel_plans.specs.Producers.{are_matched, can_be_produced, call_producer, lanes_for}
 use Rattle.vg_shapes.specs.Wanted.{same_wanted}
-use Rattle.vg_packing.specs.SameAs.{same_slot}
-use Rattle.vg_packing.specs.Wants.{value_of, wanted_slots}
-use Rattle.vg_packing.proofs.SameTests.{both-true, eq-itself}
+use Rattle.vg_kernel_plans.specs.SameAs.{same_slot}
+use Rattle.vg_kernel_plans.specs.Wants.{value_of, wanted_slots}
+use Rattle.vg_kernel_plans.proofs.SameTests.{both-true, eq-itself}
 use Rattle.vg_shapes.specs.declared.match_table.Match.{Match}
 use Rattle.vg_shapes.specs.declared.operand.Operand.{Operand}
 use Rattle.vg_shapes.specs.declared.operand.Slot.{Slot}
-use Rattle.vg_shapes.specs.declared.pack.Pack.{Pack as Packed}
+use Rattle.vg_shapes.specs.declared.pack.Pack.{Pack}
 use Rattle.vg_shapes.specs.declared.ssa.Ssa.{Ssa}
 use Rattle.vg_shapes.specs.declared.wanted.Wanted.{Wanted}
 use Rattle.vg_shapes.specs.declared.wanted.Wanted.TheVariants.{Value, Constant, Nothing}
@@ -80,7 +80,7 @@ not-wanted ds matches ssa slots d r w all f =
 
 -- where the slots cannot begin a call, there is none
 pub call-not-begun : (ds : List Description) (matches : List Match) (ssa : Ssa) (o : Operand) (d : ℕ) (e : Description)
-    (slots : List Slot) (b : Bool) (old new : List Packed) → can_be_produced o ≡ true
+    (slots : List Slot) (b : Bool) (old new : List Pack) → can_be_produced o ≡ true
     → slots ≡ wanted_slots o → e.register ≡ o.register
     → b ≡ can_begin matches slots d e.lane_width → b ≡ false → new ≡ old
     → new ≡ old ++ call_producer ds matches ssa o d e

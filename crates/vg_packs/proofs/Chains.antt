@@ -9,13 +9,13 @@ use Rattle.std.proofs.lemmas.List.{map-append}
 use Rattle.vg_base.specs.declared.address.Address.{Address}
 use Rattle.vg_base.specs.declared.width.Width.{Width}
 use Rattle.vg_base.specs.Width.{bits_of, size_of}
-use Rattle.vg_packing.proofs.SameTests.{eq-itself}
-use Rattle.vg_packing.specs.Groups.{group_of, groups_of, store_groups, stores_at, stores_from}
-use Rattle.vg_shapes.specs.declared.pack.Pack.{Pack as Packed}
+use Rattle.vg_kernel_plans.proofs.SameTests.{eq-itself}
+use Rattle.vg_kernel_plans.specs.Groups.{group_of, groups_of, store_groups, stores_at, stores_from}
+use Rattle.vg_shapes.specs.declared.pack.Pack.{Pack}
 use Rattle.vg_shapes.specs.declared.pack.Pack.TheVariants.{Stores}
 use Rattle.vg_shapes.specs.declared.ssa.Ssa.{Ssa}
-use Rattle.vg_shapes.specs.declared.unit.Unit.{Unit as Work}
-use Rattle.vg_shapes.specs.declared.unit.Unit.TheVariants.{Load, Store, Operation}
+use Rattle.vg_shapes.specs.declared.ssa_unit.SsaUnit.{SsaUnit}
+use Rattle.vg_shapes.specs.declared.ssa_unit.SsaUnit.TheVariants.{Load, Store, Operation}
 use Rattle.vg_shapes.specs.declared.wanted.Wanted.{Wanted}
 use Rattle.vg_shapes.specs.Order.{numbers_from}
 use Rattle.vg_shapes.specs.Pack.{behind, stores_before, stores_to}
@@ -52,7 +52,7 @@ pub length-stores : (ssa : Ssa) (a : Address) (w : Width) (r n : ℕ) → length
 length-stores ssa a w r zero = refl
 length-stores ssa a w r (suc n) = let h = length-stores ssa (behind a (size_of w)) w r n in omega (arith, h)
 
-both-off : (b : Bool) (p q : Packed) → (if b && false then p ∷ [] else []) ≡ (if b && false then q ∷ [] else [])
+both-off : (b : Bool) (p q : Pack) → (if b && false then p ∷ [] else []) ≡ (if b && false then q ∷ [] else [])
 both-off true p q = refl
 both-off false p q = refl
 
@@ -121,14 +121,14 @@ run-here ssa a w r v (suc n) e =
     ap (λ us. v ∷ us) (runs ssa n (behind a (size_of w)) w r)
     ∙ ap (λ o. front (o ∷ stores_from ssa (behind a (size_of w)) w r n)) (sym e)
 
-abbrev grouped : Ssa → ℕ → List PlacedStore → List Packed
+abbrev grouped : Ssa → ℕ → List PlacedStore → List Pack
 grouped ssa size stores =
     flat_map (λ l. group_from (links_of (placed ssa)) (size / size_of l.width) l) (map (link_in (placed ssa)) stores)
 
 pub own-place : (a : Address) (w : Width) (x : Wanted) → stores_to a w (Some (Store a w x)) ≡ true
 own-place a w x = rw (eq-itself a.pointer, (Decides-int_eq a.offset a.offset).1 refl, eq-itself (bits_of w)) refl
 
-group-here : (ssa : Ssa) (size v : ℕ) (u : Option Work) → unit_at ssa v ≡ u → arguments ssa ≤ v → v < arguments ssa + length ssa.units
+group-here : (ssa : Ssa) (size v : ℕ) (u : Option SsaUnit) → unit_at ssa v ≡ u → arguments ssa ≤ v → v < arguments ssa + length ssa.units
     → grouped ssa size (placed_as v (λ a w. stores_before ssa a w v) u) ≡ group_of ssa size v u
 group-here ssa size v None e l m = refl
 group-here ssa size v (Some (Load a w)) e l m = refl
@@ -185,7 +185,7 @@ run-goes links (suc k) at l us more whole next p a m n e =
     ∙ ap (λ o. us ++ l.unit ∷ run_from links k o) n
     ∙ ap (λ o. us ++ run_from links (suc k) o) (sym a) ∙ e
 
-pub five : (ssa : Ssa) (links : List Link) (g0 g1 g2 g3 g4 g5 : List Packed) → links ≡ links_of (placed ssa) → g0 ≡ []
+pub five : (ssa : Ssa) (links : List Link) (g0 g1 g2 g3 g4 g5 : List Pack) → links ≡ links_of (placed ssa) → g0 ≡ []
     → g1 ≡ g0 ++ groups_among links 64 → g2 ≡ g1 ++ groups_among links 32 → g3 ≡ g2 ++ groups_among links 16
     → g4 ≡ g3 ++ groups_among links 8 → g5 ≡ g4 ++ groups_among links 4 → g5 ≡ store_groups ssa
 five ssa links g0 g1 g2 g3 g4 g5 l e0 e1 e2 e3 e4 e5 =
@@ -199,7 +199,7 @@ five ssa links g0 g1 g2 g3 g4 g5 l e0 e1 e2 e3 e4 e5 =
     let f5 : g5 ≡ groups_of ssa 64 ++ groups_of ssa 32 ++ groups_of ssa 16 ++ groups_of ssa 8 ++ groups_of ssa 4 = e5 ∙ ap (λ xs. xs ++ groups_among links 4) f4 ∙ ap (λ xs. groups_of ssa 64 ++ groups_of ssa 32 ++ groups_of ssa 16 ++ groups_of ssa 8 ++ xs) (is 4) in
     f5 ∙ right (groups_of ssa 64) (groups_of ssa 32) (groups_of ssa 16) (groups_of ssa 8) (groups_of ssa 4)
   where
-    right : (a b c d e : List Packed) → a ++ b ++ c ++ d ++ e ≡ a ++ (b ++ (c ++ (d ++ (e ++ []))))
+    right : (a b c d e : List Pack) → a ++ b ++ c ++ d ++ e ≡ a ++ (b ++ (c ++ (d ++ (e ++ []))))
     right a b c d e =
         append_assoc (a ++ b ++ c) d e ∙ append_assoc (a ++ b) c (d ++ e) ∙ append_assoc a b (c ++ (d ++ e))
         ∙ ap (λ z. a ++ (b ++ (c ++ (d ++ z)))) (sym (append-nil e))

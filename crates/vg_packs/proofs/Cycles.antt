@@ -9,11 +9,11 @@ use Rattle.vg_plans.specs.Members.{Has}
 use Rattle.vg_plans.specs.World.{World, has_no_cycle, is_in, is_packed, stays_plan}
 use Rattle.vg_plans.proofs.Members.{any-is, from-filter, has-filter}
 use Rattle.vg_plans.proofs.Reach.{cycle-behind, in-has, no-cycle-behind}
-use Rattle.vg_packing.proofs.Inside.{units-listed}
-use Rattle.vg_packing.specs.Packing.{needs_of, packing}
+use Rattle.vg_kernel_plans.proofs.Inside.{units-listed}
+use Rattle.vg_kernel_plans.specs.Packing.{needs_of, packing}
 use Rattle.vg_shapes.specs.declared.match_table.Match.{Match}
 use Rattle.vg_shapes.specs.declared.operand.Operand.{Operand}
-use Rattle.vg_shapes.specs.declared.pack.Pack.{Pack as Packed}
+use Rattle.vg_shapes.specs.declared.pack.Pack.{Pack}
 use Rattle.vg_shapes.specs.declared.ssa.Ssa.{Ssa}
 use Rattle.vg_shapes.specs.Depends.{numbers_below}
 use Rattle.vg_shapes.specs.Pack.{units_of}
@@ -88,8 +88,8 @@ has-at marks v h = (from-filter (λ v. get_or marks v false) v (numbers_below (l
 
 -- ---- cycles
 
-module _ (matches : List Match) (ssa : Ssa) (deps : List (ℕ × ℕ)) (names : NameUnits ssa deps) (plan : List Packed) (p : Packed) where
-  abbrev world : World Packed Operand Operand
+module _ (matches : List Match) (ssa : Ssa) (deps : List (ℕ × ℕ)) (names : NameUnits ssa deps) (plan : List Pack) (p : Pack) where
+  abbrev world : World Pack Operand Operand
   world = packing [] matches ssa deps
 
   abbrev own : ℕ → Bool

@@ -9,9 +9,9 @@ use Rattle.vg_plans.specs.Members.{Has}
 use Rattle.vg_plans.specs.World.{is_in}
 use Rattle.vg_plans.proofs.Members.{from-flat_map, has-append}
 use Rattle.vg_plans.proofs.Reach.{has-in, in-has}
-use Rattle.vg_packing.specs.Packing.{needs_of}
+use Rattle.vg_kernel_plans.specs.Packing.{needs_of}
 use Rattle.vg_shapes.specs.declared.match_table.Match.{Match}
-use Rattle.vg_shapes.specs.declared.pack.Pack.{Pack as Packed}
+use Rattle.vg_shapes.specs.declared.pack.Pack.{Pack}
 use Rattle.vg_shapes.specs.declared.ssa.Ssa.{Ssa}
 use Rattle.vg_shapes.specs.DepList.{row_of}
 use Rattle.vg_shapes.specs.Pack.{units_of}
@@ -91,10 +91,10 @@ settled-by ns own n set marks a long s = record {
 
 -- ---- a plan that grows
 
-has-by : (p : Packed) (v : ℕ) → is_in v (units_of p) ≡ true → Has v (units_of p)
+has-by : (p : Pack) (v : ℕ) → is_in v (units_of p) ≡ true → Has v (units_of p)
 has-by p v t = in-has v (units_of p) t
 
-lowest-away : (f : ℕ) (p : Packed) → IsLowest f (units_of p) → (v : ℕ) → v < f → is_in v (units_of p) ≡ false
+lowest-away : (f : ℕ) (p : Pack) → IsLowest f (units_of p) → (v : ℕ) → v < f → is_in v (units_of p) ≡ false
 lowest-away f p h v l = elim (cases_Bool (is_in v (units_of p))) [
   | inl t ↦ absurd (let k = h v (has-by p v t) in omega (arith, k, l))
   | inr g ↦ g
@@ -102,7 +102,7 @@ lowest-away f p h v l = elim (cases_Bool (is_in v (units_of p))) [
 
 module _ (matches : List Match) (ssa : Ssa) (deps : List (ℕ × ℕ)) where
   -- the needs of a packed unit below a number beside which its pack lies
-  packed-below : (f v : ℕ) (p : Packed) (x : ℕ) → v < f → IsBeside matches ssa deps f p
+  packed-below : (f v : ℕ) (p : Pack) (x : ℕ) → v < f → IsBeside matches ssa deps f p
       → Has x (needs_for matches ssa deps v p) → x < f
   packed-below f v p x l b h = elim (cases_Bool (is_in v (units_of p))) [
     | inl t ↦ elim b [
@@ -112,8 +112,8 @@ module _ (matches : List Match) (ssa : Ssa) (deps : List (ℕ × ℕ)) where
     | inr g ↦ absurd (rw g at h)
   ]
 
-  pub floor-holds : (earlier : NameEarlier deps) (plan : List Packed) (f : ℕ) (pack : Packed)
-      → ((p : Packed) → Has p plan → IsBeside matches ssa deps f p) → IsLowest f (units_of pack)
+  pub floor-holds : (earlier : NameEarlier deps) (plan : List Pack) (f : ℕ) (pack : Pack)
+      → ((p : Pack) → Has p plan → IsBeside matches ssa deps f p) → IsLowest f (units_of pack)
       → IsFloor (node_needs matches ssa deps plan) (λ v. is_in v (units_of pack)) f
   floor-holds earlier plan f pack beside low = record {
     closed = λ v x l h. elim (cases_Bool (is_in_plan plan v)) [
@@ -129,7 +129,7 @@ module _ (matches : List Match) (ssa : Ssa) (deps : List (ℕ × ℕ)) where
   }
 
   -- the number that is found for a pack
-  pub found-floor : (earlier : NameEarlier deps) (g : GrowingPlan) (least f : ℕ) (pack : Packed) → IsGrown matches ssa deps g
+  pub found-floor : (earlier : NameEarlier deps) (g : GrowingPlan) (least f : ℕ) (pack : Pack) → IsGrown matches ssa deps g
       → IsLowest least (units_of pack) → f ≤ least
       → (f ≡ 0) ⊎ ((f < length g.spanned.items) × (get_or g.spanned.items f false ≡ false))
       → IsFloor (node_needs matches ssa deps g.packs.items) (λ v. is_in v (units_of pack)) f
@@ -167,7 +167,7 @@ module _ (matches : List Match) (ssa : Ssa) (deps : List (ℕ × ℕ)) where
 
   -- ---- a pack more
 
-  span-beside : (p : Packed) (least highest greatest f : ℕ) → IsLowest least (units_of p) → IsHighest highest (units_of p)
+  span-beside : (p : Pack) (least highest greatest f : ℕ) → IsLowest least (units_of p) → IsHighest highest (units_of p)
       → highest ≤ greatest → IsHighest greatest (needs_of matches ssa deps p) → is_within least greatest f ≡ false
       → IsBeside matches ssa deps f p
   span-beside p least highest greatest f low high up needs outside = elim (cases_Bool (nat_lt least f)) [
@@ -187,7 +187,7 @@ module _ (matches : List Match) (ssa : Ssa) (deps : List (ℕ × ℕ)) where
   or-false true b e = absurd (cc)
   or-false false b e = (refl, e)
 
-  pub span-marked : (p : Packed) (units needs : List ℕ) (least highest greatest : ℕ) (spanned new_spanned : List Bool)
+  pub span-marked : (p : Pack) (units needs : List ℕ) (least highest greatest : ℕ) (spanned new_spanned : List Bool)
       → units ≡ units_of p → needs ≡ needs_of matches ssa deps p
       → IsLowest least units → IsHighest highest units → highest ≤ greatest → IsHighest greatest needs
       → AddsMarks (is_within least greatest) spanned new_spanned → MarksSpan matches ssa deps p spanned new_spanned
@@ -200,7 +200,7 @@ module _ (matches : List Match) (ssa : Ssa) (deps : List (ℕ × ℕ)) where
         (or-false (get_or spanned f false) (is_within least greatest f) (sym (a.at f l) ∙ n)).1;
   }
 
-  any-append : (test : Packed → Bool) (plan : List Packed) (p : Packed)
+  any-append : (test : Pack → Bool) (plan : List Pack) (p : Pack)
       → list_any test (plan ++ p ∷ []) ≡ (list_any test plan || test p)
   any-append test [] p = or-none (test p)
     where
@@ -213,7 +213,7 @@ module _ (matches : List Match) (ssa : Ssa) (deps : List (ℕ × ℕ)) where
       assoc true b c = refl
       assoc false b c = refl
 
-  pub spans-more : (plan : List Packed) (p : Packed) (spanned new_spanned : List Bool)
+  pub spans-more : (plan : List Pack) (p : Pack) (spanned new_spanned : List Bool)
       → MarksSpans matches ssa deps plan spanned → MarksSpan matches ssa deps p spanned new_spanned
       → MarksSpans matches ssa deps (plan ++ p ∷ []) new_spanned
   spans-more plan p spanned new_spanned s m = λ f l n q h.
@@ -223,7 +223,7 @@ module _ (matches : List Match) (ssa : Ssa) (deps : List (ℕ × ℕ)) where
         | inr b ↦ elim b [ inl e ↦ subst (IsBeside matches ssa deps f) e (m.beside f k n) | inr z ↦ absurd z ]
       ]
 
-  pub packed-more : (n : ℕ) (plan : List Packed) (p : Packed) (marks new_marks : List Bool) → AreMarks n (is_in_plan plan) marks
+  pub packed-more : (n : ℕ) (plan : List Pack) (p : Pack) (marks new_marks : List Bool) → AreMarks n (is_in_plan plan) marks
       → AddsMarks (λ v. is_in v (units_of p)) marks new_marks → AreMarks n (is_in_plan (plan ++ p ∷ [])) new_marks
   packed-more n plan p marks new_marks m a = record {
     long = a.long ∙ m.long;
@@ -232,7 +232,7 @@ module _ (matches : List Match) (ssa : Ssa) (deps : List (ℕ × ℕ)) where
         ∙ sym (any-append (λ q. is_in v (units_of q)) plan p);
   }
 
-  pub grown-more : (g h : GrowingPlan) (p : Packed) → IsGrown matches ssa deps g → h.packs.items ≡ g.packs.items ++ p ∷ []
+  pub grown-more : (g h : GrowingPlan) (p : Pack) → IsGrown matches ssa deps g → h.packs.items ≡ g.packs.items ++ p ∷ []
       → AddsMarks (λ v. is_in v (units_of p)) g.packed.items h.packed.items
       → MarksSpan matches ssa deps p g.spanned.items h.spanned.items
       → IsFree matches ssa deps (g.packs.items ++ p ∷ []) → IsGrown matches ssa deps h

@@ -8,10 +8,10 @@ use Rattle.vg_plans.specs.Members.{Has}
 use Rattle.vg_plans.specs.World.{World, is_empty, is_held_back, is_in, left_after}
 use Rattle.vg_plans.proofs.Members.{any-found, from-filter}
 use Rattle.vg_plans.proofs.Reach.{has-in, in-has}
-use Rattle.vg_packing.specs.Packing.{falling_units, packing}
+use Rattle.vg_kernel_plans.specs.Packing.{falling_units, packing}
 use Rattle.vg_shapes.specs.declared.match_table.Match.{Match}
 use Rattle.vg_shapes.specs.declared.operand.Operand.{Operand}
-use Rattle.vg_shapes.specs.declared.pack.Pack.{Pack as Packed}
+use Rattle.vg_shapes.specs.declared.pack.Pack.{Pack}
 use Rattle.vg_shapes.specs.declared.ssa.Ssa.{Ssa}
 use Rattle.vg_shapes.specs.DepList.{is_listed, row_of}
 use Rattle.vg_shapes.specs.Depends.{depends_on, numbers_below}
@@ -44,7 +44,7 @@ none-empty [] h = refl
 none-empty (v ∷ vs) h = absurd (h v (inl refl))
 
 module _ (matches : List Match) (ssa : Ssa) (deps : List (ℕ × ℕ)) (earlier : NameEarlier deps) where
-  abbrev world : World Packed Operand Operand
+  abbrev world : World Pack Operand Operand
   world = packing [] matches ssa deps
 
   -- all of them are from this number on

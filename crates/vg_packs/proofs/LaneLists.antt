@@ -3,9 +3,9 @@ use Rattle.std.proofs.Common.{◌≡◌, ℕ, zero, suc, ◌+◌, ◌-◌, ◌<�
 use Rattle.std.specs.Prelude.{◌&&◌, find, nat_eq, Option, Some, None}
 use Rattle.std.specs.Cmp.Lexicographic.{pointwise}
 use Rattle.std.proofs.lemmas.List.{drop_all, drop_more}
-use Rattle.vg_packing.specs.Held.{lanes_from}
-use Rattle.vg_packing.specs.Producers.{are_matched, lanes_for, value_at}
-use Rattle.vg_packing.specs.SameAs.{same_slot}
+use Rattle.vg_kernel_plans.specs.Held.{lanes_from}
+use Rattle.vg_kernel_plans.specs.Producers.{are_matched, lanes_for, value_at}
+use Rattle.vg_kernel_plans.specs.SameAs.{same_slot}
 use Rattle.vg_shapes.specs.declared.match_table.Match.{Match}
 use Rattle.vg_shapes.specs.declared.operand.Slot.{Slot}
 use Rattle.vg_packs.specs.Lanes.{begins_with, is_matched, rest_behind}

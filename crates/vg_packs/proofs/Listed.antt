@@ -8,17 +8,17 @@ use Rattle.vg_base.specs.declared.address.Address.{Address}
 use Rattle.vg_base.specs.declared.width.Width.{Width}
 use Rattle.vg_base.specs.declared.width.Width.TheVariants.{W8, W16, W32, W64}
 use Rattle.vg_base.specs.Width.{size_of}
-use Rattle.vg_packing.proofs.SameTests.{both-true}
-use Rattle.vg_packing.specs.Groups.{group_of, groups_of, store_groups, stores_at, stores_from, unit_numbers}
+use Rattle.vg_kernel_plans.proofs.SameTests.{both-true}
+use Rattle.vg_kernel_plans.specs.Groups.{group_of, groups_of, store_groups, stores_at, stores_from, unit_numbers}
 use Rattle.vg_plans.specs.Members.{Has}
 use Rattle.vg_plans.proofs.Lists.{has-flat_map}
 use Rattle.vg_plans.proofs.Members.{from-filter}
 use Rattle.vg_plans.proofs.Reach.{in-has}
-use Rattle.vg_shapes.specs.declared.pack.Pack.{Pack as Packed}
+use Rattle.vg_shapes.specs.declared.pack.Pack.{Pack}
 use Rattle.vg_shapes.specs.declared.pack.Pack.TheVariants.{Stores}
 use Rattle.vg_shapes.specs.declared.ssa.Ssa.{Ssa}
-use Rattle.vg_shapes.specs.declared.unit.Unit.{Unit as Work}
-use Rattle.vg_shapes.specs.declared.unit.Unit.TheVariants.{Load, Store, Operation}
+use Rattle.vg_shapes.specs.declared.ssa_unit.SsaUnit.{SsaUnit}
+use Rattle.vg_shapes.specs.declared.ssa_unit.SsaUnit.TheVariants.{Load, Store, Operation}
 use Rattle.vg_shapes.specs.declared.wanted.Wanted.{Wanted}
 use Rattle.vg_shapes.specs.Order.{numbers_from}
 use Rattle.vg_shapes.specs.Pack.{AreStores, HaveRank, behind, is_pack_size, stores_before, stores_to}
@@ -79,7 +79,7 @@ kept-nth p f (suc n) (suc r) u e = elim (cases_Bool (p f)) [
       rw (lt-is f u (omega (arith, l)), g) k
 ]
 
-stored-is : (a : Address) (w : Width) (o : Option Work) → stores_to a w o ≡ true → (x : Wanted) × (o ≡ Some (Store a w x))
+stored-is : (a : Address) (w : Width) (o : Option SsaUnit) → stores_to a w o ≡ true → (x : Wanted) × (o ≡ Some (Store a w x))
 stored-is a w None t = absurd (cc)
 stored-is a w (Some (Load b v)) t = absurd (cc)
 stored-is a w (Some (Operation op v k xs)) t = absurd (cc)
@@ -126,11 +126,11 @@ Fills size =
     (w : Width) → 2 ≤ size / size_of w
     → (size / size_of w * size_of w ≡ size) × IsTrue (is_pack_size size)
 
-pub if-one : (b : Bool) (q p : Packed) → Has p (if b then q ∷ [] else []) → (b ≡ true) × (q ≡ p)
+pub if-one : (b : Bool) (q p : Pack) → Has p (if b then q ∷ [] else []) → (b ≡ true) × (q ≡ p)
 if-one true q p h = elim h [ inl e ↦ (refl, e) | inr n ↦ absurd n ]
 if-one false q p h = absurd h
 
-pub group-right : (ssa : Ssa) (size v : ℕ) (u : Option Work) (p : Packed) → Fills size → Has p (group_of ssa size v u) → IsGroup ssa p
+pub group-right : (ssa : Ssa) (size v : ℕ) (u : Option SsaUnit) (p : Pack) → Fills size → Has p (group_of ssa size v u) → IsGroup ssa p
 group-right ssa size v None p f h = absurd h
 group-right ssa size v (Some (Load a w)) p f h = absurd h
 group-right ssa size v (Some (Operation op w k xs)) p f h = absurd h
@@ -235,7 +235,7 @@ length-some : (us : List ℕ) → length (map Some us) ≡ length us
 length-some [] = refl
 length-some (u ∷ us) = let h = length-some us in omega (arith, h)
 
-one-if : (b : Bool) (p q : Packed) → b ≡ true → q ≡ p → Has p (if b then q ∷ [] else [])
+one-if : (b : Bool) (p q : Pack) → b ≡ true → q ≡ p → Has p (if b then q ∷ [] else [])
 one-if true p q t e = inl e
 one-if false p q t e = absurd (cc)
 
@@ -245,7 +245,7 @@ size-cancel W16 n = mul-div_cancel n (omega arith)
 size-cancel W32 n = mul-div_cancel n (omega arith)
 size-cancel W64 n = mul-div_cancel n (omega arith)
 
-group-there : (ssa : Ssa) (size u : ℕ) (o : Option Work) (a : Address) (w : Width) (x : Wanted) (us : List ℕ)
+group-there : (ssa : Ssa) (size u : ℕ) (o : Option SsaUnit) (a : Address) (w : Width) (x : Wanted) (us : List ℕ)
     → o ≡ Some (Store a w x) → stores_from ssa a w (stores_before ssa a w u) (size / size_of w) ≡ map Some us → 2 ≤ length us
     → Has (Stores us) (group_of ssa size u o)
 group-there ssa size u o a w x us e f l =

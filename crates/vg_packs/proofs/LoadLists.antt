@@ -6,9 +6,9 @@ use Rattle.std.proofs.Math.IntN.{+ℤ_assoc, +ℤ_comm, +ℤ_idl, pos-+ℤ-pos}
 use Rattle.vg_base.specs.declared.address.Address.{Address}
 use Rattle.vg_base.specs.declared.width.Width.{Width}
 use Rattle.vg_base.specs.Width.{size_of}
-use Rattle.vg_packing.specs.Producers.{are_loads, loads_from}
+use Rattle.vg_kernel_plans.specs.Producers.{are_loads, loads_from}
 use Rattle.vg_shapes.specs.declared.ssa.Ssa.{Ssa}
-use Rattle.vg_shapes.specs.declared.unit.Unit.{Unit as Work}
+use Rattle.vg_shapes.specs.declared.ssa_unit.SsaUnit.{SsaUnit}
 use Rattle.vg_shapes.specs.Pack.{behind}
 use Rattle.vg_shapes.specs.Units.{unit_at}
 use Rattle.vg_packs.proofs.LaneLists.{off, on}
@@ -26,7 +26,7 @@ behind-twice a m n =
 pub loads-begin : (ssa : Ssa) (a : Address) (w : Width) (us : List ℕ) → are_loads ssa (behind a 0) w us ≡ are_loads ssa a w us
 loads-begin ssa a w us = ap (λ b. are_loads ssa b w us) (behind-none a)
 
-pub loads-off : (ssa : Ssa) (a : Address) (bytes : ℕ) (w : Width) (us : List ℕ) (k : ℕ) (u : Option Work) (b whole : Bool)
+pub loads-off : (ssa : Ssa) (a : Address) (bytes : ℕ) (w : Width) (us : List ℕ) (k : ℕ) (u : Option SsaUnit) (b whole : Bool)
     → k < length us → u ≡ unit_at ssa (get_or us k 0) → b ≡ loads_from (behind a bytes) w u → b ≡ false
     → are_loads ssa (behind a bytes) w (drop k us) ≡ whole → false ≡ whole
 loads-off ssa a bytes w us k u b whole l e g f h =
@@ -34,7 +34,7 @@ loads-off ssa a bytes w us k u b whole l e g f h =
     ∙ ap (are_loads ssa (behind a bytes) w) (sym (drop_more us k 0 l))
     ∙ h
 
-pub loads-on : (ssa : Ssa) (a : Address) (bytes next : ℕ) (w : Width) (us : List ℕ) (k : ℕ) (u : Option Work) (b whole : Bool)
+pub loads-on : (ssa : Ssa) (a : Address) (bytes next : ℕ) (w : Width) (us : List ℕ) (k : ℕ) (u : Option SsaUnit) (b whole : Bool)
     → k < length us → u ≡ unit_at ssa (get_or us k 0) → b ≡ loads_from (behind a bytes) w u → b ≡ true
     → next ≡ bytes + size_of w
     → are_loads ssa (behind a bytes) w (drop k us) ≡ whole → are_loads ssa (behind a next) w (drop (k + 1) us) ≡ whole

@@ -7,7 +7,7 @@ use Rattle.std.proofs.lemmas.Bool.Decides.{nat_tests}
 use Rattle.std.proofs.lemmas.List.{length-replicate, length-set, take_all}
 use Rattle.std.proofs.lemmas.List.Folds.{list_any_more}
 use Rattle.vg_plans.specs.Members.{Has}
-use Rattle.vg_shapes.specs.declared.pack.Pack.{Pack as Packed}
+use Rattle.vg_shapes.specs.declared.pack.Pack.{Pack}
 use Rattle.vg_packs.specs.Marks.{AddsMarks, AreMarks, is_packed_by, is_within}
 use Rattle.vg_packs.specs.Walk.{HasWay, IsApart, IsAt, LeadsApart, Way, there, down, is_in_plan}
 
@@ -102,7 +102,7 @@ marks-set n own clear marks e a =
 
 -- ---- what the marks stand for
 
-pub packed-any : (n : ℕ) (plan : List Packed) (packed : List Bool) → AreMarks n (is_in_plan plan) packed
+pub packed-any : (n : ℕ) (plan : List Pack) (packed : List Bool) → AreMarks n (is_in_plan plan) packed
     → (us : List ℕ) → list_any (is_packed_by packed plan) us ≡ list_any (is_in_plan plan) us
 packed-any n plan packed a [] = refl
 packed-any n plan packed a (u ∷ us) =

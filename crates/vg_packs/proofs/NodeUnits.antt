@@ -7,10 +7,10 @@ use Rattle.vg_plans.specs.Members.{Has}
 use Rattle.vg_plans.specs.World.{is_in}
 use Rattle.vg_plans.proofs.Members.{from-filter, from-flat_map}
 use Rattle.vg_plans.proofs.Reach.{has-in}
-use Rattle.vg_packing.specs.Packing.{needs_of}
-use Rattle.vg_packing.specs.Wants.{value_of}
+use Rattle.vg_kernel_plans.specs.Packing.{needs_of}
+use Rattle.vg_kernel_plans.specs.Wants.{value_of}
 use Rattle.vg_shapes.specs.declared.match_table.Match.{Match}
-use Rattle.vg_shapes.specs.declared.pack.Pack.{Pack as Packed}
+use Rattle.vg_shapes.specs.declared.pack.Pack.{Pack}
 use Rattle.vg_shapes.specs.declared.pack.Pack.TheVariants.{Stores, Loads, Call}
 use Rattle.vg_shapes.specs.declared.ssa.Ssa.{Ssa}
 use Rattle.vg_shapes.specs.DepList.{row_of}
@@ -24,7 +24,7 @@ lanes_any v (None ∷ lanes) = lanes_any v lanes
 lanes_any v (Some u ∷ lanes) = ap (λ b. nat_eq v u || b) (lanes_any v lanes)
 
 -- the needs of a node, chosen by whether its unit is packed
-pub node-is : (matches : List Match) (ssa : Ssa) (deps : List (ℕ × ℕ)) (plan : List Packed) (v : ℕ) (packed : Bool)
+pub node-is : (matches : List Match) (ssa : Ssa) (deps : List (ℕ × ℕ)) (plan : List Pack) (v : ℕ) (packed : Bool)
     (of_packs chosen : List ℕ) → packed ≡ is_in_plan plan v
     → of_packs ≡ (if packed then flat_map (needs_for matches ssa deps v) plan else [])
     → chosen ≡ (if packed then of_packs else row_of deps v)
@@ -39,19 +39,19 @@ module _ (matches : List Match) (ssa : Ssa) (deps : List (ℕ × ℕ)) (names : 
   pub rows-units : (us : List ℕ) (x : ℕ) → Has x (flat_map (row_of deps) us) → is_unit ssa x ≡ true
   rows-units us x h = let k = from-flat_map (row_of deps) x us h in row-units k.0 x k.2
 
-  pub pack-units : (p : Packed) (x : ℕ) → Has x (needs_of matches ssa deps p) → is_unit ssa x ≡ true
+  pub pack-units : (p : Pack) (x : ℕ) → Has x (needs_of matches ssa deps p) → is_unit ssa x ≡ true
   pack-units (Stores us) x h = rows-units us x h
   pack-units (Loads us) x h = rows-units us x h
   pack-units (Call d lanes) x h =
       (from-filter (is_unit ssa) x (filter_map (λ b. value_of b.wanted) (bounds_from matches d 0 lanes)) h).1
 
-  for-units : (v : ℕ) (p : Packed) (x : ℕ) → Has x (needs_for matches ssa deps v p) → is_unit ssa x ≡ true
+  for-units : (v : ℕ) (p : Pack) (x : ℕ) → Has x (needs_for matches ssa deps v p) → is_unit ssa x ≡ true
   for-units v p x h = elim (cases_Bool (is_in v (units_of p))) [
     | inl t ↦ pack-units p x (rw t at h)
     | inr f ↦ absurd (rw f at h)
   ]
 
-  pub node-units : (plan : List Packed) (v x : ℕ) → Has x (node_needs matches ssa deps plan v) → is_unit ssa x ≡ true
+  pub node-units : (plan : List Pack) (v x : ℕ) → Has x (node_needs matches ssa deps plan v) → is_unit ssa x ≡ true
   node-units plan v x h = elim (cases_Bool (is_in_plan plan v)) [
     | inl t ↦
         let k = from-flat_map (needs_for matches ssa deps v) x plan (rw t at h) in

@@ -7,16 +7,16 @@ use Rattle.std.proofs.lemmas.Bool.Decides.{nat_tests}
 use Rattle.vg_base.specs.declared.address.Address.{Address}
 use Rattle.vg_base.specs.declared.width.Width.{Width}
 use Rattle.vg_base.specs.Width.{size_of}
-use Rattle.vg_packing.proofs.SameTests.{both-true, pack-is}
-use Rattle.vg_packing.specs.Groups.{group_of, groups_of, store_groups, stores_at, stores_from, unit_numbers}
-use Rattle.vg_packing.specs.SameAs.{same_pack}
+use Rattle.vg_kernel_plans.proofs.SameTests.{both-true, pack-is}
+use Rattle.vg_kernel_plans.specs.Groups.{group_of, groups_of, store_groups, stores_at, stores_from, unit_numbers}
+use Rattle.vg_kernel_plans.specs.SameAs.{same_pack}
 use Rattle.vg_plans.specs.Members.{AllDiffer, Every, Has}
 use Rattle.vg_plans.proofs.Members.{from-flat_map}
-use Rattle.vg_shapes.specs.declared.pack.Pack.{Pack as Packed}
+use Rattle.vg_shapes.specs.declared.pack.Pack.{Pack}
 use Rattle.vg_shapes.specs.declared.pack.Pack.TheVariants.{Stores}
 use Rattle.vg_shapes.specs.declared.ssa.Ssa.{Ssa}
-use Rattle.vg_shapes.specs.declared.unit.Unit.{Unit as Work}
-use Rattle.vg_shapes.specs.declared.unit.Unit.TheVariants.{Load, Store, Operation}
+use Rattle.vg_shapes.specs.declared.ssa_unit.SsaUnit.{SsaUnit}
+use Rattle.vg_shapes.specs.declared.ssa_unit.SsaUnit.TheVariants.{Load, Store, Operation}
 use Rattle.vg_shapes.specs.declared.wanted.Wanted.{Wanted}
 use Rattle.vg_shapes.specs.Order.{numbers_from}
 use Rattle.vg_shapes.specs.Pack.{behind, stores_before}
@@ -76,7 +76,7 @@ numbers-differ f (suc n) = (
 
 -- ---- what a group tells
 
-record Made (ssa : Ssa) (size v : ℕ) (p : Packed) : Type 0 where
+record Made (ssa : Ssa) (size v : ℕ) (p : Pack) : Type 0 where
   us : List ℕ
   place : Address
   width : Width
@@ -93,7 +93,7 @@ first-of ssa a w r v zero l e = absurd (omega (arith, l))
 first-of ssa a w r v (suc n) l e =
     ap (λ o. slice_get (filter_map (λ u. u) (o ∷ stores_from ssa (behind a (size_of w)) w r n)) 0) e
 
-made : (ssa : Ssa) (size v : ℕ) (u : Option Work) (p : Packed) → unit_at ssa v ≡ u → Has p (group_of ssa size v u)
+made : (ssa : Ssa) (size v : ℕ) (u : Option SsaUnit) (p : Pack) → unit_at ssa v ≡ u → Has p (group_of ssa size v u)
     → Made ssa size v p
 made ssa size v None p e h = absurd h
 made ssa size v (Some (Load a w)) p e h = absurd h
@@ -119,17 +119,17 @@ made ssa size v (Some (Store a w x)) p e h =
       two = two;
     }
 
-same-units : (ssa : Ssa) (s t v u : ℕ) (p q : Packed) (a : Made ssa s v p) (b : Made ssa t u q) → p ≡ q → a.us ≡ b.us
+same-units : (ssa : Ssa) (s t v u : ℕ) (p q : Pack) (a : Made ssa s v p) (b : Made ssa t u q) → p ≡ q → a.us ≡ b.us
 same-units ssa s t v u p q a b e = let f : Stores a.us ≡ Stores b.us = a.is ∙ e ∙ sym b.is in cc
 
-same-first : (ssa : Ssa) (s t v u : ℕ) (p q : Packed) → Made ssa s v p → Made ssa t u q → p ≡ q → v ≡ u
+same-first : (ssa : Ssa) (s t v u : ℕ) (p q : Pack) → Made ssa s v p → Made ssa t u q → p ≡ q → v ≡ u
 same-first ssa s t v u p q a b e =
     let f : Some v ≡ Some u =
     sym a.first ∙ ap (λ us. slice_get us 0) (same-units ssa s t v u p q a b e) ∙ b.first
     in
     cc
 
-same-size : (ssa : Ssa) (s t v u : ℕ) (p q : Packed) → Fills s → Fills t → Made ssa s v p → Made ssa t u q → p ≡ q
+same-size : (ssa : Ssa) (s t v u : ℕ) (p q : Pack) → Fills s → Fills t → Made ssa s v p → Made ssa t u q → p ≡ q
     → s ≡ t
 same-size ssa s t v u p q fs ft a b e =
     let f : Some (Store a.place a.width a.value) ≡ Some (Store b.place b.width b.value) =
@@ -144,11 +144,11 @@ same-size ssa s t v u p q fs ft a b e =
 
 -- ---- the list
 
-one-differs : (b : Bool) (p : Packed) → AllDiffer same_pack (if b then p ∷ [] else [])
+one-differs : (b : Bool) (p : Pack) → AllDiffer same_pack (if b then p ∷ [] else [])
 one-differs true p = (tt, tt)
 one-differs false p = tt
 
-group-differs : (ssa : Ssa) (size v : ℕ) (u : Option Work) → AllDiffer same_pack (group_of ssa size v u)
+group-differs : (ssa : Ssa) (size v : ℕ) (u : Option SsaUnit) → AllDiffer same_pack (group_of ssa size v u)
 group-differs ssa size v None = tt
 group-differs ssa size v (Some (Load a w)) = tt
 group-differs ssa size v (Some (Operation op w k xs)) = tt

@@ -12,12 +12,12 @@ use Rattle.vg_base.specs.declared.width.Width.{Width}
 use Rattle.vg_base.specs.Width.{bits_of}
 use Rattle.vg_base.proofs.SameWidth.{width-tested}
 use Rattle.vg_shapes.specs.declared.ssa.Ssa.{Ssa}
-use Rattle.vg_shapes.specs.declared.unit.Unit.{Unit as Work}
-use Rattle.vg_shapes.specs.declared.unit.Unit.TheVariants.{Load, Store, Operation}
+use Rattle.vg_shapes.specs.declared.ssa_unit.SsaUnit.{SsaUnit}
+use Rattle.vg_shapes.specs.declared.ssa_unit.SsaUnit.TheVariants.{Load, Store, Operation}
 use Rattle.vg_shapes.specs.Order.{numbers_from, one_if}
 use Rattle.vg_shapes.specs.Pack.{stores_before, stores_to}
 use Rattle.vg_shapes.specs.Units.{arguments, unit_at}
-use Rattle.vg_packing.proofs.SameTests.{both-true}
+use Rattle.vg_kernel_plans.proofs.SameTests.{both-true}
 use Rattle.vg_packs.specs.declared.placed.Link.{Link}
 use Rattle.vg_packs.specs.declared.placed.PlacedStore.{PlacedStore}
 use Rattle.vg_packs.specs.Placed.{is_ranked, link_behind, placed_as, placed_from, placed_here, stands_at}
@@ -46,7 +46,7 @@ ranked-is a w r s t =
     let m = place-is a s.address w s.width k.1 in
     (grind (arith, nat_tests, k.0), m.0, m.1)
 
-counted-one : (a : Address) (w : Width) (v : ℕ) (rank : Address → Width → ℕ) (u : Option Work) (qs : List PlacedStore)
+counted-one : (a : Address) (w : Width) (v : ℕ) (rank : Address → Width → ℕ) (u : Option SsaUnit) (qs : List PlacedStore)
     → length (filter (stands_at a w) (placed_as v rank u ++ qs)) ≡ one_if (stores_to a w u) + length (filter (stands_at a w) qs)
 counted-one a w v rank None qs = omega arith
 counted-one a w v rank (Some (Load b x)) qs = omega arith
@@ -75,7 +75,7 @@ rank-counted ssa a w k l =
     counted ssa a w (numbers_from (arguments ssa) k)
     ∙ sym (count-taken (λ v. stores_to a w (unit_at ssa v)) (arguments ssa) (length ssa.units) k l)
 
-here-same : (ssa : Ssa) (v : ℕ) (before : List PlacedStore) (u : Option Work)
+here-same : (ssa : Ssa) (v : ℕ) (before : List PlacedStore) (u : Option SsaUnit)
     → ((a : Address) (w : Width) → length (filter (stands_at a w) before) ≡ stores_before ssa a w v)
     → placed_here before v u ≡ placed_as v (λ a w. stores_before ssa a w v) u
 here-same ssa v before None h = refl
@@ -116,7 +116,7 @@ unit_of s = s.unit
 abbrev unit_found : Address → Width → ℕ → List PlacedStore → Option ℕ
 unit_found a w r qs = option_map unit_of (find (is_ranked a w r) qs)
 
-found-step : (ssa : Ssa) (a : Address) (w : Width) (v : ℕ) (u : Option Work) (d : ℕ) (qs : List PlacedStore) (xs : List ℕ)
+found-step : (ssa : Ssa) (a : Address) (w : Width) (v : ℕ) (u : Option SsaUnit) (d : ℕ) (qs : List PlacedStore) (xs : List ℕ)
     → ((d : ℕ) → unit_found a w (stores_before ssa a w v + one_if (stores_to a w u) + d) qs ≡ slice_get xs d)
     → unit_found a w (stores_before ssa a w v + d) (placed_as v (λ b x. stores_before ssa b x v) u ++ qs)
     ≡ slice_get (cond (stores_to a w u) (v ∷ xs) xs) d

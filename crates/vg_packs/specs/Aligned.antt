@@ -1,12 +1,12 @@
 -- Stores linked to those right ahead of them, and which groups are aligned by such links.
 use Rattle.std.specs.Prelude.{ℕ, ◌*◌, ◌/◌, ◌%◌, Bool, false, List, [], ◌∷◌, find, length, map, Some, None, nat_eq, position}
 use Rattle.vg_base.specs.Width.{size_of}
-use Rattle.vg_packing.specs.Groups.{ahead}
-use Rattle.vg_packing.specs.Taken.{first_width}
+use Rattle.vg_kernel_plans.specs.Groups.{ahead}
+use Rattle.vg_kernel_plans.specs.Taken.{first_width}
 use Rattle.vg_packs.specs.declared.placed.Link.{Link}
 use Rattle.vg_packs.specs.declared.placed.PlacedStore.{PlacedStore}
 use Rattle.vg_packs.specs.Placed.{is_ranked, link_behind, run_from}
-use Rattle.vg_shapes.specs.declared.pack.Pack.{Pack as Packed}
+use Rattle.vg_shapes.specs.declared.pack.Pack.{Pack}
 use Rattle.vg_shapes.specs.declared.pack.Pack.TheVariants.{Stores, Loads, Call}
 use Rattle.vg_shapes.specs.declared.ssa.Ssa.{Ssa}
 
@@ -38,7 +38,7 @@ are_aligned ssa links [] = false
 are_aligned ssa links (v ∷ us) =
     is_aligned_by links (length ssa.units) (length (v ∷ us) * first_width ssa (v ∷ us) / 8) v
 
-abbrev pub is_pack_aligned : Ssa → List Link → Packed → Bool
+abbrev pub is_pack_aligned : Ssa → List Link → Pack → Bool
 is_pack_aligned ssa links (Stores us) = are_aligned ssa links us
 is_pack_aligned ssa links (Loads us) = false
 is_pack_aligned ssa links (Call d lanes) = false

@@ -1,9 +1,9 @@
 -- Numbers below which a plan needs no look, and plans that grow.
 use Rattle.std.specs.Prelude.{◌≡◌, ◌<◌, ◌≤◌, ◌⊎◌, ℕ, ◌+◌, Bool, false, List, length, get_or}
 use Rattle.vg_plans.specs.Members.{Has}
-use Rattle.vg_packing.specs.Packing.{needs_of}
+use Rattle.vg_kernel_plans.specs.Packing.{needs_of}
 use Rattle.vg_shapes.specs.declared.match_table.Match.{Match}
-use Rattle.vg_shapes.specs.declared.pack.Pack.{Pack as Packed}
+use Rattle.vg_shapes.specs.declared.pack.Pack.{Pack}
 use Rattle.vg_shapes.specs.declared.ssa.Ssa.{Ssa}
 use Rattle.vg_shapes.specs.Pack.{units_of}
 use Rattle.vg_shapes.specs.Units.{arguments}
@@ -24,21 +24,21 @@ abbrev pub IsHighest : ℕ → List ℕ → Type 0
 IsHighest high vs = (v : ℕ) → Has v vs → v ≤ high
 
 -- a pack lies beside a number: its units are from there on, or they and all on which it depends are below
-pub record IsBelow (matches : List Match) (ssa : Ssa) (deps : List (ℕ × ℕ)) (f : ℕ) (p : Packed) : Type 0 where
+pub record IsBelow (matches : List Match) (ssa : Ssa) (deps : List (ℕ × ℕ)) (f : ℕ) (p : Pack) : Type 0 where
   pub units : (v : ℕ) → Has v (units_of p) → v < f
   pub needs : (x : ℕ) → Has x (needs_of matches ssa deps p) → x < f
 
-abbrev pub IsBeside : List Match → Ssa → List (ℕ × ℕ) → ℕ → Packed → Type 0
+abbrev pub IsBeside : List Match → Ssa → List (ℕ × ℕ) → ℕ → Pack → Type 0
 IsBeside matches ssa deps f p = IsLowest f (units_of p) ⊎ IsBelow matches ssa deps f p
 
 -- each pack of a plan lies beside each number that is not marked
-abbrev pub MarksSpans : List Match → Ssa → List (ℕ × ℕ) → List Packed → List Bool → Type 0
+abbrev pub MarksSpans : List Match → Ssa → List (ℕ × ℕ) → List Pack → List Bool → Type 0
 MarksSpans matches ssa deps plan spanned =
     (f : ℕ) → f < length spanned → get_or spanned f false ≡ false →
-    (p : Packed) → Has p plan → IsBeside matches ssa deps f p
+    (p : Pack) → Has p plan → IsBeside matches ssa deps f p
 
 -- the marks that stood, and those of the numbers that lie within a pack: it lies beside all others
-pub record MarksSpan (matches : List Match) (ssa : Ssa) (deps : List (ℕ × ℕ)) (p : Packed)
+pub record MarksSpan (matches : List Match) (ssa : Ssa) (deps : List (ℕ × ℕ)) (p : Pack)
     (spanned new_spanned : List Bool) : Type 0 where
   pub long : length new_spanned ≡ length spanned
   pub stays : (f : ℕ) → f < length spanned → get_or new_spanned f false ≡ false → get_or spanned f false ≡ false

@@ -1,7 +1,7 @@
 -- Lanes beside the slots that an operand wants.
 use Rattle.std.specs.Prelude.{ℕ, ◌/◌, ◌&&◌, nat_eq, Bool, true, false, List, [], ◌∷◌, Option, Some, None, is_some}
-use Rattle.vg_packing.specs.SameAs.{same_slot}
-use Rattle.vg_packing.specs.Wants.{slot, value_of}
+use Rattle.vg_kernel_plans.specs.SameAs.{same_slot}
+use Rattle.vg_kernel_plans.specs.Wants.{slot, value_of}
 use Rattle.vg_shapes.specs.declared.match_table.Match.{Match}
 use Rattle.vg_shapes.specs.declared.operand.Slot.{Slot}
 use Rattle.vg_shapes.specs.declared.wanted.Wanted.TheVariants.{Value}

@@ -2,11 +2,11 @@
 use Rattle.std.specs.Prelude.{ℕ, ◌*◌, ◌/◌, ◌&&◌, Bool, List, length, map, Option, Some, nat_eq, nat_le}
 use Rattle.std.specs.Cmp.Lexicographic.{pointwise}
 use Rattle.std.specs.List.{list_all}
-use Rattle.vg_packing.specs.Held.{lanes_from}
-use Rattle.vg_packing.specs.Producers.{agree, all_differ, are_beside, are_matched}
-use Rattle.vg_packing.specs.SameAs.{same_slot}
-use Rattle.vg_packing.specs.Taken.{first_width, operands_of, register_for}
-use Rattle.vg_packing.specs.Wants.{wants_value}
+use Rattle.vg_kernel_plans.specs.Held.{lanes_from}
+use Rattle.vg_kernel_plans.specs.Producers.{agree, all_differ, are_beside, are_matched}
+use Rattle.vg_kernel_plans.specs.SameAs.{same_slot}
+use Rattle.vg_kernel_plans.specs.Taken.{first_width, operands_of, register_for}
+use Rattle.vg_kernel_plans.specs.Wants.{wants_value}
 use Rattle.vg_shapes.specs.declared.match_table.Match.{Match}
 use Rattle.vg_shapes.specs.declared.operand.Slot.{Slot}
 use Rattle.vg_shapes.specs.declared.pack.Pack.TheVariants.{Call}
@@ -15,8 +15,8 @@ use Rattle.vg_shapes.specs.Description.{Description}
 use Rattle.vg_shapes.specs.Pack.{is_pack_size}
 
 -- a pack can have these slots, which want these values
-abbrev pub may_be_lanes : List Slot → List ℕ → Bool
-may_be_lanes slots us =
+abbrev pub can_be_packed : List Slot → List ℕ → Bool
+can_be_packed slots us =
     nat_le 2 (length slots) && (list_all (λ s. wants_value s.wanted) slots && all_differ us)
 
 -- loads of these units are exactly these slots of a register of this width

@@ -7,11 +7,11 @@ use Rattle.vg_base.specs.declared.width.Width.{Width}
 use Rattle.vg_base.specs.Width.{bits_of, size_of}
 use Rattle.vg_packs.specs.declared.placed.Link.{Link}
 use Rattle.vg_packs.specs.declared.placed.PlacedStore.{PlacedStore}
-use Rattle.vg_shapes.specs.declared.pack.Pack.{Pack as Packed}
+use Rattle.vg_shapes.specs.declared.pack.Pack.{Pack}
 use Rattle.vg_shapes.specs.declared.pack.Pack.TheVariants.{Stores}
 use Rattle.vg_shapes.specs.declared.ssa.Ssa.{Ssa}
-use Rattle.vg_shapes.specs.declared.unit.Unit.{Unit as Work}
-use Rattle.vg_shapes.specs.declared.unit.Unit.TheVariants.{Load, Store, Operation}
+use Rattle.vg_shapes.specs.declared.ssa_unit.SsaUnit.{SsaUnit}
+use Rattle.vg_shapes.specs.declared.ssa_unit.SsaUnit.TheVariants.{Load, Store, Operation}
 use Rattle.vg_shapes.specs.Order.{numbers_from}
 use Rattle.vg_shapes.specs.Pack.{behind, stores_before}
 use Rattle.vg_shapes.specs.Units.{arguments, unit_at}
@@ -31,7 +31,7 @@ abbrev pub is_next : PlacedStore → PlacedStore → Bool
 is_next s t = is_ranked (behind s.address (size_of s.width)) s.width s.rank t
 
 -- a unit as a store of this rank, if it is one
-abbrev pub placed_as : ℕ → (Address → Width → ℕ) → Option Work → List PlacedStore
+abbrev pub placed_as : ℕ → (Address → Width → ℕ) → Option SsaUnit → List PlacedStore
 placed_as v rank None = []
 placed_as v rank (Some (Load a w)) = []
 placed_as v rank (Some (Operation op w k xs)) = []
@@ -39,7 +39,7 @@ placed_as v rank (Some (Store a w x)) =
     record { unit = v; address = a; width = w; rank = rank a w } ∷ []
 
 -- after these stores
-abbrev pub placed_here : List PlacedStore → ℕ → Option Work → List PlacedStore
+abbrev pub placed_here : List PlacedStore → ℕ → Option SsaUnit → List PlacedStore
 placed_here before v unit = placed_as v (λ a w. length (filter (stands_at a w) before)) unit
 
 -- so many units from this number on, as far as they are stores
@@ -68,12 +68,12 @@ run_from links (suc n) None = []
 run_from links (suc n) (Some l) = l.unit ∷ run_from links n (link_behind links l.next)
 
 -- as a pack, if there are so many, at least two
-abbrev pub group_from : List Link → ℕ → Link → List Packed
+abbrev pub group_from : List Link → ℕ → Link → List Pack
 group_from links count l =
     let us = run_from links count (Some l) in
     if nat_le 2 count && nat_eq (length us) count then Stores us ∷ [] else []
 
 -- the groups of so many bytes that stores begin
-abbrev pub groups_among : List Link → ℕ → List Packed
+abbrev pub groups_among : List Link → ℕ → List Pack
 groups_among links size =
     flat_map (λ l. group_from links (size / size_of l.width) l) links

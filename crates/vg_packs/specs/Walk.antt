@@ -3,9 +3,9 @@ use Rattle.std.specs.Prelude.{◌≡◌, ◌<◌, ℕ, ◌+◌, ◌⊎◌, Bool,
 use Rattle.std.specs.List.{list_any}
 use Rattle.vg_plans.specs.Members.{Has}
 use Rattle.vg_plans.specs.World.{has_no_cycle, is_in}
-use Rattle.vg_packing.specs.Packing.{needs_of, packing}
+use Rattle.vg_kernel_plans.specs.Packing.{needs_of, packing}
 use Rattle.vg_shapes.specs.declared.match_table.Match.{Match}
-use Rattle.vg_shapes.specs.declared.pack.Pack.{Pack as Packed}
+use Rattle.vg_shapes.specs.declared.pack.Pack.{Pack}
 use Rattle.vg_shapes.specs.declared.ssa.Ssa.{Ssa}
 use Rattle.vg_shapes.specs.DepList.{is_listed, row_of}
 use Rattle.vg_shapes.specs.Pack.{units_of}
@@ -17,15 +17,15 @@ is_lane_of v None = false
 is_lane_of v (Some u) = nat_eq v u
 
 -- a unit is one of a plan
-abbrev pub is_in_plan : List Packed → ℕ → Bool
+abbrev pub is_in_plan : List Pack → ℕ → Bool
 is_in_plan plan v = list_any (λ p. is_in v (units_of p)) plan
 
 -- the units on which a pack depends, if a unit is one of it
-abbrev pub needs_for : List Match → Ssa → List (ℕ × ℕ) → ℕ → Packed → List ℕ
+abbrev pub needs_for : List Match → Ssa → List (ℕ × ℕ) → ℕ → Pack → List ℕ
 needs_for matches ssa deps v p = if is_in v (units_of p) then needs_of matches ssa deps p else []
 
 -- the units on which the node of a unit depends
-abbrev pub node_needs : List Match → Ssa → List (ℕ × ℕ) → List Packed → ℕ → List ℕ
+abbrev pub node_needs : List Match → Ssa → List (ℕ × ℕ) → List Pack → ℕ → List ℕ
 node_needs matches ssa deps plan v =
     if is_in_plan plan v then flat_map (needs_for matches ssa deps v) plan else row_of deps v
 
@@ -43,7 +43,7 @@ pub record NameEarlierUnits (ssa : Ssa) (deps : List (ℕ × ℕ)) : Type 0 wher
   pub earlier : NameEarlier deps
 
 -- a plan has no cycle
-abbrev pub IsFree : List Match → Ssa → List (ℕ × ℕ) → List Packed → Type 0
+abbrev pub IsFree : List Match → Ssa → List (ℕ × ℕ) → List Pack → Type 0
 IsFree matches ssa deps plan = has_no_cycle (packing [] matches ssa deps) plan ≡ true
 
 -- v is marked
@@ -79,7 +79,9 @@ count_open [] = 0
 count_open (b ∷ bs) = if b then count_open bs else 1 + count_open bs
 
 -- what a push of new units leaves
-pub record Pushed (list : List ℕ) (marks : List Bool) (stack : List ℕ) (new_marks : List Bool) (new_stack : List ℕ) : Type 0 where
+pub record Pushed
+    (list : List ℕ) (marks : List Bool) (stack : List ℕ) (new_marks : List Bool) (new_stack : List ℕ)
+    : Type 0 where
   pub stays : (v : ℕ) → IsAt marks v → IsAt new_marks v
   pub whole : (v : ℕ) → Has v list → IsAt new_marks v
   pub new : (v : ℕ) → IsAt new_marks v → IsAt marks v ⊎ (Has v list × Has v new_stack)

@@ -2,8 +2,8 @@
 
 ghost use Rattle.std.specs.Prelude.{◌≡◌, ◌<◌, ◌*◌, ◌%◌, IfOk, filter, find, length, nat_eq, position};
 ghost use Rattle.vg_base.specs.Width.{size_of};
-ghost use Rattle.vg_packing.specs.Fed.{groups_by};
-ghost use Rattle.vg_packing.specs.Groups.{aligned_groups};
+ghost use Rattle.vg_kernel_plans.specs.Fed.{groups_by};
+ghost use Rattle.vg_kernel_plans.specs.Groups.{aligned_groups};
 ghost use Rattle.vg_packs.specs.Aligned.{ahead_in, aheads_of, are_aligned, count_ahead, is_ahead, is_aligned_by, is_pack_aligned};
 ghost use Rattle.vg_packs.specs.Placed.{placed};
 
@@ -11,8 +11,8 @@ use crate::groups::{run_from, store_groups};
 use crate::placed::{Link, PlacedStore, link_behind, placed_stores};
 use std::alloc::{AllocError, Global};
 use vg_base::Width;
-use vg_packing::Choice;
-use vg_packing::units::first_width;
+use vg_kernel_plans::Choice;
+use vg_kernel_plans::units::first_width;
 use vg_shapes::{Pack, Ssa};
 
 fn place_ahead(stores: &[PlacedStore], store: &PlacedStore) -> Option<usize>
@@ -120,7 +120,8 @@ fn aligned_among(
     groups: Vec<Pack>,
 ) -> Result<Vec<Pack>, AllocError>
     requires { links.now ≡ aheads_of (placed ssa.now) }
-    ensures { IfOk result (λ aligned. aligned.items ≡ filter (is_pack_aligned ssa.now links.now) groups.items) }
+    ensures { IfOk result (λ aligned. aligned.items ≡ filter (is_pack_aligned ssa.now links.now)
+        groups.items) }
 {
     let mut aligned = Vec::new(alloc);
     'groups: for group in groups {

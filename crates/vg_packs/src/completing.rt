@@ -2,11 +2,11 @@
 
 ghost use Rattle.std.specs.Prelude.{◌≡◌, [], IfOk, OnOk, flat_map, map};
 ghost use Rattle.vg_plans.specs.Completed.{completed, fed_for, fed_for_all};
-ghost use Rattle.vg_packing.specs.Completed.{turns_of};
-ghost use Rattle.vg_packing.specs.Fed.{IsPlanBy, packing_by};
-ghost use Rattle.vg_packing.specs.LoadTable.{AreLoadGroups};
-ghost use Rattle.vg_packing.specs.Packing.{packing};
-ghost use Rattle.vg_packing.specs.Taken.{MatchesNear, operands_of};
+ghost use Rattle.vg_kernel_plans.specs.Completed.{turns_of};
+ghost use Rattle.vg_kernel_plans.specs.Fed.{IsPlanBy, packing_by};
+ghost use Rattle.vg_kernel_plans.specs.LoadTable.{AreLoadGroups};
+ghost use Rattle.vg_kernel_plans.specs.Packing.{packing};
+ghost use Rattle.vg_kernel_plans.specs.Taken.{MatchesNear, operands_of};
 ghost use Rattle.vg_shapes.specs.Description.{description_of};
 ghost use Rattle.vg_packs.specs.Completing.{IsCompletedWith, StayInTurn};
 ghost use Rattle.vg_packs.specs.Floor.{IsGrown};
@@ -16,8 +16,8 @@ use crate::growing::GrowingPlan;
 use crate::plain::{is_settled, produced, push_each};
 use crate::taking::taken_by;
 use std::alloc::{AllocError, Global};
-use vg_packing::LoadGroups;
-use vg_packing::copies::copy_pack;
+use vg_kernel_plans::LoadGroups;
+use vg_kernel_plans::copies::copy_pack;
 use vg_shapes::{DepList, Description, MatchTable, Operand, Pack, Plan, Ssa};
 
 /// Puts after a plan each load group that feeds an operand and with which the plan stays one, unless the
@@ -35,9 +35,9 @@ fn feed(
     requires earlier { NameEarlierUnits ssa.now deps.now }
     requires groups { AreLoadGroups ssa.now groups.now }
     requires grown { IsGrown table.now ssa.now deps.now plan.old }
-    ensures plan { OnOk result (plan.new.packs.items
-        ≡ fed_for (packing_by groups.now.choice (map description_of descriptions.now) table.now ssa.now deps.now)
-        plan.old.packs.items operand.now) }
+    ensures plan { OnOk result (plan.new.packs.items ≡ fed_for (packing_by groups.now.choice (map
+        description_of descriptions.now) table.now ssa.now deps.now) plan.old.packs.items
+        operand.now) }
     ensures grown { OnOk result (IsGrown table.now ssa.now deps.now plan.new) }
 {
     if is_settled(descriptions, ssa, plan.packs(), operand) {
@@ -62,9 +62,9 @@ fn feed_all(
     requires earlier { NameEarlierUnits ssa.now deps.now }
     requires groups { AreLoadGroups ssa.now groups.now }
     requires grown { IsGrown table.now ssa.now deps.now plan.old }
-    ensures plan { OnOk result (plan.new.packs.items
-        ≡ fed_for_all (packing_by groups.now.choice (map description_of descriptions.now) table.now ssa.now deps.now)
-        plan.old.packs.items operands.items) }
+    ensures plan { OnOk result (plan.new.packs.items ≡ fed_for_all (packing_by groups.now.choice
+        (map description_of descriptions.now) table.now ssa.now deps.now) plan.old.packs.items
+        operands.items) }
     ensures grown { OnOk result (IsGrown table.now ssa.now deps.now plan.new) }
 {
     'operands: for operand in operands {
@@ -116,9 +116,9 @@ fn completed(
     requires earlier { NameEarlierUnits ssa.now deps.now }
     requires groups { AreLoadGroups ssa.now groups.now }
     requires grown { IsGrown table.now ssa.now deps.now plan }
-    ensures { IfOk result (λ whole. whole
-        ≡ completed (packing_by groups.now.choice (map description_of descriptions.now) table.now ssa.now deps.now)
-        (turns_of ssa.now) plan.packs.items) }
+    ensures { IfOk result (λ whole. whole ≡ completed (packing_by groups.now.choice (map
+        description_of descriptions.now) table.now ssa.now deps.now) (turns_of ssa.now)
+        plan.packs.items) }
 {
     let mut grown = produced(alloc, descriptions, table, ssa, deps, plan)?;
     let operands = all_taken(alloc, descriptions, table, ssa, grown.packs())?;
@@ -170,11 +170,10 @@ pub fn completed_plan(
     requires near { MatchesNear table.now }
     requires earlier { NameEarlierUnits ssa.now deps.now }
     requires groups { AreLoadGroups ssa.now groups.now }
-    requires plan { IsPlanBy groups.now.choice (map description_of descriptions.now) table.now ssa.now deps.now
-        plan.now }
-    ensures { IfOk result (λ whole. whole
-        ≡ completed (packing_by groups.now.choice (map description_of descriptions.now) table.now ssa.now deps.now)
-        (turns_of ssa.now) plan.now) }
+    requires plan { IsPlanBy groups.now.choice (map description_of descriptions.now) table.now
+        ssa.now deps.now plan.now }
+    ensures { IfOk result (λ whole. whole ≡ completed (packing_by groups.now.choice (map
+        description_of descriptions.now) table.now ssa.now deps.now) (turns_of ssa.now) plan.now) }
 {
     let start = growing(alloc, table, ssa, deps, plan)?;
     let whole = completed(alloc, descriptions, table, ssa, deps, groups, start)?;
@@ -195,11 +194,10 @@ pub fn completed_with(
     requires near { MatchesNear table.now }
     requires earlier { NameEarlierUnits ssa.now deps.now }
     requires groups { AreLoadGroups ssa.now groups.now }
-    requires plan { IsPlanBy groups.now.choice (map description_of descriptions.now) table.now ssa.now deps.now
-        plan.now }
-    ensures { IfOk result (IsCompletedWith
-        (packing_by groups.now.choice (map description_of descriptions.now) table.now ssa.now deps.now)
-        (turns_of ssa.now) plan.now pack.now) }
+    requires plan { IsPlanBy groups.now.choice (map description_of descriptions.now) table.now
+        ssa.now deps.now plan.now }
+    ensures { IfOk result (IsCompletedWith (packing_by groups.now.choice (map description_of
+        descriptions.now) table.now ssa.now deps.now) (turns_of ssa.now) plan.now pack.now) }
 {
     let mut start = growing(alloc, table, ssa, deps, plan)?;
     let stays = start.stays(alloc, table, ssa, deps, pack)?;

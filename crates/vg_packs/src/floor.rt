@@ -90,7 +90,8 @@ fn inside(from: u32, count: usize) -> u32
 /// The greatest number up to one that is not marked, or 0.
 pub(crate) fn floor_under(spanned: &[bool], from: u32) -> u32
     ensures below { result ≤ from }
-    ensures there { (result ≡ 0) ⊎ (result < length spanned.now × (get_or spanned.now result false ≡ false)) }
+    ensures there { (result ≡ 0) ⊎ (result < length spanned.now × (get_or spanned.now result false ≡
+        false)) }
 {
     let mut floor = inside(from, spanned.len());
     'down: while floor > 0 {

@@ -2,11 +2,11 @@
 
 ghost use Rattle.std.specs.Prelude.{◌≡◌, ◌↔◌, ◌++◌, [], IfOk, IsTrue, OnOk, flat_map, map};
 ghost use Rattle.std.specs.List.{list_any};
-ghost use Rattle.vg_packing.specs.Fed.{packing_by, unfed};
-ghost use Rattle.vg_packing.specs.LoadTable.{AreLoadGroups};
-ghost use Rattle.vg_packing.specs.Packing.{packing};
-ghost use Rattle.vg_packing.specs.SameAs.{same_pack};
-ghost use Rattle.vg_packing.specs.Taken.{MatchesNear, operands_of};
+ghost use Rattle.vg_kernel_plans.specs.Fed.{packing_by, unfed};
+ghost use Rattle.vg_kernel_plans.specs.LoadTable.{AreLoadGroups};
+ghost use Rattle.vg_kernel_plans.specs.Packing.{packing};
+ghost use Rattle.vg_kernel_plans.specs.SameAs.{same_pack};
+ghost use Rattle.vg_kernel_plans.specs.Taken.{MatchesNear, operands_of};
 ghost use Rattle.vg_plans.specs.Members.{Has};
 ghost use Rattle.vg_plans.specs.World.{follows, has_pack, tried, tried_for};
 ghost use Rattle.vg_shapes.specs.Description.{description_of};
@@ -17,8 +17,8 @@ use crate::producing::producers;
 use crate::taking::taken_by;
 use crate::walk::stays_plan;
 use std::alloc::{AllocError, Global};
-use vg_packing::same::is_same_pack;
-use vg_packing::{Choice, LoadGroups};
+use vg_kernel_plans::same::is_same_pack;
+use vg_kernel_plans::{Choice, LoadGroups};
 use vg_shapes::{DepList, Description, MatchTable, Operand, Pack, Ssa};
 
 /// Appends the packs that are tried for an operand: those that produce it, then load groups that feed it.
@@ -33,9 +33,8 @@ fn push_for(
 ) -> Result<(), AllocError>
     requires near { MatchesNear table.now }
     requires groups { AreLoadGroups ssa.now groups.now }
-    ensures { OnOk result (packs.new.items ≡ packs.old.items
-        ++ tried_for (packing_by groups.now.choice (map description_of descriptions.now) table.now ssa.now [])
-        operand.now) }
+    ensures { OnOk result (packs.new.items ≡ packs.old.items ++ tried_for (packing_by
+        groups.now.choice (map description_of descriptions.now) table.now ssa.now []) operand.now) }
 {
     let mut produce = producers(alloc, operand, descriptions, table, ssa)?;
     packs.append(&mut produce)?;
@@ -56,8 +55,8 @@ fn push_for_all(
 ) -> Result<(), AllocError>
     requires near { MatchesNear table.now }
     requires groups { AreLoadGroups ssa.now groups.now }
-    ensures { OnOk result (packs.new.items ≡ packs.old.items
-        ++ flat_map (tried_for (packing_by groups.now.choice (map description_of descriptions.now) table.now ssa.now []))
+    ensures { OnOk result (packs.new.items ≡ packs.old.items ++ flat_map (tried_for (packing_by
+        groups.now.choice (map description_of descriptions.now) table.now ssa.now []))
         operands.now) }
 {
     'operands: for operand in operands {
@@ -78,9 +77,9 @@ fn push_tried(
 ) -> Result<(), AllocError>
     requires near { MatchesNear table.now }
     requires groups { AreLoadGroups ssa.now groups.now }
-    ensures { OnOk result (packs.new.items ≡ packs.old.items
-        ++ flat_map (tried_for (packing_by groups.now.choice (map description_of descriptions.now) table.now ssa.now []))
-        (operands_of (map description_of descriptions.now) table.now ssa.now pack.now)) }
+    ensures { OnOk result (packs.new.items ≡ packs.old.items ++ flat_map (tried_for (packing_by
+        groups.now.choice (map description_of descriptions.now) table.now ssa.now [])) (operands_of
+        (map description_of descriptions.now) table.now ssa.now pack.now)) }
 {
     let operands = taken_by(alloc, descriptions, table, ssa, pack)?;
     push_for_all(
@@ -107,9 +106,9 @@ pub fn tried_by(
 ) -> Result<Vec<Pack>, AllocError>
     requires near { MatchesNear table.now }
     requires groups { AreLoadGroups ssa.now groups.now }
-    ensures { IfOk result (λ packs. packs.items
-        ≡ flat_map (tried_for (packing_by groups.now.choice (map description_of descriptions.now) table.now ssa.now []))
-        (operands_of (map description_of descriptions.now) table.now ssa.now pack.now)) }
+    ensures { IfOk result (λ packs. packs.items ≡ flat_map (tried_for (packing_by groups.now.choice
+        (map description_of descriptions.now) table.now ssa.now [])) (operands_of (map
+        description_of descriptions.now) table.now ssa.now pack.now)) }
 {
     let mut packs = Vec::new(alloc);
     push_tried(alloc, &mut packs, descriptions, table, ssa, groups, pack)?;
@@ -139,7 +138,8 @@ pub fn tried(
     ssa: &Ssa,
 ) -> Result<Vec<Pack>, AllocError>
     requires near { MatchesNear table.now }
-    ensures { IfOk result (λ packs. packs.items ≡ tried (packing (map description_of descriptions.now) table.now ssa.now []) plan.now) }
+    ensures { IfOk result (λ packs. packs.items ≡ tried (packing (map description_of
+        descriptions.now) table.now ssa.now []) plan.now) }
 {
     let groups = no_groups(alloc, ssa)?;
     let mut packs = store_groups(alloc, ssa)?;
@@ -170,8 +170,11 @@ pub fn compatible(
     requires near { MatchesNear table.now }
     requires names { NameUnits ssa.now deps.now }
     requires free { IsFree table.now ssa.now deps.now plan.now }
-    ensures same { IfOk result (λ b. b ≡ has_pack (packing (map description_of descriptions.now) table.now ssa.now deps.now) (follows (packing (map description_of descriptions.now) table.now ssa.now deps.now) plan.now) pack.now) }
-    ensures member { IfOk result (λ b. IsTrue b ↔ Has pack.now (follows (packing (map description_of descriptions.now) table.now ssa.now deps.now) plan.now)) }
+    ensures same { IfOk result (λ b. b ≡ has_pack (packing (map description_of descriptions.now)
+        table.now ssa.now deps.now) (follows (packing (map description_of descriptions.now)
+        table.now ssa.now deps.now) plan.now) pack.now) }
+    ensures member { IfOk result (λ b. IsTrue b ↔ Has pack.now (follows (packing (map description_of
+        descriptions.now) table.now ssa.now deps.now) plan.now)) }
 {
     let packs = tried(alloc, plan, descriptions, table, ssa)?;
     if !is_among(pack, packs.as_slice()) {

@@ -2,7 +2,7 @@
 
 ghost use Rattle.std.specs.Prelude.{◌≡◌, ◌++◌, ◌/◌, IfOk, OnOk, Some};
 ghost use Rattle.vg_base.specs.Width.{size_of};
-ghost use Rattle.vg_packing.specs.Groups.{store_groups};
+ghost use Rattle.vg_kernel_plans.specs.Groups.{store_groups};
 ghost use Rattle.vg_packs.specs.Placed.{group_from, groups_among, run_from};
 
 use crate::placed::{Link, link_behind, links_of, placed_stores};
@@ -55,7 +55,8 @@ fn push_group(
     first: Link,
     count: usize,
 ) -> Result<(), AllocError>
-    ensures { OnOk result (groups.new.items ≡ groups.old.items ++ group_from links.now count first) }
+    ensures { OnOk result (groups.new.items ≡ groups.old.items ++ group_from links.now count
+        first) }
 {
     if count >= 2 {
         let units = run_from(alloc, links, first, count)?;

@@ -1,7 +1,7 @@
 //! Plans that grow pack by pack.
 
 ghost use Rattle.std.specs.Prelude.{◌≡◌, ◌≤◌, ◌++◌, ◌∷◌, ◌+◌, [], IfOk, OnOk, length, true};
-ghost use Rattle.vg_packing.specs.Packing.{packing};
+ghost use Rattle.vg_kernel_plans.specs.Packing.{packing};
 ghost use Rattle.vg_plans.specs.World.{is_in, stays_plan};
 ghost use Rattle.vg_shapes.specs.Pack.{units_of};
 ghost use Rattle.vg_shapes.specs.Units.{arguments};
@@ -13,7 +13,7 @@ use crate::marks::{mark_pack, mark_within};
 use crate::needs::pack_needs;
 use crate::walk::{end_of_units, overlaps, reaches_itself};
 use std::alloc::{AllocError, Global};
-use vg_packing::marks::clear_marks;
+use vg_kernel_plans::marks::clear_marks;
 use vg_shapes::{DepList, MatchTable, Pack, Ssa};
 
 /// A plan without a cycle that grows, with marks of its units, and of the numbers that lie within one of
@@ -96,8 +96,8 @@ impl GrowingPlan {
     ) -> Result<u32, AllocError>
         requires earlier { NameEarlierUnits ssa.now deps.now }
         requires grown { IsGrown table.now ssa.now deps.now self.now }
-        ensures floor { IfOk result (IsFloor (node_needs table.now ssa.now deps.now self.now.packs.items)
-            (λ v. is_in v (units_of pack.now))) }
+        ensures floor { IfOk result (IsFloor (node_needs table.now ssa.now deps.now
+            self.now.packs.items) (λ v. is_in v (units_of pack.now))) }
         ensures inside { IfOk result (λ floor. floor ≤ arguments ssa.now + length ssa.now.units) }
     {
         let units = units_in(alloc, pack)?;
@@ -142,7 +142,8 @@ impl GrowingPlan {
         pack: Pack,
     ) -> Result<(), AllocError>
         requires grown { IsGrown table.now ssa.now deps.now self.old }
-        requires stays { stays_plan (packing [] table.now ssa.now deps.now) self.old.packs.items pack ≡ true }
+        requires stays { stays_plan (packing [] table.now ssa.now deps.now) self.old.packs.items
+            pack ≡ true }
         ensures packs { OnOk result (self.new.packs.items ≡ self.old.packs.items ++ pack ∷ []) }
         ensures grown { OnOk result (IsGrown table.now ssa.now deps.now self.new) }
     {

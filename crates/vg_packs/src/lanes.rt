@@ -4,16 +4,16 @@ ghost use Rattle.std.specs.Prelude.{◌≡◌, ◌<◌, ◌&&◌, ◌^◌, [], I
 ghost use Rattle.std.specs.Cmp.Lexicographic.{pointwise};
 ghost use Rattle.std.specs.List.{list_any, list_all};
 ghost use Rattle.std.specs.Option.{option_copied};
-ghost use Rattle.vg_packing.specs.Held.{lanes_from};
-ghost use Rattle.vg_packing.specs.Producers.{agree, all_differ, are_matched, lanes_for, value_at};
-ghost use Rattle.vg_packing.specs.SameAs.{same_slot};
-ghost use Rattle.vg_packing.specs.Wants.{slot};
+ghost use Rattle.vg_kernel_plans.specs.Held.{lanes_from};
+ghost use Rattle.vg_kernel_plans.specs.Producers.{agree, all_differ, are_matched, lanes_for, value_at};
+ghost use Rattle.vg_kernel_plans.specs.SameAs.{same_slot};
+ghost use Rattle.vg_kernel_plans.specs.Wants.{slot};
 ghost use Rattle.vg_shapes.specs.declared.wanted.Wanted.TheVariants.{Value};
 ghost use Rattle.vg_packs.specs.Lanes.{begins_with, can_begin, fits_lane, is_matched, rest_behind};
 
 use std::alloc::{AllocError, Global};
-use vg_packing::lane::lane_of;
-use vg_packing::wants::value_of;
+use vg_kernel_plans::lane::lane_of;
+use vg_kernel_plans::wants::value_of;
 use vg_shapes::wanted::is_same_wanted;
 use vg_shapes::{MatchTable, Operand, Slot, Wanted};
 
@@ -66,7 +66,8 @@ pub(crate) fn all_agree(operands: &[Operand]) -> bool
 
 /// The slot of this width at this bit, if there is one.
 fn slot_at(slots: &[Slot], low: u64, width: u32) -> Option<&Slot>
-    ensures { option_copied result ≡ find (λ s. nat_eq s.low low && nat_eq s.width width) slots.now }
+    ensures { option_copied result ≡ find (λ s. nat_eq s.low low && nat_eq s.width width)
+        slots.now }
 {
     slots
         .iter()

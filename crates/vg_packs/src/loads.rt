@@ -1,30 +1,30 @@
 //! Loads that are consecutive in memory.
 
 ghost use Rattle.std.specs.Prelude.{◌≡◌, ◌<◌, ◌^◌, IfOk, length};
-ghost use Rattle.vg_packing.specs.Producers.{are_beside, are_loads, begin_loads, loads_from};
+ghost use Rattle.vg_kernel_plans.specs.Producers.{are_beside, are_loads, begin_loads, loads_from};
 ghost use Rattle.vg_shapes.specs.Pack.{behind, is_pack_size};
 ghost use Rattle.vg_packs.specs.Making.{are_wanted_loads};
 
 use crate::lanes::are_lanes;
 use std::alloc::{AllocError, Global};
 use vg_base::{Address, Width};
-use vg_packing::lane::some_lanes;
-use vg_packing::units::{first_width, register_for, unit_at};
-use vg_shapes::{Slot, Ssa, Unit};
+use vg_kernel_plans::lane::some_lanes;
+use vg_kernel_plans::units::{first_width, register_for, unit_at};
+use vg_shapes::{Slot, Ssa, SsaUnit};
 
 /// The greatest number of values that an operand may want.
 const MOST: usize = 1 << 24;
 
 /// Whether a unit is the load of a width from so many bytes after an address.
-fn loads_from(unit: Option<Unit>, first: Address, bytes: u64, width: Width) -> bool
+fn loads_from(unit: Option<SsaUnit>, first: Address, bytes: u64, width: Width) -> bool
     ensures { result ≡ loads_from (behind first bytes) width unit }
 {
     match unit {
         None => false,
-        Some(Unit::Store { .. }) => false,
-        Some(Unit::Operation { .. }) => false,
+        Some(SsaUnit::Store { .. }) => false,
+        Some(SsaUnit::Operation { .. }) => false,
         Some(
-            Unit::Load {
+            SsaUnit::Load {
                 address,
                 width: loaded,
             },
@@ -53,15 +53,15 @@ fn are_loads(ssa: &Ssa, first: Address, width: Width, units: &[u32]) -> bool
 }
 
 /// The same, from where the first of them loads.
-fn begin_loads(ssa: &Ssa, first: Option<Unit>, units: &[u32]) -> bool
+fn begin_loads(ssa: &Ssa, first: Option<SsaUnit>, units: &[u32]) -> bool
     requires { length units.now < 2 ^ 32 }
     ensures { result ≡ begin_loads ssa.now first units.now }
 {
     match first {
         None => false,
-        Some(Unit::Store { .. }) => false,
-        Some(Unit::Operation { .. }) => false,
-        Some(Unit::Load { address, width }) => are_loads(ssa, address, width, units),
+        Some(SsaUnit::Store { .. }) => false,
+        Some(SsaUnit::Operation { .. }) => false,
+        Some(SsaUnit::Load { address, width }) => are_loads(ssa, address, width, units),
     }
 }
 

@@ -8,7 +8,7 @@ ghost use Rattle.vg_packs.specs.Marks.{AddsMarks, is_within};
 ghost use Rattle.vg_packs.specs.Walk.{is_in_plan, is_lane_of};
 
 use std::alloc::{AllocError, Global};
-use vg_packing::marks::clear_marks;
+use vg_kernel_plans::marks::clear_marks;
 use vg_shapes::Pack;
 
 /// Whether a number is marked.
@@ -48,7 +48,8 @@ fn mark_below(marks: &mut [bool], end: u32)
 
 /// So many marks, of which those below a number are set.
 pub(crate) fn marks_below(alloc: Global, count: usize, end: u32) -> Result<Vec<bool>, AllocError>
-    ensures { IfOk result (λ marks. AddsMarks (λ v. nat_lt v end) (replicate count false) marks.items) }
+    ensures { IfOk result (λ marks. AddsMarks (λ v. nat_lt v end) (replicate count false)
+        marks.items) }
 {
     let mut marks = clear_marks(alloc, count)?;
     mark_below(marks.as_mut_slice(), end);

@@ -2,8 +2,8 @@
 
 ghost use Rattle.std.specs.Prelude.{◌≡◌, ◌++◌, IfOk, OnOk, filter, flat_map, [], if◌then◌else◌};
 ghost use Rattle.std.specs.List.{filter_map, list_any};
-ghost use Rattle.vg_packing.specs.Packing.{needs_of};
-ghost use Rattle.vg_packing.specs.Wants.{value_of};
+ghost use Rattle.vg_kernel_plans.specs.Packing.{needs_of};
+ghost use Rattle.vg_kernel_plans.specs.Wants.{value_of};
 ghost use Rattle.vg_plans.specs.World.{is_in};
 ghost use Rattle.vg_shapes.specs.DepList.{row_of};
 ghost use Rattle.vg_shapes.specs.Pack.{units_of};
@@ -11,9 +11,9 @@ ghost use Rattle.vg_shapes.specs.Units.{is_unit};
 ghost use Rattle.vg_packs.specs.Walk.{is_in_plan, is_lane_of, needs_for};
 
 use std::alloc::{AllocError, Global};
-use vg_packing::taken::bounds_of;
-use vg_packing::units::unit_at;
-use vg_packing::wants::value_of;
+use vg_kernel_plans::taken::bounds_of;
+use vg_kernel_plans::units::unit_at;
+use vg_kernel_plans::wants::value_of;
 use vg_shapes::{Bound, DepList, MatchTable, Pack, Ssa};
 
 /// The greatest number of lanes of a call.
@@ -82,7 +82,8 @@ fn is_unit(ssa: &Ssa, number: u32) -> bool
 }
 
 fn bound_values(alloc: Global, bounds: &[Bound]) -> Result<Vec<u32>, AllocError>
-    ensures { IfOk result (λ values. values.items ≡ filter_map (λ b. value_of b.wanted) bounds.now) }
+    ensures { IfOk result (λ values. values.items ≡ filter_map (λ b. value_of b.wanted)
+        bounds.now) }
 {
     bounds
         .iter()
@@ -135,7 +136,8 @@ fn push_needs(
     pack: &Pack,
     unit: u32,
 ) -> Result<(), AllocError>
-    ensures { OnOk result (needs.new.items ≡ needs.old.items ++ needs_for table.now ssa.now deps.now unit pack.now) }
+    ensures { OnOk result (needs.new.items ≡ needs.old.items ++ needs_for table.now ssa.now deps.now
+        unit pack.now) }
 {
     if has_unit(pack, unit) {
         let more = pack_needs(alloc, table, ssa, deps, pack)?;
@@ -153,7 +155,8 @@ fn packed_needs(
     plan: &[Pack],
     unit: u32,
 ) -> Result<Vec<u32>, AllocError>
-    ensures { IfOk result (λ needs. needs.items ≡ flat_map (needs_for table.now ssa.now deps.now unit) plan.now) }
+    ensures { IfOk result (λ needs. needs.items ≡ flat_map (needs_for table.now ssa.now deps.now
+        unit) plan.now) }
 {
     let mut needs = Vec::new(alloc);
     'packs: for pack in plan {
@@ -172,7 +175,8 @@ pub(crate) fn needs_of_packs(
     packed: bool,
     unit: u32,
 ) -> Result<Vec<u32>, AllocError>
-    ensures { IfOk result (λ needs. needs.items ≡ (if packed then flat_map (needs_for table.now ssa.now deps.now unit) plan.now else [])) }
+    ensures { IfOk result (λ needs. needs.items ≡ (if packed then flat_map (needs_for table.now
+        ssa.now deps.now unit) plan.now else [])) }
 {
     if packed {
         packed_needs(alloc, table, ssa, deps, plan, unit)

@@ -1,15 +1,15 @@
 //! The stores of a kernel by their places in memory.
 
 ghost use Rattle.std.specs.Prelude.{◌≡◌, ◌++◌, ◌/◌, IfOk, OnOk, filter, length, map, position, Option};
-ghost use Rattle.vg_packing.specs.LoadTable.{place};
+ghost use Rattle.vg_kernel_plans.specs.LoadTable.{place};
 ghost use Rattle.vg_shapes.specs.Units.{arguments, unit_at};
 ghost use Rattle.vg_packs.specs.Aligned.{is_ahead};
 ghost use Rattle.vg_packs.specs.Placed.{is_next, is_ranked, link_behind, link_in, links_of, placed, placed_here, stands_at};
 
 use std::alloc::{AllocError, Global};
 use vg_base::{Address, Width};
-use vg_packing::units::unit_at;
-use vg_shapes::{Ssa, Unit};
+use vg_kernel_plans::units::unit_at;
+use vg_shapes::{Ssa, SsaUnit};
 
 /// The greatest number of integer parameters, and of units, of a kernel whose stores are placed.
 const MOST: usize = 1 << 24;
@@ -81,15 +81,16 @@ fn count_at(stores: &[PlacedStore], address: Address, width: Width) -> usize
 fn push_store(
     stores: &mut Vec<PlacedStore>,
     number: u32,
-    unit: Option<Unit>,
+    unit: Option<SsaUnit>,
 ) -> Result<(), AllocError>
-    ensures { OnOk result (stores.new.items ≡ stores.old.items ++ placed_here stores.old.items number unit) }
+    ensures { OnOk result (stores.new.items ≡ stores.old.items ++ placed_here stores.old.items
+        number unit) }
 {
     match unit {
         None => Ok(()),
-        Some(Unit::Load { .. }) => Ok(()),
-        Some(Unit::Operation { .. }) => Ok(()),
-        Some(Unit::Store { address, width, .. }) => {
+        Some(SsaUnit::Load { .. }) => Ok(()),
+        Some(SsaUnit::Operation { .. }) => Ok(()),
+        Some(SsaUnit::Store { address, width, .. }) => {
             let rank = count_at(stores.as_slice(), address, width);
             stores.push(PlacedStore {
                 unit: number,

@@ -5,12 +5,12 @@ ghost use Rattle.std.specs.List.{list_any};
 ghost use Rattle.vg_plans.specs.Completed.{produced};
 ghost use Rattle.vg_plans.specs.PlainPlan.{plain_plan, walk, with_groups};
 ghost use Rattle.vg_plans.specs.World.{stays_plan};
-ghost use Rattle.vg_packing.specs.Completed.{turns_of};
-ghost use Rattle.vg_packing.specs.Fed.{packing_by};
-ghost use Rattle.vg_packing.specs.Held.{holds};
-ghost use Rattle.vg_packing.specs.Packing.{packing, plain_of};
-ghost use Rattle.vg_packing.specs.Taken.{MatchesNear, operands_of};
-ghost use Rattle.vg_packing.specs.Wants.{is_constant};
+ghost use Rattle.vg_kernel_plans.specs.Completed.{turns_of};
+ghost use Rattle.vg_kernel_plans.specs.Fed.{packing_by};
+ghost use Rattle.vg_kernel_plans.specs.Held.{holds};
+ghost use Rattle.vg_kernel_plans.specs.Packing.{packing, plain_of};
+ghost use Rattle.vg_kernel_plans.specs.Taken.{MatchesNear, operands_of};
+ghost use Rattle.vg_kernel_plans.specs.Wants.{is_constant};
 ghost use Rattle.vg_shapes.specs.Description.{description_of};
 ghost use Rattle.vg_packs.specs.Floor.{IsGrown};
 ghost use Rattle.vg_packs.specs.Plain.{IsTurn, plain_among};
@@ -23,9 +23,9 @@ use crate::producing::producers;
 use crate::taking::taken_by;
 use std::alloc::{AllocError, Global};
 use std::collections::VecDeque;
-use vg_packing::Choice;
-use vg_packing::held::holds;
-use vg_packing::wants::is_constant;
+use vg_kernel_plans::Choice;
+use vg_kernel_plans::held::holds;
+use vg_kernel_plans::wants::is_constant;
 use vg_shapes::{DepList, Description, MatchTable, Operand, Pack, Plan, Ssa};
 
 /// The greatest number of units of a kernel that has a plain plan.
@@ -50,7 +50,8 @@ fn push_operands(
     pack: &Pack,
 ) -> Result<(), AllocError>
     requires near { MatchesNear table.now }
-    ensures { OnOk result (queue.new.items ≡ queue.old.items ++ operands_of (map description_of descriptions.now) table.now ssa.now pack.now) }
+    ensures { OnOk result (queue.new.items ≡ queue.old.items ++ operands_of (map description_of
+        descriptions.now) table.now ssa.now pack.now) }
 {
     let operands = taken_by(alloc, descriptions, table, ssa, pack)?;
     push_all(queue, operands)
@@ -120,7 +121,8 @@ pub(crate) fn push_each(
 
 /// Whether a pack of a plan holds an operand.
 fn is_reused(descriptions: &[Description], ssa: &Ssa, plan: &[Pack], operand: &Operand) -> bool
-    ensures { result ≡ list_any (λ p. holds (map description_of descriptions.now) ssa.now p operand.now) plan.now }
+    ensures { result ≡ list_any (λ p. holds (map description_of descriptions.now) ssa.now p
+        operand.now) plan.now }
 {
     plan.iter().any(|p| holds(descriptions, ssa, p, operand))
 }
@@ -132,7 +134,8 @@ pub(crate) fn is_settled(
     plan: &[Pack],
     operand: &Operand,
 ) -> bool
-    ensures { result ≡ (list_any (λ p. holds (map description_of descriptions.now) ssa.now p operand.now) plan.now || is_constant operand.now) }
+    ensures { result ≡ (list_any (λ p. holds (map description_of descriptions.now) ssa.now p
+        operand.now) plan.now || is_constant operand.now) }
 {
     is_reused(descriptions, ssa, plan, operand) || is_constant(operand)
 }
@@ -148,8 +151,8 @@ fn first_that_stays(
 ) -> Result<Option<Pack>, AllocError>
     requires earlier { NameEarlierUnits ssa.now deps.now }
     requires grown { IsGrown table.now ssa.now deps.now plan.now }
-    ensures { IfOk result (λ found. found
-        ≡ find (stays_plan (packing [] table.now ssa.now deps.now) plan.now.packs.items) packs.items) }
+    ensures { IfOk result (λ found. found ≡ find (stays_plan (packing [] table.now ssa.now deps.now)
+        plan.now.packs.items) packs.items) }
 {
     'packs: for pack in packs {
         let stays = plan.stays(alloc, table, ssa, deps, &pack)?;
@@ -175,7 +178,9 @@ fn turn(
     requires near { MatchesNear table.now }
     requires earlier { NameEarlierUnits ssa.now deps.now }
     requires grown { IsGrown table.now ssa.now deps.now plan.old }
-    ensures turn { OnOk result (IsTurn (packing (map description_of descriptions.now) table.now ssa.now deps.now) plan.old.packs.items (operand.now ∷ queue.old.items) plan.new.packs.items queue.new.items) }
+    ensures turn { OnOk result (IsTurn (packing (map description_of descriptions.now) table.now
+        ssa.now deps.now) plan.old.packs.items (operand.now ∷ queue.old.items) plan.new.packs.items
+        queue.new.items) }
     ensures grown { OnOk result (IsGrown table.now ssa.now deps.now plan.new) }
 {
     if is_settled(descriptions, ssa, plan.packs(), operand) {
@@ -297,7 +302,8 @@ pub fn plain_plan(
 ) -> Result<Plan, AllocError>
     requires near { MatchesNear table.now }
     requires earlier { NameEarlierUnits ssa.now deps.now }
-    ensures plain { IfOk result (λ plan. plan ≡ plain_of (map description_of descriptions.now) table.now ssa.now deps.now) }
+    ensures plain { IfOk result (λ plan. plan ≡ plain_of (map description_of descriptions.now)
+        table.now ssa.now deps.now) }
     ensures free { IfOk result (λ plan. IsFree table.now ssa.now deps.now plan) }
 {
     let groups = store_groups(alloc, ssa)?;
@@ -316,9 +322,8 @@ pub fn plain_plan_by(
 ) -> Result<Plan, AllocError>
     requires near { MatchesNear table.now }
     requires earlier { NameEarlierUnits ssa.now deps.now }
-    ensures { IfOk result (λ plan. plan
-        ≡ plain_plan (packing_by choice (map description_of descriptions.now) table.now ssa.now deps.now)
-        (turns_of ssa.now)) }
+    ensures { IfOk result (λ plan. plan ≡ plain_plan (packing_by choice (map description_of
+        descriptions.now) table.now ssa.now deps.now) (turns_of ssa.now)) }
 {
     let groups = groups_by(alloc, choice, ssa)?;
     let plan = grown_plan(alloc, descriptions, table, ssa, deps, groups)?;

@@ -2,7 +2,7 @@
 
 ghost use Rattle.std.specs.Prelude.{◌≡◌, [], IfOk};
 ghost use Rattle.std.specs.List.{list_any};
-ghost use Rattle.vg_packing.specs.Packing.{packing};
+ghost use Rattle.vg_kernel_plans.specs.Packing.{packing};
 ghost use Rattle.vg_plans.specs.World.{stays_plan};
 ghost use Rattle.vg_shapes.specs.Pack.{units_of};
 ghost use Rattle.vg_packs.specs.PlanMarks.{MarksPlan};
@@ -12,7 +12,7 @@ ghost use Rattle.vg_shapes.specs.declared.ssa.Ssa.{Ssa as Numbered};
 use crate::marks::mark_plan;
 use crate::walk::{end_of_units, overlaps, reaches_itself};
 use std::alloc::{AllocError, Global};
-use vg_packing::marks::clear_marks;
+use vg_kernel_plans::marks::clear_marks;
 use vg_shapes::{DepList, MatchTable, Pack, Ssa};
 
 /// Marks of the units of a plan, by which packs are tried after it one after the other.
@@ -56,7 +56,8 @@ impl PlanMarks {
         requires names { NameUnits ssa.now deps.now }
         requires free { IsFree table.now ssa.now deps.now plan.now }
         requires marks { MarksPlan ssa.now plan.now self.now }
-        ensures { IfOk result (λ b. b ≡ stays_plan (packing [] table.now ssa.now deps.now) plan.now pack.now) }
+        ensures { IfOk result (λ b. b ≡ stays_plan (packing [] table.now ssa.now deps.now) plan.now
+            pack.now) }
     {
         let packed = self.marks.as_slice();
         let overlap = overlaps(packed, plan, pack);

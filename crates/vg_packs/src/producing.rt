@@ -2,19 +2,19 @@
 
 ghost use Rattle.std.specs.Prelude.{◌≡◌, ◌++◌, ◌/◌, IfOk, OnOk, map, true};
 ghost use Rattle.std.specs.List.{list_all};
-ghost use Rattle.vg_packing.specs.Producers.{call_producer, call_producers, can_be_produced, load_producer, producers};
-ghost use Rattle.vg_packing.specs.Taken.{MatchesNear};
-ghost use Rattle.vg_packing.specs.Wants.{wanted_slots, wanted_values, wants_value};
+ghost use Rattle.vg_kernel_plans.specs.Producers.{call_producer, call_producers, can_be_produced, load_producer, producers};
+ghost use Rattle.vg_kernel_plans.specs.Taken.{MatchesNear};
+ghost use Rattle.vg_kernel_plans.specs.Wants.{wanted_slots, wanted_values, wants_value};
 ghost use Rattle.vg_shapes.specs.declared.pack.Pack.TheVariants.{Call};
 ghost use Rattle.vg_shapes.specs.Description.{description_of};
 ghost use Rattle.vg_packs.specs.Lanes.{can_begin};
-ghost use Rattle.vg_packs.specs.Making.{is_wanted_call, may_be_lanes};
+ghost use Rattle.vg_packs.specs.Making.{is_wanted_call, can_be_packed};
 
 use crate::lanes::{all_agree, all_differ, are_lanes, are_matched, can_begin, lanes_for};
 use crate::loads::are_wanted_loads;
 use std::alloc::{AllocError, Global};
-use vg_packing::taken::operands_of;
-use vg_packing::wants::{wanted_slots, wanted_values, wants_value};
+use vg_kernel_plans::taken::operands_of;
+use vg_kernel_plans::wants::{wanted_slots, wanted_values, wants_value};
 use vg_shapes::{Description, Lanes, MatchTable, Operand, Pack, Slot, Ssa};
 
 /// The greatest number of descriptions, and of lanes of one.
@@ -27,8 +27,8 @@ fn all_want_values(slots: &[Slot]) -> bool
 }
 
 /// Whether a pack can have these slots, which want these values.
-fn may_be_lanes(slots: &[Slot], values: &[u32]) -> bool
-    ensures { result ≡ may_be_lanes slots.now values.now }
+fn can_be_packed(slots: &[Slot], values: &[u32]) -> bool
+    ensures { result ≡ can_be_packed slots.now values.now }
 {
     slots.len() >= 2 && (all_want_values(slots) && all_differ(values))
 }
@@ -91,7 +91,8 @@ fn is_wanted_call(
     lanes: &[Option<u32>],
 ) -> Result<bool, AllocError>
     requires near { MatchesNear table.now }
-    ensures { IfOk result (λ b. b ≡ is_wanted_call (map description_of descriptions.now) table.now ssa.now slots.now number width lanes.now) }
+    ensures { IfOk result (λ b. b ≡ is_wanted_call (map description_of descriptions.now) table.now
+        ssa.now slots.now number width lanes.now) }
 {
     if lanes.len() > MOST {
         return Err(AllocError);
@@ -119,7 +120,8 @@ fn push_call(
     requires near { MatchesNear table.now }
     requires produced { can_be_produced operand.now ≡ true }
     requires slots { slots.now ≡ wanted_slots operand.now }
-    ensures { OnOk result (packs.new.items ≡ packs.old.items ++ call_producer (map description_of descriptions.now) table.now ssa.now operand.now number (description_of description.now)) }
+    ensures { OnOk result (packs.new.items ≡ packs.old.items ++ call_producer (map description_of
+        descriptions.now) table.now ssa.now operand.now number (description_of description.now)) }
 {
     if description.register != operand.register {
         return Ok(());
@@ -154,7 +156,8 @@ fn push_calls(
     requires near { MatchesNear table.now }
     requires produced { can_be_produced operand.now ≡ true }
     requires slots { slots.now ≡ wanted_slots operand.now }
-    ensures { OnOk result (packs.new.items ≡ packs.old.items ++ call_producers (map description_of descriptions.now) table.now ssa.now operand.now 0 (map description_of descriptions.now)) }
+    ensures { OnOk result (packs.new.items ≡ packs.old.items ++ call_producers (map description_of
+        descriptions.now) table.now ssa.now operand.now 0 (map description_of descriptions.now)) }
 {
     if descriptions.len() > MOST {
         return Err(AllocError);
@@ -189,14 +192,15 @@ pub fn producers(
     ssa: &Ssa,
 ) -> Result<Vec<Pack>, AllocError>
     requires near { MatchesNear table.now }
-    ensures { IfOk result (λ packs. packs.items ≡ producers (map description_of descriptions.now) table.now ssa.now operand.now) }
+    ensures { IfOk result (λ packs. packs.items ≡ producers (map description_of descriptions.now)
+        table.now ssa.now operand.now) }
 {
     let slots = wanted_slots(alloc, operand)?;
     let slots = slots.as_slice();
     let values = wanted_values(alloc, operand)?;
     let values = values.as_slice();
     let mut packs = Vec::new(alloc);
-    if !may_be_lanes(slots, values) {
+    if !can_be_packed(slots, values) {
         return Ok(packs);
     }
     push_loads(alloc, &mut packs, ssa, operand, slots, values)?;

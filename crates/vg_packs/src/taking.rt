@@ -1,11 +1,11 @@
 //! What packs take.
 
 ghost use Rattle.std.specs.Prelude.{◌≡◌, IfOk, map, true};
-ghost use Rattle.vg_packing.specs.Taken.{IsShort, MatchesNear, operands_of};
+ghost use Rattle.vg_kernel_plans.specs.Taken.{IsShort, MatchesNear, operands_of};
 ghost use Rattle.vg_shapes.specs.Description.{description_of};
 
 use std::alloc::{AllocError, Global};
-use vg_packing::taken::operands_of;
+use vg_kernel_plans::taken::operands_of;
 use vg_shapes::{Description, MatchTable, Operand, Pack, Ssa};
 
 /// The greatest number of lanes of a call.
@@ -32,7 +32,8 @@ pub(crate) fn taken_by(
     pack: &Pack,
 ) -> Result<Vec<Operand>, AllocError>
     requires near { MatchesNear table.now }
-    ensures { IfOk result (λ operands. operands.items ≡ operands_of (map description_of descriptions.now) table.now ssa.now pack.now) }
+    ensures { IfOk result (λ operands. operands.items ≡ operands_of (map description_of
+        descriptions.now) table.now ssa.now pack.now) }
 {
     if !is_short(pack) {
         return Err(AllocError);

@@ -2,7 +2,7 @@
 
 ghost use Rattle.std.specs.Prelude.{◌≡◌, ◌+◌, ◌<◌, ◌≤◌, ℕ, [], All, IfOk, OnOk, false, flat_map, get_or, length, replicate, true};
 ghost use Rattle.std.specs.List.{filter_map, list_any};
-ghost use Rattle.vg_packing.specs.Packing.{needs_of, packing};
+ghost use Rattle.vg_kernel_plans.specs.Packing.{needs_of, packing};
 ghost use Rattle.vg_plans.specs.World.{is_in, stays_plan};
 ghost use Rattle.vg_shapes.specs.DepList.{row_of};
 ghost use Rattle.vg_shapes.specs.Pack.{units_of};
@@ -15,7 +15,7 @@ use crate::marks::{is_marked, mark_pack, marks_below, some_marked};
 use crate::needs::{is_in_plan, needs_of_packs, node_needs, pack_needs};
 use crate::plan_marks::PlanMarks;
 use std::alloc::{AllocError, Global};
-use vg_packing::marks::clear_marks;
+use vg_kernel_plans::marks::clear_marks;
 use vg_shapes::{DepList, MatchTable, Pack, Ssa};
 
 /// The greatest number of integer parameters, and of units, of a kernel that is walked.
@@ -52,9 +52,12 @@ fn walk_down(
     requires packed { AreMarks (length marks.old) (is_in_plan plan.now) packed.now }
     requires starts_inside { All (λ v. v < length marks.old) starts.now }
     requires units_inside { (v : ℕ) → is_unit ssa.now v ≡ true → v < length marks.old }
-    requires settled { IsSettled (node_needs table.now ssa.now deps.now plan.now) (λ v. get_or own.now v false) marks.old }
-    ensures way { IfOk result (λ r. r ≡ true → HasWay (node_needs table.now ssa.now deps.now plan.now) (λ v. get_or own.now v false) starts.now) }
-    ensures apart { IfOk result (λ r. r ≡ false → IsApart (node_needs table.now ssa.now deps.now plan.now) (λ v. get_or own.now v false) starts.now marks.new) }
+    requires settled { IsSettled (node_needs table.now ssa.now deps.now plan.now) (λ v. get_or
+        own.now v false) marks.old }
+    ensures way { IfOk result (λ r. r ≡ true → HasWay (node_needs table.now ssa.now deps.now
+        plan.now) (λ v. get_or own.now v false) starts.now) }
+    ensures apart { IfOk result (λ r. r ≡ false → IsApart (node_needs table.now ssa.now deps.now
+        plan.now) (λ v. get_or own.now v false) starts.now marks.new) }
     ensures kept { IfOk result (λ r. r ≡ false → KeepMarks marks.old marks.new) }
 {
     let mut stack: Vec<u32> = Vec::new(alloc);
@@ -92,9 +95,12 @@ fn rows_reach(
     requires names { NameUnits ssa.now deps.now }
     requires packed { AreMarks (length marks.old) (is_in_plan plan.now) packed.now }
     requires units_inside { (v : ℕ) → is_unit ssa.now v ≡ true → v < length marks.old }
-    requires settled { IsSettled (node_needs table.now ssa.now deps.now plan.now) (λ v. get_or own.now v false) marks.old }
-    ensures way { IfOk result (λ r. r ≡ true → HasWay (node_needs table.now ssa.now deps.now plan.now) (λ v. get_or own.now v false) (flat_map (row_of deps.now) units.now)) }
-    ensures apart { IfOk result (λ r. r ≡ false → IsApart (node_needs table.now ssa.now deps.now plan.now) (λ v. get_or own.now v false) (flat_map (row_of deps.now) units.now) marks.new) }
+    requires settled { IsSettled (node_needs table.now ssa.now deps.now plan.now) (λ v. get_or
+        own.now v false) marks.old }
+    ensures way { IfOk result (λ r. r ≡ true → HasWay (node_needs table.now ssa.now deps.now
+        plan.now) (λ v. get_or own.now v false) (flat_map (row_of deps.now) units.now)) }
+    ensures apart { IfOk result (λ r. r ≡ false → IsApart (node_needs table.now ssa.now deps.now
+        plan.now) (λ v. get_or own.now v false) (flat_map (row_of deps.now) units.now) marks.new) }
 {
     'units: for unit in units {
         let row = deps.row(*unit);
@@ -121,9 +127,13 @@ fn needs_reach(
     requires names { NameUnits ssa.now deps.now }
     requires packed { AreMarks (length marks.old) (is_in_plan plan.now) packed.now }
     requires units_inside { (v : ℕ) → is_unit ssa.now v ≡ true → v < length marks.old }
-    requires settled { IsSettled (node_needs table.now ssa.now deps.now plan.now) (λ v. get_or own.now v false) marks.old }
-    ensures way { IfOk result (λ r. r ≡ true → HasWay (node_needs table.now ssa.now deps.now plan.now) (λ v. get_or own.now v false) (needs_of table.now ssa.now deps.now pack.now)) }
-    ensures apart { IfOk result (λ r. r ≡ false → IsApart (node_needs table.now ssa.now deps.now plan.now) (λ v. get_or own.now v false) (needs_of table.now ssa.now deps.now pack.now) marks.new) }
+    requires settled { IsSettled (node_needs table.now ssa.now deps.now plan.now) (λ v. get_or
+        own.now v false) marks.old }
+    ensures way { IfOk result (λ r. r ≡ true → HasWay (node_needs table.now ssa.now deps.now
+        plan.now) (λ v. get_or own.now v false) (needs_of table.now ssa.now deps.now pack.now)) }
+    ensures apart { IfOk result (λ r. r ≡ false → IsApart (node_needs table.now ssa.now deps.now
+        plan.now) (λ v. get_or own.now v false) (needs_of table.now ssa.now deps.now pack.now)
+        marks.new) }
 {
     match pack {
         Pack::Stores(units) => {
@@ -168,12 +178,18 @@ fn reaches_by(
     marks: &mut [bool],
 ) -> Result<bool, AllocError>
     requires names { NameUnits ssa.now deps.now }
-    requires packed { AreMarks (arguments ssa.now + length ssa.now.units) (is_in_plan plan.now) packed.now }
+    requires packed { AreMarks (arguments ssa.now + length ssa.now.units) (is_in_plan plan.now)
+        packed.now }
     requires own { own.old ≡ replicate (arguments ssa.now + length ssa.now.units) false }
     requires long { length marks.old ≡ arguments ssa.now + length ssa.now.units }
-    requires settled { IsSettled (node_needs table.now ssa.now deps.now plan.now) (λ v. is_in v (units_of pack.now)) marks.old }
-    ensures way { IfOk result (λ r. r ≡ true → HasWay (node_needs table.now ssa.now deps.now plan.now) (λ v. is_in v (units_of pack.now)) (needs_of table.now ssa.now deps.now pack.now)) }
-    ensures apart { IfOk result (λ r. r ≡ false → LeadsApart (node_needs table.now ssa.now deps.now plan.now) (λ v. is_in v (units_of pack.now)) (needs_of table.now ssa.now deps.now pack.now)) }
+    requires settled { IsSettled (node_needs table.now ssa.now deps.now plan.now) (λ v. is_in v
+        (units_of pack.now)) marks.old }
+    ensures way { IfOk result (λ r. r ≡ true → HasWay (node_needs table.now ssa.now deps.now
+        plan.now) (λ v. is_in v (units_of pack.now)) (needs_of table.now ssa.now deps.now
+        pack.now)) }
+    ensures apart { IfOk result (λ r. r ≡ false → LeadsApart (node_needs table.now ssa.now deps.now
+        plan.now) (λ v. is_in v (units_of pack.now)) (needs_of table.now ssa.now deps.now
+        pack.now)) }
 {
     mark_pack(own, pack);
     needs_reach(alloc, table, ssa, deps, plan, packed, own, pack, marks)
@@ -194,10 +210,15 @@ pub(crate) fn reaches_itself(
     requires names { NameUnits ssa.now deps.now }
     requires end { end ≡ arguments ssa.now + length ssa.now.units }
     requires packed { AreMarks end (is_in_plan plan.now) packed.now }
-    requires floor { IsFloor (node_needs table.now ssa.now deps.now plan.now) (λ v. is_in v (units_of pack.now)) floor }
+    requires floor { IsFloor (node_needs table.now ssa.now deps.now plan.now) (λ v. is_in v
+        (units_of pack.now)) floor }
     requires inside { floor ≤ end }
-    ensures way { IfOk result (λ r. r ≡ true → HasWay (node_needs table.now ssa.now deps.now plan.now) (λ v. is_in v (units_of pack.now)) (needs_of table.now ssa.now deps.now pack.now)) }
-    ensures apart { IfOk result (λ r. r ≡ false → LeadsApart (node_needs table.now ssa.now deps.now plan.now) (λ v. is_in v (units_of pack.now)) (needs_of table.now ssa.now deps.now pack.now)) }
+    ensures way { IfOk result (λ r. r ≡ true → HasWay (node_needs table.now ssa.now deps.now
+        plan.now) (λ v. is_in v (units_of pack.now)) (needs_of table.now ssa.now deps.now
+        pack.now)) }
+    ensures apart { IfOk result (λ r. r ≡ false → LeadsApart (node_needs table.now ssa.now deps.now
+        plan.now) (λ v. is_in v (units_of pack.now)) (needs_of table.now ssa.now deps.now
+        pack.now)) }
 {
     let mut own = clear_marks(alloc, end)?;
     let mut marks = marks_below(alloc, end, floor)?;
@@ -276,7 +297,8 @@ pub fn stays_plan(
 ) -> Result<bool, AllocError>
     requires names { NameUnits ssa.now deps.now }
     requires free { IsFree table.now ssa.now deps.now plan.now }
-    ensures { IfOk result (λ b. b ≡ stays_plan (packing [] table.now ssa.now deps.now) plan.now pack.now) }
+    ensures { IfOk result (λ b. b ≡ stays_plan (packing [] table.now ssa.now deps.now) plan.now
+        pack.now) }
 {
     let marks = PlanMarks::new(alloc, ssa, plan)?;
     marks.stays_plan(alloc, plan, pack, table, ssa, deps)

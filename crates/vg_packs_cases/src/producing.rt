@@ -1,7 +1,7 @@
 //! The packs that produce operands.
 
 ghost use Rattle.std.specs.Prelude.{◌≡◌, [], IfOk};
-ghost use Rattle.vg_packing.specs.Taken.{MatchesNear};
+ghost use Rattle.vg_kernel_plans.specs.Taken.{MatchesNear};
 
 use crate::shown::{numbered, shown};
 use std::alloc::{AllocError, Global};

@@ -10,8 +10,8 @@ use Rattle.vg_shapes.specs.declared.ssa.Ssa.{Ssa}
 use Rattle.vg_shapes.specs.declared.ssa.SsaParam.{SsaParam}
 use Rattle.vg_shapes.specs.declared.ssa.SsaParamKind.{SsaParamKind}
 use Rattle.vg_shapes.specs.declared.ssa.SsaParamKind.TheVariants.{Pointer, Integer}
-use Rattle.vg_shapes.specs.declared.unit.Unit.{Unit as Work}
-use Rattle.vg_shapes.specs.declared.unit.Unit.TheVariants.{Load, Store, Operation}
+use Rattle.vg_shapes.specs.declared.ssa_unit.SsaUnit.{SsaUnit}
+use Rattle.vg_shapes.specs.declared.ssa_unit.SsaUnit.TheVariants.{Load, Store, Operation}
 use Rattle.vg_shapes.specs.Layout.{access_of, noalias_flags, noalias_of}
 use Rattle.vg_shapes.specs.Order.{numbers_from}
 use Rattle.vg_shapes.specs.Sound.{IsSound, IsUnit, is_store, pointers}
@@ -85,7 +85,7 @@ pointer_of None = 0
 pointer_of (Some None) = 0
 pointer_of (Some (Some x)) = x.address.pointer
 
-access-inside : (ssa : Ssa) (us : List Work) → AllByRecursion (IsUnit ssa) us → (k : ℕ) (x : Access) → slice_get (map access_of us) k ≡ Some (Some x) → x.address.pointer < length (pointers ssa)
+access-inside : (ssa : Ssa) (us : List SsaUnit) → AllByRecursion (IsUnit ssa) us → (k : ℕ) (x : Access) → slice_get (map access_of us) k ≡ Some (Some x) → x.address.pointer < length (pointers ssa)
 access-inside ssa [] all k x e = absurd (cc)
 access-inside ssa (Load a w ∷ us) all zero x e = let same : a.pointer ≡ x.address.pointer = ap pointer_of e in let small = all.0.pointer in omega arith
 access-inside ssa (Store a w v ∷ us) all zero x e = let same : a.pointer ≡ x.address.pointer = ap pointer_of e in let small = all.0.0.pointer in omega arith
@@ -111,11 +111,11 @@ sound-flags ssa flags sound is = omega (arith, ap length is, flags-few ssa.param
 pub sound-arguments : (ssa : Ssa) → IsSound ssa → arguments ssa ≤ 16
 sound-arguments ssa sound = let few = integers-few ssa.params in let most = sound.params in omega arith
 
-unit-more : (b : Bool) (u : Work) (ps qs : List Work) → length (if b then u ∷ ps else ps) + length (if not b then u ∷ qs else qs) ≡ suc (length ps + length qs)
+unit-more : (b : Bool) (u : SsaUnit) (ps qs : List SsaUnit) → length (if b then u ∷ ps else ps) + length (if not b then u ∷ qs else qs) ≡ suc (length ps + length qs)
 unit-more true u ps qs = omega arith
 unit-more false u ps qs = omega arith
 
-units-parted : (us : List Work) → length (filter is_store us) + length (filter (λ u. not (is_store u)) us) ≡ length us
+units-parted : (us : List SsaUnit) → length (filter is_store us) + length (filter (λ u. not (is_store u)) us) ≡ length us
 units-parted [] = omega arith
 units-parted (u ∷ us) = unit-more (is_store u) u (filter is_store us) (filter (λ v. not (is_store v)) us) ∙ ap suc (units-parted us)
 

@@ -12,12 +12,12 @@ use crate::byte_label::ByteLabel;
 use std::alloc::{AllocError, Global};
 use vg_base::Address;
 use vg_program::Line;
-use vg_shapes::{Access, Unit};
+use vg_shapes::{Access, SsaUnit};
 
 /// What units access, in their order.
 pub(crate) fn unit_accesses(
     alloc: Global,
-    units: &[Unit],
+    units: &[SsaUnit],
 ) -> Result<Vec<Option<Access>>, AllocError>
     ensures { IfOk result (λ xs. xs.items ≡ map access_of units.now) }
 {
@@ -84,7 +84,8 @@ pub(crate) fn byte_labels(
 }
 
 pub(crate) fn push_any(all: &mut Vec<ByteLabel>, access: Option<Access>) -> Result<(), AllocError>
-    ensures { OnOk result (map label_of all.new.items ≡ map label_of all.old.items ++ labels_in access) }
+    ensures { OnOk result (map label_of all.new.items ≡ map label_of all.old.items ++ labels_in
+        access) }
 {
     match access {
         None => Ok(()),
@@ -93,7 +94,8 @@ pub(crate) fn push_any(all: &mut Vec<ByteLabel>, access: Option<Access>) -> Resu
 }
 
 fn push_labels(all: &mut Vec<ByteLabel>, access: Access) -> Result<(), AllocError>
-    ensures { OnOk result (map label_of all.new.items ≡ map label_of all.old.items ++ labels_of access) }
+    ensures { OnOk result (map label_of all.new.items ≡ map label_of all.old.items ++ labels_of
+        access) }
 {
     'bytes: for byte in 0..access.size {
         all.push(ByteLabel::of(access, byte))?;

@@ -53,7 +53,8 @@ fn with_left(least: Option<ByteLabel>, left: usize, label: ByteLabel) -> Option<
 
 /// How many events each label has.
 fn tally(alloc: Global, labels: &[ByteLabel]) -> Result<LabelNumbers, AllocError>
-    ensures { IfOk result (λ n. (l : Label) → number_of n l ≡ count_label l (map label_of labels.now)) }
+    ensures { IfOk result (λ n. (l : Label) → number_of n l ≡ count_label l (map label_of
+        labels.now)) }
 {
     let mut counts = LabelNumbers::new(alloc);
     'labels: for label in labels {
@@ -117,8 +118,8 @@ impl Balance {
 
     /// The least label of which there are more on one side, where these are the labels of the kernel.
     pub(crate) fn least(&self, labels: &[ByteLabel]) -> Option<ByteLabel>
-        ensures { WithLeft self.now.left (map label_of labels.now) (option_map label_of self.now.least)
-            (option_map label_of result) }
+        ensures { WithLeft self.now.left (map label_of labels.now) (option_map label_of
+            self.now.least) (option_map label_of result) }
     {
         let mut least = self.least;
         'labels: for label in labels {

@@ -95,7 +95,8 @@ impl Heads {
 
     /// Takes the next event of a label.
     fn take(&mut self, label: ByteLabel) -> Result<usize, AllocError>
-        ensures { IfOk result (λ event. Pairs self.old self.new (label_of label ∷ []) (event ∷ [])) }
+        ensures { IfOk result (λ event. Pairs self.old self.new (label_of label ∷ []) (event ∷
+            [])) }
     {
         let all = self.next.as_slice();
         let count = all.len();

@@ -101,7 +101,8 @@ fn is_noted_through_any(
     line: usize,
     pointers: u32,
 ) -> bool
-    ensures { result ≡ any_below pointers (is_noted_through flags.now row.now (label_of label) line) }
+    ensures { result ≡ any_below pointers (is_noted_through flags.now row.now (label_of label)
+        line) }
 {
     let mut left = pointers;
     'pointers: while left > 0 {

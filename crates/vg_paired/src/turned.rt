@@ -143,8 +143,8 @@ fn put_all(
     requires order { first ≤ last }
     requires inside { last ≤ length labels.now }
     requires lines { length lines.now ≡ length labels.now }
-    ensures { OnOk result
-        (PutsBefore (map label_of labels.now) (slice_index lines.now) first last rows.old rows.new) }
+    ensures { OnOk result (PutsBefore (map label_of labels.now) (slice_index lines.now) first last
+        rows.old rows.new) }
 {
     let mut left = last;
     'events: while left > first {

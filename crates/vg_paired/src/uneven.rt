@@ -47,8 +47,8 @@ fn uneven_access(
     kernel: &[Option<Access>],
     lines: &[Option<Access>],
 ) -> Result<Option<Uneven>, AllocError>
-    ensures { IfOk result
-        (λ found. option_map access_of found ≡ uneven_label (labels kernel.now) (labels lines.now)) }
+    ensures { IfOk result (λ found. option_map access_of found ≡ uneven_label (labels kernel.now)
+        (labels lines.now)) }
 {
     let all = byte_labels(alloc, kernel)?;
     let labels = all.as_slice();

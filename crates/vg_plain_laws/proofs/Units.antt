@@ -8,7 +8,7 @@ use Rattle.vg_plans.proofs.Members.{has-append, Unique}
 use Rattle.vg_shapes.specs.declared.match_table.Bound.{Bound}
 use Rattle.vg_shapes.specs.declared.match_table.Match.{Match}
 use Rattle.vg_shapes.specs.declared.operand.Operand.{Operand}
-use Rattle.vg_shapes.specs.declared.pack.Pack.{Pack as Packed}
+use Rattle.vg_shapes.specs.declared.pack.Pack.{Pack}
 use Rattle.vg_shapes.specs.declared.pack.Pack.TheVariants.{Stores, Loads, Call}
 use Rattle.vg_shapes.specs.declared.ssa.Ssa.{Ssa}
 use Rattle.vg_shapes.specs.Description.{Description}
@@ -18,17 +18,17 @@ use Rattle.vg_shapes.specs.Order.{count_of, one_if}
 use Rattle.vg_shapes.specs.Pack.{bounds_from, units_of}
 use Rattle.vg_shapes.specs.Sound.{IsSound}
 use Rattle.vg_shapes.specs.Units.{is_unit}
-use Rattle.vg_packing.specs.Fed.{unfed}
-use Rattle.vg_packing.specs.Held.{lanes_from}
-use Rattle.vg_packing.specs.Packing.{falling_units, packing}
-use Rattle.vg_packing.specs.Producers.{call_producer, call_producers, can_be_produced, lanes_for, load_producer}
-use Rattle.vg_packing.specs.SameAs.{same_slot}
-use Rattle.vg_packing.specs.Taken.{operands_from, operands_of, params_of}
-use Rattle.vg_packing.specs.Wants.{wanted_slots, wanted_values}
-use Rattle.vg_packing.proofs.FedPlans.{may-be-fed}
-use Rattle.vg_packing.proofs.Inside.{units-counted, units-listed}
-use Rattle.vg_packing.proofs.SameTests.{both-true, eq-itself, list-is, slot-is}
-use Rattle.vg_packing.proofs.Tried.{if-has, tried-unfed}
+use Rattle.vg_kernel_plans.specs.Fed.{unfed}
+use Rattle.vg_kernel_plans.specs.Held.{lanes_from}
+use Rattle.vg_kernel_plans.specs.Packing.{falling_units, packing}
+use Rattle.vg_kernel_plans.specs.Producers.{call_producer, call_producers, can_be_produced, lanes_for, load_producer}
+use Rattle.vg_kernel_plans.specs.SameAs.{same_slot}
+use Rattle.vg_kernel_plans.specs.Taken.{operands_from, operands_of, params_of}
+use Rattle.vg_kernel_plans.specs.Wants.{wanted_slots, wanted_values}
+use Rattle.vg_kernel_plans.proofs.FedPlans.{may-be-fed}
+use Rattle.vg_kernel_plans.proofs.Inside.{units-counted, units-listed}
+use Rattle.vg_kernel_plans.proofs.SameTests.{both-true, eq-itself, list-is, slot-is}
+use Rattle.vg_kernel_plans.proofs.Tried.{if-has, tried-unfed}
 use Rattle.vg_packs.specs.Laws.{IsGroup}
 use Rattle.vg_packs.proofs.Once.{groups-listed}
 use Rattle.vg_plan_relations.proofs.Exact.{has-two}
@@ -50,18 +50,18 @@ params-few (x ∷ ds) (suc d) few = params-few ds d few.1
 
 module _ (ds : List Description) (matches : List Match) (ssa : Ssa) where
   -- at most two operands for each unit
-  abbrev TakesTwo : Packed → Type 0
+  abbrev TakesTwo : Pack → Type 0
   TakesTwo p = length (operands_of ds matches ssa p) ≤ 2 * length (units_of p)
 
-  group-two : (p : Packed) → IsGroup ssa p → TakesTwo p
+  group-two : (p : Pack) → IsGroup ssa p → TakesTwo p
   group-two (Stores us) is = (let some : 2 ≤ length us = is.6 in omega (arith, some))
   group-two (Loads us) is = absurd is
   group-two (Call d lanes) is = absurd is
 
-  load-two : (o : Operand) (p : Packed) → Has p (load_producer ssa o) → TakesTwo p
+  load-two : (o : Operand) (p : Pack) → Has p (load_producer ssa o) → TakesTwo p
   load-two o p h = subst TakesTwo (if-has _ (Loads (wanted_values o)) p h).1 (omega arith)
 
-  call-two : (few : TakeFew ds) (o : Operand) (p : Packed) (d : ℕ) (es : List Description)
+  call-two : (few : TakeFew ds) (o : Operand) (p : Pack) (d : ℕ) (es : List Description)
       → Has p (call_producers ds matches ssa o d es) → TakesTwo p
   call-two few o p d [] h = absurd h
   call-two few o p d (e ∷ es) h =

@@ -5,14 +5,14 @@ use Rattle.vg_plans.specs.Members.{Has}
 use Rattle.vg_plans.specs.PlainPlan.{plain_plan, with_groups}
 use Rattle.vg_shapes.specs.declared.match_table.Match.{Match}
 use Rattle.vg_shapes.specs.declared.operand.Operand.{Operand}
-use Rattle.vg_shapes.specs.declared.pack.Pack.{Pack as Packed}
+use Rattle.vg_shapes.specs.declared.pack.Pack.{Pack}
 use Rattle.vg_shapes.specs.declared.ssa.Ssa.{Ssa}
 use Rattle.vg_shapes.specs.Description.{Description}
 use Rattle.vg_shapes.specs.Matches.{AreMatches}
 use Rattle.vg_shapes.specs.Sound.{IsSound}
-use Rattle.vg_packing.specs.Groups.{store_groups}
-use Rattle.vg_packing.specs.Packing.{packing, plain_of}
-use Rattle.vg_packing.specs.Taken.{operands_of}
+use Rattle.vg_kernel_plans.specs.Groups.{store_groups}
+use Rattle.vg_kernel_plans.specs.Packing.{packing, plain_of}
+use Rattle.vg_kernel_plans.specs.Taken.{operands_of}
 use Rattle.vg_plain_laws.specs.Walk.{IsTried, WalksTo}
 
 -- instances of at most four parameters
@@ -20,7 +20,7 @@ abbrev pub TakeFew : List Description → Type 0
 TakeFew ds = AllByRecursion (λ d. length d.params ≤ 4) ds
 
 -- the store groups that can be had, with which the plain plan starts
-abbrev pub started : List Description → List Match → Ssa → List (ℕ × ℕ) → List Packed
+abbrev pub started : List Description → List Match → Ssa → List (ℕ × ℕ) → List Pack
 started ds matches ssa deps = with_groups (packing ds matches ssa deps) [] (store_groups ssa)
 
 -- The plain plan ends because nothing is left to try, never because its turns are used up: it is
@@ -33,7 +33,7 @@ pub record LeavesNothing
       (flat_map (operands_of ds matches ssa) (started ds matches ssa deps)) (plain_of ds matches ssa deps)
   pub stays : (turns : ℕ) → 2 * length ssa.units ≤ turns
       → plain_plan (packing ds matches ssa deps) turns ≡ plain_of ds matches ssa deps
-  pub tried : (p : Packed) (o : Operand) → Has p (plain_of ds matches ssa deps) → Has o (operands_of ds matches ssa p)
+  pub tried : (p : Pack) (o : Operand) → Has p (plain_of ds matches ssa deps) → Has o (operands_of ds matches ssa p)
       → IsTried (packing ds matches ssa deps) (plain_of ds matches ssa deps) o
 
 -- so for each sound kernel and all matches of instances of at most four parameters

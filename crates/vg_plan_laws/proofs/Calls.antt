@@ -5,7 +5,7 @@ use Rattle.std.specs.Option.{option_map_or}
 use Rattle.vg_plans.proofs.Lists.{take-whole}
 use Rattle.vg_shapes.specs.declared.pack.Pack.TheVariants.{Call, Stores}
 use Rattle.vg_shapes.specs.declared.ssa.Ssa.{Ssa}
-use Rattle.vg_shapes.specs.declared.unit.Unit.{Unit as Work}
+use Rattle.vg_shapes.specs.declared.ssa_unit.SsaUnit.{SsaUnit}
 use Rattle.vg_shapes.specs.Description.{Description}
 use Rattle.vg_shapes.specs.Pack.{bounds_from}
 use Rattle.vg_shapes.specs.RunUnits.{Reached, run_units, start_of}
@@ -13,7 +13,7 @@ use Rattle.vg_shapes.specs.Sound.{IsSound}
 use Rattle.vg_shapes.specs.Units.{arguments, integers}
 use Rattle.vg_match.specs.Laws.{TermsHave}
 use Rattle.vg_match.proofs.Laws.{reached-have}
-use Rattle.vg_packing.specs.Taken.{operands_from, operands_of}
+use Rattle.vg_kernel_plans.specs.Taken.{operands_from, operands_of}
 use Rattle.vg_emission.specs.Emission.{Job, no_description, operand_at, pack_at, takes_at}
 use Rattle.vg_emission.specs.Laws.{IsRun}
 use Rattle.vg_emission.specs.Program.{job_of}
@@ -44,7 +44,7 @@ given ssa places memory args last sound run =
           run-long places ssa.units (start_of memory args) last run.runs ∙ ap
           (λ n. n + length ssa.units) started;
       have = reached-have ssa places memory args (length ssa.units) last sound run.bytes run.arguments
-          (ap (λ (us : List Work). run_units places us (start_of memory args)) whole ∙ run.runs);
+          (ap (λ (us : List SsaUnit). run_units places us (start_of memory args)) whole ∙ run.runs);
     }
 
 pub runs-stay : RunsStayInWidths

@@ -10,17 +10,17 @@ use Rattle.vg_program.specs.Meaning.{Instructions}
 use Rattle.vg_pseudo.specs.declared.header.Header.{Header}
 use Rattle.vg_shapes.specs.declared.match_table.Match.{Match}
 use Rattle.vg_shapes.specs.declared.order.Node.{Node}
-use Rattle.vg_shapes.specs.declared.pack.Pack.{Pack as Packed}
+use Rattle.vg_shapes.specs.declared.pack.Pack.{Pack}
 use Rattle.vg_shapes.specs.declared.ssa.Ssa.{Ssa}
 use Rattle.vg_shapes.specs.Description.{Description}
 use Rattle.vg_shapes.specs.Nodes.{IsOrder}
 use Rattle.vg_shapes.specs.Sound.{is_store}
-use Rattle.vg_packing.specs.Completed.{chosen_fed_of}
-use Rattle.vg_packing.specs.Fed.{IsFedPlanFor, fed_aligned, unfed}
-use Rattle.vg_packing.specs.Packing.{chosen_of, falling_units, packing, plain_of, sizes_of}
-use Rattle.vg_packing.proofs.FedPlans.{fed-fits, may-be-fed}
-use Rattle.vg_packing.proofs.Inside.{units-counted}
-use Rattle.vg_packing.proofs.Least.{least-first}
+use Rattle.vg_kernel_plans.specs.Completed.{chosen_fed_of}
+use Rattle.vg_kernel_plans.specs.Fed.{IsFedPlanFor, fed_aligned, unfed}
+use Rattle.vg_kernel_plans.specs.Packing.{chosen_of, falling_units, packing, plain_of, sizes_of}
+use Rattle.vg_kernel_plans.proofs.FedPlans.{fed-fits, may-be-fed}
+use Rattle.vg_kernel_plans.proofs.Inside.{units-counted}
+use Rattle.vg_kernel_plans.proofs.Least.{least-first}
 use Rattle.vg_emission.specs.Fit.{HasHeader}
 use Rattle.vg_gather.specs.Recipes.{planned_program}
 use Rattle.vg_plan_laws.specs.Laws.{AreKnown, AreTrue, ChosenFedProgramsAreRight, ChosenProgramsAreRight, IsChosenProgram, KernelsAreSmall}
@@ -72,7 +72,7 @@ module _ (ds : List Description) (matches : List Match) (ssa : Ssa) (deps : List
 
 -- the program of a plan that costs no more than there are units
 program-is : (called : Instructions) (headers : List Header) (ds : List Description)
-    (matches : List Match) (ssa : Ssa) (deps : List (ℕ × ℕ)) (plan : List Packed) (order : List Node)
+    (matches : List Match) (ssa : Ssa) (deps : List (ℕ × ℕ)) (plan : List Pack) (order : List Node)
     → AreKnown ds matches ssa → AreTrue called ds → AllByRecursion (HasHeader headers) ds
     → IsFedPlanFor ds matches ssa deps plan
     → plan_cost (packing ds matches ssa deps) plan ≤ length ssa.units

@@ -30,10 +30,10 @@ use Rattle.vg_shapes.specs.Sound.{IsSound}
 use Rattle.vg_shapes.specs.Units.{arguments}
 use Rattle.vg_match.specs.Laws.{HasNumber, TermsHave}
 use Rattle.vg_match.proofs.Laws.{lanes-have-numbers}
-use Rattle.vg_packing.specs.Producers.{are_matched}
-use Rattle.vg_packing.specs.Taken.{operands_from, slot_of, slots_of}
-use Rattle.vg_packing.specs.Wants.{is_wanted}
-use Rattle.vg_packing.proofs.SameTests.{both-true}
+use Rattle.vg_kernel_plans.specs.Producers.{are_matched}
+use Rattle.vg_kernel_plans.specs.Taken.{operands_from, slot_of, slots_of}
+use Rattle.vg_kernel_plans.specs.Wants.{is_wanted}
+use Rattle.vg_kernel_plans.proofs.SameTests.{both-true}
 use Rattle.vg_emission.specs.Promises.{Fills, IsWanted, LanesHave, SlotHas}
 use Rattle.vg_emission.specs.Truth.{Answers, AreRegisters, LanesMean}
 use Rattle.vg_program.specs.Meaning.{lane_number}

@@ -17,10 +17,10 @@ use Rattle.vg_terms.specs.Value.{same_key}
 use Rattle.vg_shapes.specs.declared.match_table.Bound.{Bound}
 use Rattle.vg_shapes.specs.declared.leaf.Leaf.{Leaf}
 use Rattle.vg_shapes.specs.declared.ssa.Ssa.{Ssa}
-use Rattle.vg_shapes.specs.declared.unit.Operands.{Operands}
-use Rattle.vg_shapes.specs.declared.unit.Operator.{Operator}
-use Rattle.vg_shapes.specs.declared.unit.Unit.{Unit as Work}
-use Rattle.vg_shapes.specs.declared.unit.Unit.TheVariants.{Load, Store, Operation}
+use Rattle.vg_shapes.specs.declared.ssa_unit.Operands.{Operands}
+use Rattle.vg_shapes.specs.declared.ssa_unit.Operator.{Operator}
+use Rattle.vg_shapes.specs.declared.ssa_unit.SsaUnit.{SsaUnit}
+use Rattle.vg_shapes.specs.declared.ssa_unit.SsaUnit.TheVariants.{Load, Store, Operation}
 use Rattle.vg_shapes.specs.declared.wanted.Wanted.{Wanted}
 use Rattle.vg_shapes.specs.declared.wanted.Wanted.TheVariants.{Value, Constant, Nothing}
 use Rattle.vg_shapes.specs.Fits.{EachLeaf, FitsBy, FitsWide, has_leaf, is_compound, replaced, same_leaf, StandsFor, turned, turned_at, wanted_for}
@@ -34,7 +34,7 @@ use Rattle.vg_shapes.proofs.ValueTerms.{IsArgumentTerm, IsWorkTerm, known, known
 use Rattle.vg_shapes.proofs.WholeTables.{none-cut, none-turned}
 use Rattle.vg_match.proofs.Binding.{leaf-itself, leaf-same}
 use Rattle.vg_match.proofs.Laws.{by-way}
-use Rattle.vg_packing.specs.Wants.{is_wanted}
+use Rattle.vg_kernel_plans.specs.Wants.{is_wanted}
 use Rattle.vg_plan_laws.proofs.Terms.{term-known, term-width, went}
 
 -- ---- leaves
@@ -221,7 +221,7 @@ operated ssa v t (inl a) c =
     absurd (let no : is_compound t ≡ false = ap is_compound a.3 in cc)
 operated ssa v t (inr w) c = work w.0 w.1 w.2
   where
-    work : (u : Work) → unit_at ssa v ≡ Some u → IsUnitTerm v u t → IsOperated ssa v t
+    work : (u : SsaUnit) → unit_at ssa v ≡ Some u → IsUnitTerm v u t → IsOperated ssa v t
     work (Load a w) e is = absurd (let no : is_compound t ≡ false = ap is_compound is in cc)
     work (Store a w x) e is = absurd (let no : is_compound t ≡ false = ap is_compound is in cc)
     work (Operation op w k xs) e is =
@@ -293,7 +293,7 @@ names-widen ssa cuts v t e c =
           by cut.0 u.0 u.1 u.2 (of-unit cut.0 told u.0 u.1)
     ]
   where
-    of-unit : (s : Tree) → IsArgumentTerm ssa v s ⊎ IsWorkTerm ssa v s → (u : Work)
+    of-unit : (s : Tree) → IsArgumentTerm ssa v s ⊎ IsWorkTerm ssa v s → (u : SsaUnit)
         → unit_at ssa v ≡ Some u → IsUnitTerm v u s
     of-unit s (inl a) u g =
         absurd (none-some u (sym (cond-true _ _ _ (lt-ltb v (arguments ssa) a.1)) ∙ g))
@@ -302,7 +302,7 @@ names-widen ssa cuts v t e c =
         let own : w.0 ≡ u = cc in
         subst (λ x. IsUnitTerm v x s) own w.2
 
-    by : (s : Tree) (u : Work) → unit_at ssa v ≡ Some u → unit_name v s u ≡ Some t
+    by : (s : Tree) (u : SsaUnit) → unit_at ssa v ≡ Some u → unit_name v s u ≡ Some t
         → IsUnitTerm v u s → value_bits ssa v ≡ Some (width_of t)
     by s (Load a w) g name is =
         unit-width ssa v (Load a w) g

@@ -9,14 +9,14 @@ use Rattle.vg_base.specs.declared.width.Width.{Width}
 use Rattle.vg_base.specs.declared.width.Width.TheVariants.{W8, W16, W32, W64}
 use Rattle.vg_base.specs.Width.{bits_of, size_of}
 use Rattle.vg_shapes.specs.declared.ssa.Ssa.{Ssa}
-use Rattle.vg_shapes.specs.declared.unit.Unit.TheVariants.{Store}
+use Rattle.vg_shapes.specs.declared.ssa_unit.SsaUnit.TheVariants.{Store}
 use Rattle.vg_shapes.specs.declared.wanted.Wanted.{Wanted}
 use Rattle.vg_shapes.specs.declared.wanted.Wanted.TheVariants.{Value, Constant, Nothing}
 use Rattle.vg_shapes.specs.Operands.{AreSlots, IsOperand, MayBeWanted}
 use Rattle.vg_shapes.specs.Pack.{AreStores, behind, is_pack_size, IsStoreGroup}
 use Rattle.vg_shapes.specs.Sound.{IsNumber, IsSound}
 use Rattle.vg_shapes.specs.Units.{unit_at}
-use Rattle.vg_packing.specs.Taken.{first_width, group_operand, register_for, register_of_bytes, slots_from, stored, unit_width}
+use Rattle.vg_kernel_plans.specs.Taken.{first_width, group_operand, register_for, register_of_bytes, slots_from, stored, unit_width}
 use Rattle.vg_plan_relations.proofs.Loading.{bytes-same}
 use Rattle.vg_plan_laws.proofs.Terms.{unit-is}
 

@@ -7,10 +7,10 @@ use Rattle.vg_program.specs.Meaning.{Instructions}
 use Rattle.vg_shapes.specs.declared.operand.Operand.{Operand}
 use Rattle.vg_shapes.specs.declared.pack.Pack.TheVariants.{Call}
 use Rattle.vg_shapes.specs.Operands.{IsOperand}
-use Rattle.vg_packing.specs.declared.recipe.Recipe.{Recipe}
-use Rattle.vg_packing.specs.declared.recipe.Recipe.TheVariants as recipe
-use Rattle.vg_packing.specs.Held.{holds}
-use Rattle.vg_packing.specs.Wants.{is_constant}
+use Rattle.vg_kernel_plans.specs.declared.recipe.Recipe.{Recipe}
+use Rattle.vg_kernel_plans.specs.declared.recipe.Recipe.TheVariants as recipe
+use Rattle.vg_kernel_plans.specs.Held.{holds}
+use Rattle.vg_kernel_plans.specs.Wants.{is_constant}
 use Rattle.vg_emission.specs.Emission.{Job, no_description, operand_at, pack_at}
 use Rattle.vg_emission.specs.Program.{operands_in}
 use Rattle.vg_emission.specs.Promises.{RecipeFills}

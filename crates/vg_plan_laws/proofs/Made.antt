@@ -17,23 +17,23 @@ use Rattle.vg_plans.proofs.Lists.{every-append}
 use Rattle.vg_plans.proofs.Members.{from-filter, has-append, Unique}
 use Rattle.vg_shapes.specs.declared.match_table.Match.{Match}
 use Rattle.vg_shapes.specs.declared.operand.Operand.{Operand}
-use Rattle.vg_shapes.specs.declared.pack.Pack.{Pack as Packed}
+use Rattle.vg_shapes.specs.declared.pack.Pack.{Pack}
 use Rattle.vg_shapes.specs.declared.pack.Pack.TheVariants.{Stores, Loads, Call}
 use Rattle.vg_shapes.specs.declared.ssa.Ssa.{Ssa}
-use Rattle.vg_shapes.specs.declared.unit.Unit.TheVariants.{Load, Store}
+use Rattle.vg_shapes.specs.declared.ssa_unit.SsaUnit.TheVariants.{Load, Store}
 use Rattle.vg_shapes.specs.declared.wanted.Wanted.{Wanted}
 use Rattle.vg_shapes.specs.Description.{Description}
 use Rattle.vg_shapes.specs.Pack.{AreLoads, AreStores, behind, units_of}
 use Rattle.vg_shapes.specs.Units.{unit_at}
-use Rattle.vg_packing.specs.declared.choice.Choice.{Choice}
-use Rattle.vg_packing.specs.Fed.{fed, packing_by}
-use Rattle.vg_packing.specs.Held.{lanes_from}
-use Rattle.vg_packing.specs.LoadGroups.{feeders}
-use Rattle.vg_packing.specs.Producers.{are_matched, call_producer, call_producers, can_be_produced, lanes_for, load_producer, producers}
-use Rattle.vg_packing.specs.SameAs.{same_slot}
-use Rattle.vg_packing.specs.Wants.{wanted_slots, wanted_values}
-use Rattle.vg_packing.proofs.SameTests.{both-true, eq-itself, list-is, slot-is}
-use Rattle.vg_packing.proofs.Tried.{IsTried, feeder-group, feeds, group, if-has, is-tried, produces}
+use Rattle.vg_kernel_plans.specs.declared.choice.Choice.{Choice}
+use Rattle.vg_kernel_plans.specs.Fed.{fed, packing_by}
+use Rattle.vg_kernel_plans.specs.Held.{lanes_from}
+use Rattle.vg_kernel_plans.specs.LoadGroups.{feeders}
+use Rattle.vg_kernel_plans.specs.Producers.{are_matched, call_producer, call_producers, can_be_produced, lanes_for, load_producer, producers}
+use Rattle.vg_kernel_plans.specs.SameAs.{same_slot}
+use Rattle.vg_kernel_plans.specs.Wants.{wanted_slots, wanted_values}
+use Rattle.vg_kernel_plans.proofs.SameTests.{both-true, eq-itself, list-is, slot-is}
+use Rattle.vg_kernel_plans.proofs.Tried.{IsTried, feeder-group, feeds, group, if-has, is-tried, produces}
 use Rattle.vg_packs.proofs.Once.{groups-listed}
 use Rattle.vg_plan_relations.specs.Produces.{Produces}
 use Rattle.vg_plan_relations.proofs.Calling.{lanes-count}
@@ -44,7 +44,7 @@ use Rattle.vg_plan_laws.specs.Made.{IsMade}
 
 -- a pack that is made, no unit of which stands twice
 pub record IsSingle
-    (ds : List Description) (matches : List Match) (ssa : Ssa) (p : Packed)
+    (ds : List Description) (matches : List Match) (ssa : Ssa) (p : Pack)
     : Type 0 where
   pub made : IsMade ds matches ssa p
   pub once : Unique (units_of p)
@@ -141,7 +141,7 @@ loads-unique ssa w a (u ∷ us) are = (
 
 -- ---- packs that are tried
 
-load-single : (ds : List Description) (matches : List Match) (ssa : Ssa) (o : Operand) (p : Packed)
+load-single : (ds : List Description) (matches : List Match) (ssa : Ssa) (o : Operand) (p : Pack)
     → Has p (load_producer ssa o) → IsSingle ds matches ssa p
 load-single ds matches ssa o p h =
     let a = if-has _ (Loads (wanted_values o)) p h in
@@ -152,7 +152,7 @@ load-single ds matches ssa o p h =
       once = differ-unique nat_eq eq-itself (wanted_values o) is.once;
     })
 
-call-single : (ds : List Description) (matches : List Match) (ssa : Ssa) (o : Operand) (p : Packed)
+call-single : (ds : List Description) (matches : List Match) (ssa : Ssa) (o : Operand) (p : Pack)
     (d : ℕ) (es : List Description)
     → ((k : ℕ) (e : Description) → slice_get es k ≡ Some e → slice_get ds (d + k) ≡ Some e)
     → Has p (call_producers ds matches ssa o d es) → IsSingle ds matches ssa p
@@ -189,14 +189,14 @@ call-single ds matches ssa o p d (e ∷ es) there h =
           ≡ Some x) same (there (suc k) x g)) r
     ]
 
-group-single : (ds : List Description) (matches : List Match) (ssa : Ssa) (p : Packed)
+group-single : (ds : List Description) (matches : List Match) (ssa : Ssa) (p : Pack)
     → Rattle.vg_packs.specs.Laws.IsGroup ssa p → IsSingle ds matches ssa p
 group-single ds matches ssa (Stores us) g =
     record { made = g; once = stores-unique ssa g.0 g.1 us g.2 g.4 }
 group-single ds matches ssa (Loads us) g = absurd g
 group-single ds matches ssa (Call d lanes) g = absurd g
 
-produced-single : (ds : List Description) (matches : List Match) (ssa : Ssa) (o : Operand) (p : Packed)
+produced-single : (ds : List Description) (matches : List Match) (ssa : Ssa) (o : Operand) (p : Pack)
     → Has p (producers ds matches ssa o) → IsSingle ds matches ssa p
 produced-single ds matches ssa o p h =
     elim (has-append p (load_producer ssa o) (call_producers ds matches ssa o 0 ds) h) [
@@ -206,7 +206,7 @@ produced-single ds matches ssa o p h =
           ≡ Some e) same g) s
     ]
 
-fed-single : (ds : List Description) (matches : List Match) (ssa : Ssa) (o : Operand) (p : Packed)
+fed-single : (ds : List Description) (matches : List Match) (ssa : Ssa) (o : Operand) (p : Pack)
     → Has p (feeders ssa o) → IsSingle ds matches ssa p
 fed-single ds matches ssa o p h =
     let g = feeder-group ssa o p h in
@@ -218,7 +218,7 @@ fed-single ds matches ssa o p h =
 
 -- whatever is tried
 pub tried-single : (c : Choice) (ds : List Description) (matches : List Match) (ssa : Ssa)
-    (deps : List (ℕ × ℕ)) (plan : List Packed) (p : Packed)
+    (deps : List (ℕ × ℕ)) (plan : List Pack) (p : Pack)
     → Has p (tried (packing_by c ds matches ssa deps) plan) → IsSingle ds matches ssa p
 tried-single c ds matches ssa deps plan p h = of (is-tried c ds matches ssa deps plan p h)
   where
@@ -231,7 +231,7 @@ tried-single c ds matches ssa deps plan p h = of (is-tried c ds matches ssa deps
 
 -- each pack of a plan is made
 pub plan-made : (ds : List Description) (matches : List Match) (ssa : Ssa) (deps : List (ℕ × ℕ))
-    (plan : List Packed)
+    (plan : List Pack)
     → IsPlan (follows (packing_by fed ds matches ssa deps)) plan → Every (IsSingle ds matches ssa) plan
 plan-made ds matches ssa deps _ empty = tt
 plan-made ds matches ssa deps _ (more plan p is has) =

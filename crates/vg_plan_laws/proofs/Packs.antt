@@ -9,7 +9,7 @@ use Rattle.vg_plans.specs.Members.{Every, Has}
 use Rattle.vg_plans.specs.World.{has_no_cycle, is_in, is_packed, stays_plan, tried}
 use Rattle.vg_plans.proofs.Members.{any-is, from-filter, Unique}
 use Rattle.vg_shapes.specs.declared.match_table.Match.{Match}
-use Rattle.vg_shapes.specs.declared.pack.Pack.{Pack as Packed}
+use Rattle.vg_shapes.specs.declared.pack.Pack.{Pack}
 use Rattle.vg_shapes.specs.declared.pack.Pack.TheVariants.{Stores, Loads, Call}
 use Rattle.vg_shapes.specs.declared.ssa.Ssa.{Ssa}
 use Rattle.vg_shapes.specs.Description.{Description}
@@ -20,11 +20,11 @@ use Rattle.vg_shapes.specs.Order.{count_of, one_if}
 use Rattle.vg_shapes.specs.Pack.{match_at, units_of}
 use Rattle.vg_shapes.specs.Sound.{IsSound}
 use Rattle.vg_shapes.specs.Units.{is_unit}
-use Rattle.vg_packing.specs.Fed.{IsFedPlanFor, fed, packing_by}
-use Rattle.vg_packing.specs.Laws.{MatchUnits}
-use Rattle.vg_packing.specs.Producers.{are_matched}
-use Rattle.vg_packing.proofs.Inside.{tried-inside_by}
-use Rattle.vg_packing.proofs.SameTests.{both-true, eq-itself}
+use Rattle.vg_kernel_plans.specs.Fed.{IsFedPlanFor, fed, packing_by}
+use Rattle.vg_kernel_plans.specs.Laws.{MatchUnits}
+use Rattle.vg_kernel_plans.specs.Producers.{are_matched}
+use Rattle.vg_kernel_plans.proofs.Inside.{tried-inside_by}
+use Rattle.vg_kernel_plans.proofs.SameTests.{both-true, eq-itself}
 use Rattle.vg_plan_relations.proofs.Fitting.{found-fit}
 use Rattle.vg_plan_laws.specs.Made.{IsMade}
 use Rattle.vg_plan_laws.proofs.Fitted.{fitted}
@@ -67,7 +67,7 @@ count-append : (v : ℕ) (us vs : List ℕ) → count_of v (us ++ vs) ≡ count_
 count-append v [] vs = omega arith
 count-append v (u ∷ us) vs = let rest = count-append v us vs in omega arith
 
-packed-push : (v : ℕ) (plan : List Packed) (p : Packed)
+packed-push : (v : ℕ) (plan : List Pack) (p : Pack)
     → count_of v (packed (plan ++ p ∷ [])) ≡ count_of v (packed plan) + count_of v (units_of p)
 packed-push v [] p =
     count-append v (units_of p) [] ∙
@@ -81,7 +81,7 @@ packed-push v (q ∷ plan) p =
 -- ---- units of packs
 
 -- a unit that is in no pack of a plan does not stand in them
-outside : (v : ℕ) (plan : List Packed) → list_any (λ p. is_in v (units_of p)) plan ≡ false
+outside : (v : ℕ) (plan : List Pack) → list_any (λ p. is_in v (units_of p)) plan ≡ false
     → count_of v (packed plan) ≡ 0
 outside v [] e = refl
 outside v (p ∷ plan) e =
@@ -122,7 +122,7 @@ stay-once v a (suc b) u low one apart is =
 
 module _ (ds : List Description) (matches : List Match) (ssa : Ssa) (deps : List (ℕ × ℕ))
     (sound : IsSound ssa) (are : AreMatches ds ssa matches) where
-  packed-once : (plan : List Packed) → IsFedPlanFor ds matches ssa deps plan → (v : ℕ)
+  packed-once : (plan : List Pack) → IsFedPlanFor ds matches ssa deps plan → (v : ℕ)
       → count_of v (packed plan) ≤ one_if (is_unit ssa v)
   packed-once _ empty v = omega arith
   packed-once _ (more plan p is has) v =
@@ -169,7 +169,7 @@ matched-operations ds matches ssa d n (Some v ∷ lanes) sound are t =
           (suc n) lanes sound are both.1,
     )
 
-calls-operations : (ds : List Description) (matches : List Match) (ssa : Ssa) (p : Packed)
+calls-operations : (ds : List Description) (matches : List Match) (ssa : Ssa) (p : Pack)
     → IsSound ssa → AreMatches ds ssa matches
     → IsMade ds matches ssa p → CallsOperations ssa p
 calls-operations ds matches ssa (Stores us) sound are made = tt
@@ -183,7 +183,7 @@ all-each P Q f [] h = tt
 all-each P Q f (x ∷ xs) h = (f x h.0, all-each P Q f xs h.1)
 
 pub plan-packs : (ds : List Description) (matches : List Match) (ssa : Ssa) (deps : List (ℕ × ℕ))
-    (plan : List Packed) → IsSound ssa → AreMatches ds ssa matches
+    (plan : List Pack) → IsSound ssa → AreMatches ds ssa matches
     → IsFedPlanFor ds matches ssa deps plan → ArePacks ssa plan
 plan-packs ds matches ssa deps plan sound are is = record {
   once = packed-once ds matches ssa deps sound are plan is;

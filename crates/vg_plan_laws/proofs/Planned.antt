@@ -9,15 +9,15 @@ use Rattle.vg_plans.specs.Members.{Every}
 use Rattle.vg_plans.proofs.Lists.{every-distinct, every-flat_map}
 use Rattle.vg_shapes.specs.declared.match_table.Match.{Match}
 use Rattle.vg_shapes.specs.declared.operand.Operand.{Operand}
-use Rattle.vg_shapes.specs.declared.pack.Pack.{Pack as Packed}
+use Rattle.vg_shapes.specs.declared.pack.Pack.{Pack}
 use Rattle.vg_shapes.specs.declared.pack.Pack.TheVariants.{Stores, Loads, Call}
 use Rattle.vg_shapes.specs.declared.ssa.Ssa.{Ssa}
 use Rattle.vg_shapes.specs.Description.{Description, IsPackable}
 use Rattle.vg_shapes.specs.Operands.{IsOperand}
 use Rattle.vg_shapes.specs.Pack.{bounds_from}
-use Rattle.vg_packing.specs.SameAs.{same_operand}
-use Rattle.vg_packing.specs.Producers.{agree}
-use Rattle.vg_packing.specs.Taken.{operands_from, operands_of}
+use Rattle.vg_kernel_plans.specs.SameAs.{same_operand}
+use Rattle.vg_kernel_plans.specs.Producers.{agree}
+use Rattle.vg_kernel_plans.specs.Taken.{operands_from, operands_of}
 use Rattle.vg_emission.specs.Planned.{IsLaneWidth, IsPack}
 use Rattle.vg_emission.proofs.Jobs.{get-some}
 use Rattle.vg_gather.proofs.Jobs.{plans-take-given}
@@ -37,7 +37,7 @@ plans-are-made ds matches ssa deps plan is =
 
 -- ---- packs
 
-is-pack : (ds : List Description) (matches : List Match) (ssa : Ssa) (p : Packed)
+is-pack : (ds : List Description) (matches : List Match) (ssa : Ssa) (p : Pack)
     → AllByRecursion IsCallable ds → IsMade ds matches ssa p → IsPack ds ssa p
 is-pack ds matches ssa (Stores us) described made = made
 is-pack ds matches ssa (Loads us) described made = made
@@ -58,7 +58,7 @@ packs-are-right ds matches ssa deps plan known is = (
 
 -- ---- operands
 
-pack-operands : (ds : List Description) (matches : List Match) (ssa : Ssa) (p : Packed)
+pack-operands : (ds : List Description) (matches : List Match) (ssa : Ssa) (p : Pack)
     → AreKnown ds matches ssa → IsMade ds matches ssa p
     → Every (IsOperand ssa) (operands_of ds matches ssa p)
 pack-operands ds matches ssa (Stores us) known made = (group-sound ssa us known.sound made, tt)

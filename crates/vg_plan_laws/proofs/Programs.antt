@@ -13,11 +13,11 @@ use Rattle.vg_shapes.specs.declared.ssa.Ssa.{Ssa}
 use Rattle.vg_shapes.specs.Description.{Description, IsLane}
 use Rattle.vg_shapes.specs.Operands.{IsOperand}
 use Rattle.vg_shapes.specs.Pack.{match_at}
-use Rattle.vg_packing.specs.declared.recipe.Recipe.TheVariants as recipe
-use Rattle.vg_packing.specs.Held.{holds, lane_width_of, register_of}
-use Rattle.vg_packing.specs.Producers.{are_matched}
-use Rattle.vg_packing.specs.Shuffles.{is_shuffle}
-use Rattle.vg_packing.proofs.SameTests.{both-true}
+use Rattle.vg_kernel_plans.specs.declared.recipe.Recipe.TheVariants as recipe
+use Rattle.vg_kernel_plans.specs.Held.{holds, lane_width_of, register_of}
+use Rattle.vg_kernel_plans.specs.Producers.{are_matched}
+use Rattle.vg_kernel_plans.specs.Shuffles.{is_shuffle}
+use Rattle.vg_kernel_plans.proofs.SameTests.{both-true}
 use Rattle.vg_emission.specs.Emission.{Job, no_description, operand_at, pack_at}
 use Rattle.vg_emission.specs.Fit.{LaneFits, LanesFit, RecipeFits}
 use Rattle.vg_emission.specs.Planned.{IsLaneWidth}

@@ -3,20 +3,20 @@ use Rattle.std.proofs.Common.{◌≡◌, ℕ, suc, ◌+◌, ◌<◌, Bool, true,
 use Rattle.std.specs.List.{AllByRecursion, list_any}
 use Rattle.std.proofs.lemmas.Bool.{cases_Bool}
 use Rattle.vg_shapes.specs.declared.operand.Operand.{Operand}
-use Rattle.vg_shapes.specs.declared.pack.Pack.{Pack as Packed}
+use Rattle.vg_shapes.specs.declared.pack.Pack.{Pack}
 use Rattle.vg_shapes.specs.declared.ssa.Ssa.{Ssa}
 use Rattle.vg_shapes.specs.Description.{Description}
-use Rattle.vg_packing.specs.declared.recipe.Recipe.{Recipe}
-use Rattle.vg_packing.specs.declared.recipe.Recipe.TheVariants as recipe
-use Rattle.vg_packing.specs.Held.{holds}
-use Rattle.vg_packing.specs.Shuffles.{shuffle_of}
-use Rattle.vg_packing.specs.Wants.{is_constant}
+use Rattle.vg_kernel_plans.specs.declared.recipe.Recipe.{Recipe}
+use Rattle.vg_kernel_plans.specs.declared.recipe.Recipe.TheVariants as recipe
+use Rattle.vg_kernel_plans.specs.Held.{holds}
+use Rattle.vg_kernel_plans.specs.Shuffles.{shuffle_of}
+use Rattle.vg_kernel_plans.specs.Wants.{is_constant}
 use Rattle.vg_emission.specs.Emission.{constant_bytes}
 use Rattle.vg_gather.specs.Recipes.{can_be_had, description_in, holder, packs_of, ready_from, recipe_of, shuffled}
 use Rattle.vg_gather.proofs.Prices.{can_make, made, ready-all, there-all}
 use Rattle.vg_gather.proofs.Takes.{least-has}
 
-module _ (ds : List Description) (ssa : Ssa) (plan : List Packed) (o : Operand) where
+module _ (ds : List Description) (ssa : Ssa) (plan : List Pack) (o : Operand) where
   -- the number of a description that is a shuffle which can make the operand
   pub record IsReady (n : ℕ) : Type 0 where
     pub low : n < length ds

@@ -24,11 +24,11 @@ use Rattle.vg_shapes.specs.Description.{Description, IsLane, IsPackable}
 use Rattle.vg_shapes.specs.Leaves.{bit_number}
 use Rattle.vg_shapes.specs.Registers.{env_of, readings_from}
 use Rattle.vg_shapes.proofs.Readings.{leaves-read}
-use Rattle.vg_packing.specs.Held.{holds, register_of}
-use Rattle.vg_packing.specs.Shuffles.{is_lane_slot, is_moved, is_shuffle, moved_from, moved_leaf, parts_from}
-use Rattle.vg_packing.specs.Wants.{is_constant, is_wanted, slot, wanted_slots, wants_value}
+use Rattle.vg_kernel_plans.specs.Held.{holds, register_of}
+use Rattle.vg_kernel_plans.specs.Shuffles.{is_lane_slot, is_moved, is_shuffle, moved_from, moved_leaf, parts_from}
+use Rattle.vg_kernel_plans.specs.Wants.{is_constant, is_wanted, slot, wanted_slots, wants_value}
 use Rattle.vg_match.proofs.Members.{all-weaker}
-use Rattle.vg_packing.proofs.SameTests.{both-true}
+use Rattle.vg_kernel_plans.proofs.SameTests.{both-true}
 use Rattle.vg_emission.specs.Emission.{Job, pack_at}
 use Rattle.vg_emission.specs.Promises.{AllHold, answer, Fills, Holds, IsWanted, SlotHas}
 use Rattle.vg_emission.specs.Truth.{Answers, AreRegisters, IsTrueOf}

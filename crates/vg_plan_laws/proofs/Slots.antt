@@ -26,10 +26,10 @@ use Rattle.vg_shapes.specs.Operands.{AreSlots, IsOperand, IsSlot, MayBeWanted}
 use Rattle.vg_shapes.specs.Pack.{bounds_from, match_at}
 use Rattle.vg_shapes.specs.Sound.{IsSound}
 use Rattle.vg_match.proofs.Laws.{wide-alone, wide-once}
-use Rattle.vg_packing.specs.Producers.{agree, are_matched}
-use Rattle.vg_packing.specs.SameAs.{same_slot}
-use Rattle.vg_packing.specs.Taken.{operands_from, slot_of, slots_of}
-use Rattle.vg_packing.proofs.SameTests.{both-true}
+use Rattle.vg_kernel_plans.specs.Producers.{agree, are_matched}
+use Rattle.vg_kernel_plans.specs.SameAs.{same_slot}
+use Rattle.vg_kernel_plans.specs.Taken.{operands_from, slot_of, slots_of}
+use Rattle.vg_kernel_plans.proofs.SameTests.{both-true}
 use Rattle.vg_plan_relations.proofs.Agreeing.{entries}
 use Rattle.vg_plan_relations.proofs.Fitting.{found-fit, lane-term}
 use Rattle.vg_plan_relations.proofs.Lists.{all-has, get-has}

@@ -21,8 +21,8 @@ use Rattle.vg_terms.specs.Value.{number_at, value}
 use Rattle.vg_terms.proofs.Values.{value-below}
 use Rattle.vg_shapes.specs.declared.ssa.Ssa.{Ssa}
 use Rattle.vg_shapes.specs.declared.ssa.SsaParam.{SsaParam}
-use Rattle.vg_shapes.specs.declared.unit.Unit.{Unit as Work}
-use Rattle.vg_shapes.specs.declared.unit.Unit.TheVariants.{Load, Store, Operation}
+use Rattle.vg_shapes.specs.declared.ssa_unit.SsaUnit.{SsaUnit}
+use Rattle.vg_shapes.specs.declared.ssa_unit.SsaUnit.TheVariants.{Load, Store, Operation}
 use Rattle.vg_shapes.specs.RunUnits.{number_of, Reached, run_units, unit_run}
 use Rattle.vg_shapes.specs.Sound.{argument_key, IsSound, IsUnit, IsUnitTerm, kind_bits, load_key, result_bits, term_at, terms_of, unit_bits, value_bits}
 use Rattle.vg_shapes.specs.Units.{arguments, integers, unit_at}
@@ -48,7 +48,7 @@ pub term-width : (ssa : Ssa) (v : ℕ) (t : Tree) → IsSound ssa → term_at ss
 term-width ssa v t sound e c =
     known-width ssa (terms_of ssa) sound.argument_terms sound.unit_terms v t e c
 
-work-there : (v w : ℕ) (u : Work) (t : Tree) → IsUnitTerm v u t → unit_bits u ≡ Some w
+work-there : (v w : ℕ) (u : SsaUnit) (t : Tree) → IsUnitTerm v u t → unit_bits u ≡ Some w
     → width_of t ≡ w
 work-there v w (Load a x) t is e = ap width_of is ∙ (let same : bits_of x ≡ w = cc in same)
 work-there v w (Store a x y) t is e = absurd (none-some w e)
@@ -102,7 +102,7 @@ leaf-below env t w k e =
     let below : number_at env.pairs k % 2 ^ w < 2 ^ w = omega arith in
     subst (λ s. value env s < 2 ^ width_of s) (sym e) below
 
-work-below : (env : Env) (v : ℕ) (u : Work) (t : Tree) → IsUnitTerm v u t
+work-below : (env : Env) (v : ℕ) (u : SsaUnit) (t : Tree) → IsUnitTerm v u t
     → value env t < 2 ^ width_of t
 work-below env v (Load a w) t is = leaf-below env t (bits_of w) (load_key a v) is
 work-below env v (Store a w x) t is =
@@ -125,7 +125,7 @@ value-fits env ssa v w n t sound at wide is =
 
 -- ---- how many numbers a run gives
 
-unit-longer : (places : List ℕ) (u : Work) (r t : Reached) → unit_run places u r ≡ Some t
+unit-longer : (places : List ℕ) (u : SsaUnit) (r t : Reached) → unit_run places u r ≡ Some t
     → length t.numbers ≡ length r.numbers + 1
 unit-longer places (Load a w) r t e =
     let x = went (loaded r.memory (place_of places a) (size_of w)) _ t e in
@@ -151,7 +151,7 @@ unit-longer places (Operation op w k xs) r t e =
     some-is : (x y : Reached) → Some x ≡ Some y → x ≡ y
     some-is x y e = cc
 
-pub run-long : (places : List ℕ) (us : List Work) (r t : Reached) → run_units places us r ≡ Some t
+pub run-long : (places : List ℕ) (us : List SsaUnit) (r t : Reached) → run_units places us r ≡ Some t
     → length t.numbers ≡ length r.numbers + length us
 unfolding run_units
 run-long places [] r t e =
@@ -166,13 +166,13 @@ run-long places (u ∷ us) r t e =
 
 -- ---- units
 
-pub unit-is : (ssa : Ssa) (v : ℕ) (u : Work) → AllByRecursion (IsUnit ssa) ssa.units
+pub unit-is : (ssa : Ssa) (v : ℕ) (u : SsaUnit) → AllByRecursion (IsUnit ssa) ssa.units
     → unit_at ssa v ≡ Some u → IsUnit ssa u
 unit-is ssa v u all e =
     from ssa.units (v - arguments ssa) all
     (sym (cond-false _ _ _ (le-ltb v (arguments ssa) (unit-above ssa v u e).0)) ∙ e)
   where
-    from : (us : List Work) (k : ℕ) → AllByRecursion (IsUnit ssa) us → slice_get us k ≡ Some u
+    from : (us : List SsaUnit) (k : ℕ) → AllByRecursion (IsUnit ssa) us → slice_get us k ≡ Some u
         → IsUnit ssa u
     from [] k h g = absurd (none-some u g)
     from (x ∷ us) zero h g = let same : x ≡ u = cc in subst (IsUnit ssa) same h.0

@@ -16,8 +16,8 @@ use Rattle.vg_terms.specs.Term.{Tree, constant, tree, WellFormed, width_of}
 use Rattle.vg_terms.specs.Value.{value}
 use Rattle.vg_shapes.specs.declared.match_table.Bound.{Bound}
 use Rattle.vg_shapes.specs.declared.order.Node.TheVariants.{PackAt}
-use Rattle.vg_shapes.specs.declared.unit.Unit.{Unit as Work}
-use Rattle.vg_shapes.specs.declared.unit.Unit.TheVariants.{Store}
+use Rattle.vg_shapes.specs.declared.ssa_unit.SsaUnit.{SsaUnit}
+use Rattle.vg_shapes.specs.declared.ssa_unit.SsaUnit.TheVariants.{Store}
 use Rattle.vg_shapes.specs.declared.wanted.Wanted.{Wanted}
 use Rattle.vg_shapes.specs.declared.wanted.Wanted.TheVariants.{Value}
 use Rattle.vg_shapes.specs.Depends.{dependences, depends_on}
@@ -26,9 +26,9 @@ use Rattle.vg_shapes.specs.Order.{Stands as In}
 use Rattle.vg_shapes.specs.RunUnits.{number_of, Reached, reached, run_units, start_of, unit_run}
 use Rattle.vg_shapes.specs.Sound.{environment, IsSound, term_at, TermsMean}
 use Rattle.vg_shapes.specs.Units.{is_unit}
-use Rattle.vg_packing.specs.Fed.{unfed}
-use Rattle.vg_packing.proofs.FedPlans.{may-be-fed}
-use Rattle.vg_packing.proofs.SameTests.{both-true}
+use Rattle.vg_kernel_plans.specs.Fed.{unfed}
+use Rattle.vg_kernel_plans.proofs.FedPlans.{may-be-fed}
+use Rattle.vg_kernel_plans.proofs.SameTests.{both-true}
 use Rattle.vg_emission.specs.Truth.{IsCallable}
 use Rattle.vg_plan_relations.specs.TwoSums.{argument, four_sums, sum_match, sum_matches, sum_plan, sum_tree, two_sums, word}
 use Rattle.vg_plan_relations.proofs.TwoSums.{sums-grown, sums-matched, sums-packable}
@@ -54,7 +54,7 @@ take-none : (k : ℕ) → take {A = ℕ} k [] ≡ []
 take-none zero = refl
 take-none (suc k) = refl
 
-take-done : (k : ℕ) → take {A = Work} k [] ≡ []
+take-done : (k : ℕ) → take {A = SsaUnit} k [] ≡ []
 take-done zero = refl
 take-done (suc k) = refl
 

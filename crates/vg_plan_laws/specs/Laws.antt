@@ -11,7 +11,7 @@ use Rattle.vg_pseudo.specs.declared.header.Header.{Header}
 use Rattle.vg_shapes.specs.declared.match_table.Match.{Match}
 use Rattle.vg_shapes.specs.declared.operand.Operand.{Operand}
 use Rattle.vg_shapes.specs.declared.order.Node.{Node}
-use Rattle.vg_shapes.specs.declared.pack.Pack.{Pack as Packed}
+use Rattle.vg_shapes.specs.declared.pack.Pack.{Pack}
 use Rattle.vg_shapes.specs.declared.pack.Pack.TheVariants.{Call}
 use Rattle.vg_shapes.specs.declared.ssa.Ssa.{Ssa}
 use Rattle.vg_shapes.specs.Description.{Description}
@@ -20,11 +20,11 @@ use Rattle.vg_shapes.specs.Nodes.{ArePacks, IsOrder}
 use Rattle.vg_shapes.specs.Operands.{IsOperand}
 use Rattle.vg_shapes.specs.RunUnits.{Reached}
 use Rattle.vg_shapes.specs.Sound.{IsSound}
-use Rattle.vg_packing.specs.declared.recipe.Recipe.{Recipe}
-use Rattle.vg_packing.specs.declared.recipe.Recipe.TheVariants as recipe
-use Rattle.vg_packing.specs.Completed.{chosen_fed_of}
-use Rattle.vg_packing.specs.Fed.{IsFedPlanFor}
-use Rattle.vg_packing.specs.Packing.{chosen_of, packing}
+use Rattle.vg_kernel_plans.specs.declared.recipe.Recipe.{Recipe}
+use Rattle.vg_kernel_plans.specs.declared.recipe.Recipe.TheVariants as recipe
+use Rattle.vg_kernel_plans.specs.Completed.{chosen_fed_of}
+use Rattle.vg_kernel_plans.specs.Fed.{IsFedPlanFor}
+use Rattle.vg_kernel_plans.specs.Packing.{chosen_of, packing}
 use Rattle.vg_emission.specs.Emission.{Job, takes_at}
 use Rattle.vg_emission.specs.Fit.{AreFit, CallsDescribed, HasHeader}
 use Rattle.vg_emission.specs.Laws.{AlwaysKeep, IsRun, MeansUnits}
@@ -52,14 +52,14 @@ AreTrue called ds = AllByRecursion (IsTrueOf called) ds
 abbrev pub PlansAreMade : Type 0
 PlansAreMade =
     (ds : List Description) (matches : List Match) (ssa : Ssa) (deps : List (ℕ × ℕ))
-    (plan : List Packed) → IsFedPlanFor ds matches ssa deps plan →
+    (plan : List Pack) → IsFedPlanFor ds matches ssa deps plan →
     AllByRecursion (IsMade ds matches ssa) plan
 
 -- a matched call holds its pack, on registers that fill its operands, with the numbers of any run
 abbrev pub CallsHold : Type 0
 CallsHold =
     (called : Instructions) (ds : List Description) (matches : List Match) (ssa : Ssa)
-    (packs : List Packed) (recipes : List Recipe) (places memory args : List ℕ) (last : Reached) →
+    (packs : List Pack) (recipes : List Recipe) (places memory args : List ℕ) (last : Reached) →
     AreKnown ds matches ssa → AreTrue called ds → IsRun ssa places memory args last →
     (k e : ℕ) (lanes : List (Option ℕ)) → slice_get packs k ≡ Some (Call e lanes) →
     IsMatchedCall ds matches ssa e lanes →
@@ -70,7 +70,7 @@ CallsHold =
 abbrev pub OperandsAreSound : Type 0
 OperandsAreSound =
     (ds : List Description) (matches : List Match) (ssa : Ssa) (deps : List (ℕ × ℕ))
-    (plan : List Packed) → AreKnown ds matches ssa → IsFedPlanFor ds matches ssa deps plan →
+    (plan : List Pack) → AreKnown ds matches ssa → IsFedPlanFor ds matches ssa deps plan →
     AllByRecursion (IsOperand ssa) (operands_in ds matches ssa plan)
 
 -- a run of a sound kernel gives each value a number below 2 to its width
@@ -83,14 +83,14 @@ RunsStayInWidths =
 abbrev pub PacksAreRight : Type 0
 PacksAreRight =
     (ds : List Description) (matches : List Match) (ssa : Ssa) (deps : List (ℕ × ℕ))
-    (plan : List Packed) → AreKnown ds matches ssa → IsFedPlanFor ds matches ssa deps plan →
+    (plan : List Pack) → AreKnown ds matches ssa → IsFedPlanFor ds matches ssa deps plan →
     ArePacks ssa plan × AllByRecursion (IsPack ds ssa) plan
 
 -- lines can be emitted from a plan
 abbrev pub PlansArePlanned : Type 0
 PlansArePlanned =
     (ds : List Description) (matches : List Match) (ssa : Ssa) (deps : List (ℕ × ℕ))
-    (plan : List Packed) → AreKnown ds matches ssa → IsFedPlanFor ds matches ssa deps plan →
+    (plan : List Pack) → AreKnown ds matches ssa → IsFedPlanFor ds matches ssa deps plan →
     IsPlanned (planned_job ds matches ssa plan)
 
 -- ---- recipes
@@ -115,7 +115,7 @@ RecipesFill =
 abbrev pub PlansKeepPromises : Type 0
 PlansKeepPromises =
     (called : Instructions) (ds : List Description) (matches : List Match) (ssa : Ssa)
-    (deps : List (ℕ × ℕ)) (plan : List Packed) →
+    (deps : List (ℕ × ℕ)) (plan : List Pack) →
     AreKnown ds matches ssa → AreTrue called ds → IsFedPlanFor ds matches ssa deps plan →
     AlwaysKeep (planned_job ds matches ssa plan) called
 
@@ -123,7 +123,7 @@ PlansKeepPromises =
 abbrev pub PlansAreFit : Type 0
 PlansAreFit =
     (headers : List Header) (ds : List Description) (matches : List Match) (ssa : Ssa)
-    (deps : List (ℕ × ℕ)) (plan : List Packed) →
+    (deps : List (ℕ × ℕ)) (plan : List Pack) →
     AreKnown ds matches ssa → AllByRecursion (HasHeader headers) ds →
     IsFedPlanFor ds matches ssa deps plan →
     AreFit (planned_job ds matches ssa plan) headers
@@ -135,7 +135,7 @@ PlansAreFit =
 abbrev pub ProgramsMeanTheirUnits : Type 0
 ProgramsMeanTheirUnits =
     (called : Instructions) (ds : List Description) (matches : List Match) (ssa : Ssa)
-    (deps : List (ℕ × ℕ)) (plan : List Packed) (order : List Node) →
+    (deps : List (ℕ × ℕ)) (plan : List Pack) (order : List Node) →
     AreKnown ds matches ssa → AreTrue called ds → IsFedPlanFor ds matches ssa deps plan →
     IsOrder ssa matches plan order →
     MeansUnits called (planned_program ds matches ssa plan order) ssa
@@ -144,7 +144,7 @@ ProgramsMeanTheirUnits =
 abbrev pub ProgramsCostTheirPlans : Type 0
 ProgramsCostTheirPlans =
     (ds : List Description) (matches : List Match) (ssa : Ssa) (deps : List (ℕ × ℕ))
-    (plan : List Packed) (order : List Node) →
+    (plan : List Pack) (order : List Node) →
     AreKnown ds matches ssa → IsFedPlanFor ds matches ssa deps plan →
     IsOrder ssa matches plan order →
     cost_of (planned_program ds matches ssa plan order)
@@ -155,7 +155,7 @@ ProgramsCostTheirPlans =
 abbrev pub ProgramsKeepTheRules : Type 0
 ProgramsKeepTheRules =
     (headers : List Header) (ds : List Description) (matches : List Match) (ssa : Ssa)
-    (deps : List (ℕ × ℕ)) (plan : List Packed) (order : List Node) →
+    (deps : List (ℕ × ℕ)) (plan : List Pack) (order : List Node) →
     AreKnown ds matches ssa → AllByRecursion (HasHeader headers) ds →
     IsFedPlanFor ds matches ssa deps plan → IsOrder ssa matches plan order →
     plan_cost (packing ds matches ssa deps) plan < 2 ^ 32 →
@@ -165,7 +165,7 @@ ProgramsKeepTheRules =
 abbrev pub ProgramsCallDescribed : Type 0
 ProgramsCallDescribed =
     (headers : List Header) (ds : List Description) (matches : List Match) (ssa : Ssa)
-    (deps : List (ℕ × ℕ)) (plan : List Packed) (order : List Node) →
+    (deps : List (ℕ × ℕ)) (plan : List Pack) (order : List Node) →
     AreKnown ds matches ssa → AllByRecursion (HasHeader headers) ds →
     IsFedPlanFor ds matches ssa deps plan → IsOrder ssa matches plan order →
     CallsDescribed ds (planned_program ds matches ssa plan order).lines

@@ -15,7 +15,7 @@ use Rattle.vg_shapes.specs.declared.match_table.Match.{Match}
 use Rattle.vg_shapes.specs.declared.match_table.Bound.{Bound}
 use Rattle.vg_shapes.specs.declared.order.Node.{Node}
 use Rattle.vg_shapes.specs.declared.order.Node.TheVariants.{PackAt, UnitAt}
-use Rattle.vg_shapes.specs.declared.pack.Pack.{Pack as Packed}
+use Rattle.vg_shapes.specs.declared.pack.Pack.{Pack}
 use Rattle.vg_shapes.specs.declared.pack.Pack.TheVariants.{Stores, Loads, Call}
 use Rattle.vg_shapes.specs.declared.ssa.Ssa.{Ssa}
 use Rattle.vg_shapes.specs.declared.wanted.Wanted.{Wanted}
@@ -26,10 +26,10 @@ use Rattle.vg_shapes.specs.Nodes as node
 use Rattle.vg_shapes.specs.Order.{numbers_from, Stands}
 use Rattle.vg_shapes.specs.Pack.{bounds_from, units_of}
 use Rattle.vg_shapes.specs.Units.{arguments, is_unit, is_value}
-use Rattle.vg_packing.specs.Fed.{fed, feeders_by, groups_by, packing_by}
-use Rattle.vg_packing.specs.Packing.{falling_units, needs_of, packing}
-use Rattle.vg_packing.specs.Wants.{value_of}
-use Rattle.vg_packing.proofs.Inside.{units-listed}
+use Rattle.vg_kernel_plans.specs.Fed.{fed, feeders_by, groups_by, packing_by}
+use Rattle.vg_kernel_plans.specs.Packing.{falling_units, needs_of, packing}
+use Rattle.vg_kernel_plans.specs.Wants.{value_of}
+use Rattle.vg_kernel_plans.proofs.Inside.{units-listed}
 use Rattle.vg_order.specs.ByList.{IsCycleBy, LeadsToBy, NameLesser, NameUnits, NodeDependsBy, node_depends_by, pack_depends_by}
 use Rattle.vg_order.proofs.Graphs.{stands-found}
 use Rattle.vg_plan_orders.specs.Laws.{PlansHaveNoCycle}
@@ -80,23 +80,23 @@ rows-have deps us x e =
     let k = any-found (λ u. is_listed deps u x) us e in
     has-flat (row_of deps) k.0 x us k.1 (in-has x (row_of deps k.0) k.2)
 
-pack-needs : (deps : List (ℕ × ℕ)) (ssa : Ssa) (matches : List Match) (p : Packed) (x : ℕ) → pack_depends_by deps ssa matches p x ≡ true → Has x (needs_of matches ssa deps p)
+pack-needs : (deps : List (ℕ × ℕ)) (ssa : Ssa) (matches : List Match) (p : Pack) (x : ℕ) → pack_depends_by deps ssa matches p x ≡ true → Has x (needs_of matches ssa deps p)
 pack-needs deps ssa matches (Stores us) x e = rows-have deps us x e
 pack-needs deps ssa matches (Loads us) x e = rows-have deps us x e
 pack-needs deps ssa matches (Call d lanes) x e =
     let parts = and_parts (is_unit ssa x) _ e in
     has-filter (is_unit ssa) x _ (has-value x (bounds_from matches d 0 lanes) parts.1) parts.0
 
-pack-names : (deps : List (ℕ × ℕ)) (ssa : Ssa) (matches : List Match) (p : Packed) (x : ℕ) → NameUnits ssa deps → pack_depends_by deps ssa matches p x ≡ true → is_unit ssa x ≡ true
+pack-names : (deps : List (ℕ × ℕ)) (ssa : Ssa) (matches : List Match) (p : Pack) (x : ℕ) → NameUnits ssa deps → pack_depends_by deps ssa matches p x ≡ true → is_unit ssa x ≡ true
 pack-names deps ssa matches (Stores us) x names e = let k = any-found (λ u. is_listed deps u x) us e in names k.0 x k.2
 pack-names deps ssa matches (Loads us) x names e = let k = any-found (λ u. is_listed deps u x) us e in names k.0 x k.2
 pack-names deps ssa matches (Call d lanes) x names e = (and_parts (is_unit ssa x) _ e).0
 
-node-names : (deps : List (ℕ × ℕ)) (ssa : Ssa) (matches : List Match) (packs : List Packed) (n : Node) (x : ℕ) → NameUnits ssa deps → node_depends_by deps ssa matches packs n x ≡ true → is_unit ssa x ≡ true
+node-names : (deps : List (ℕ × ℕ)) (ssa : Ssa) (matches : List Match) (packs : List Pack) (n : Node) (x : ℕ) → NameUnits ssa deps → node_depends_by deps ssa matches packs n x ≡ true → is_unit ssa x ≡ true
 node-names deps ssa matches packs (UnitAt v) x names e = names v x e
 node-names deps ssa matches packs (PackAt k) x names e = by (slice_get packs k) e
   where
-    by : (o : Option Packed) → option_map_or (λ p. pack_depends_by deps ssa matches p x) o false ≡ true → is_unit ssa x ≡ true
+    by : (o : Option Pack) → option_map_or (λ p. pack_depends_by deps ssa matches p x) o false ≡ true → is_unit ssa x ≡ true
     by None e = absurd (cc)
     by (Some p) e = pack-names deps ssa matches p x names e
 
@@ -109,11 +109,11 @@ standing-in : (x : ℕ) (ys : List ℕ) → Stands x ys → is_in x ys ≡ true
 standing-in x ys s = stands-found x ys s
 
 -- a unit of a pack
-packed-in : (packs : List Packed) (p : Packed) (v : ℕ) → Has p packs → is_in v (units_of p) ≡ true → list_any (λ q. is_in v (units_of q)) packs ≡ true
+packed-in : (packs : List Pack) (p : Pack) (v : ℕ) → Has p packs → is_in v (units_of p) ≡ true → list_any (λ q. is_in v (units_of q)) packs ≡ true
 packed-in packs p v h t = any-is (λ q. is_in v (units_of q)) p packs h t
 
 -- a unit outside packs, by the two words for that
-unpacked : (packs : List Packed) (v : ℕ) → node.is_packed packs v ≡ false → list_any (λ q. is_in v (units_of q)) packs ≡ false
+unpacked : (packs : List Pack) (v : ℕ) → node.is_packed packs v ≡ false → list_any (λ q. is_in v (units_of q)) packs ≡ false
 unpacked packs v f = elim (cases_Bool (list_any (λ q. is_in v (units_of q)) packs)) [
   | inl t ↦ absurd (
       let k = any-found (λ q. is_in v (units_of q)) packs t in
@@ -124,11 +124,11 @@ unpacked packs v f = elim (cases_Bool (list_any (λ q. is_in v (units_of q)) pac
 ]
 
 -- a node of packs, as what is asked of its unit
-abbrev IsNodeOf : List Packed → Node → Type 0
+abbrev IsNodeOf : List Pack → Node → Type 0
 IsNodeOf packs (PackAt k) = Unit {0}
 IsNodeOf packs (UnitAt v) = node.is_packed packs v ≡ false
 
-module _ (ds : List Description) (matches : List Match) (ssa : Ssa) (deps : List (ℕ × ℕ)) (packs : List Packed) where
+module _ (ds : List Description) (matches : List Match) (ssa : Ssa) (deps : List (ℕ × ℕ)) (packs : List Pack) where
   -- a unit of a node needs all units on which the node depends
   node-needs : (n : Node) (x z : ℕ) → IsNodeOf packs n → Stands x (node.units_at packs n) → node_depends_by deps ssa matches packs n z ≡ true
       → Has z (needs (packing ds matches ssa deps) packs x)
@@ -141,7 +141,7 @@ module _ (ds : List Description) (matches : List Match) (ssa : Ssa) (deps : List
       one-of x v s = elim (in-has x (v ∷ []) (stands-found x (v ∷ []) s)) [ inl e ↦ sym e | inr n ↦ absurd n ]
   node-needs (PackAt k) x z is s e = by (slice_get packs k) refl s e
     where
-      by : (o : Option Packed) → slice_get packs k ≡ o → Stands x (option_map_or units_of o []) → option_map_or (λ p. pack_depends_by deps ssa matches p z) o false ≡ true
+      by : (o : Option Pack) → slice_get packs k ≡ o → Stands x (option_map_or units_of o []) → option_map_or (λ p. pack_depends_by deps ssa matches p z) o false ≡ true
           → Has z (needs (packing ds matches ssa deps) packs x)
       by None o s e = absurd (cc)
       by (Some p) o s e =
@@ -217,7 +217,7 @@ from-units : (vs : List ℕ) (v : ℕ) → Has (UnitAt v) (map UnitAt vs) → Ha
 from-units [] v h = h
 from-units (u ∷ vs) v h = elim h [ inl e ↦ inl (cc) | inr r ↦ inr (from-units vs v r) ]
 
-node-of : (ssa : Ssa) (packs : List Packed) (n : Node) → Contains (node.nodes ssa packs) n → IsNodeOf packs n
+node-of : (ssa : Ssa) (packs : List Pack) (n : Node) → Contains (node.nodes ssa packs) n → IsNodeOf packs n
 node-of ssa packs (PackAt k) c = tt
 node-of ssa packs (UnitAt v) c =
     let numbers = numbers_from (arguments ssa) (length ssa.units) in
@@ -231,7 +231,7 @@ node-of ssa packs (UnitAt v) c =
     not-true true e = absurd (cc)
     not-true false e = refl
 
-nodes-of : (ssa : Ssa) (packs : List Packed) (ns : List Node) → AllByRecursion (Contains (node.nodes ssa packs)) ns → AllByRecursion (IsNodeOf packs) ns
+nodes-of : (ssa : Ssa) (packs : List Pack) (ns : List Node) → AllByRecursion (Contains (node.nodes ssa packs)) ns → AllByRecursion (IsNodeOf packs) ns
 nodes-of ssa packs [] h = tt
 nodes-of ssa packs (n ∷ ns) h = (node-of ssa packs n h.0, nodes-of ssa packs ns h.1)
 
@@ -264,7 +264,7 @@ pub plans-have-no-cycle : PlansHaveNoCycle
 plans-have-no-cycle ds matches ssa deps plan [] names less is c = c
 plans-have-no-cycle ds matches ssa deps plan (n ∷ ns) names less is c = by plan is c
   where
-    by : (plan : List Packed) → IsPlan (follows (packing_by fed ds matches ssa deps)) plan → IsCycleBy deps ssa matches plan (n ∷ ns) → ⊥
+    by : (plan : List Pack) → IsPlan (follows (packing_by fed ds matches ssa deps)) plan → IsCycleBy deps ssa matches plan (n ∷ ns) → ⊥
     by _ empty c = let below = chain-lesser deps ssa matches n n ns less c.1 in omega arith
     by _ (more before p is h) c =
         let held = cycle-held ds matches ssa deps (before ++ p ∷ []) n ns names (nodes-of ssa (before ++ p ∷ []) (n ∷ ns) c.0) c.1 in

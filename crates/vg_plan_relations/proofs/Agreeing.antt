@@ -20,10 +20,10 @@ use Rattle.vg_shapes.specs.Description.{Description, IsPackable}
 use Rattle.vg_shapes.specs.Leaves.{bit_number}
 use Rattle.vg_shapes.specs.Matches.{AreMatches}
 use Rattle.vg_shapes.specs.Pack.{bounds_from, match_at}
-use Rattle.vg_packing.specs.Producers.{agree}
-use Rattle.vg_packing.specs.SameAs.{same_slot}
-use Rattle.vg_packing.specs.Taken.{operands_from, operands_of, params_of, slot_of, slots_of}
-use Rattle.vg_packing.proofs.SameTests.{both-true, operand-itself, slot-is}
+use Rattle.vg_kernel_plans.specs.Producers.{agree}
+use Rattle.vg_kernel_plans.specs.SameAs.{same_slot}
+use Rattle.vg_kernel_plans.specs.Taken.{operands_from, operands_of, params_of, slot_of, slots_of}
+use Rattle.vg_kernel_plans.proofs.SameTests.{both-true, operand-itself, slot-is}
 use Rattle.vg_plan_relations.specs.Produces.{AreRising, Binds, LanesAgree}
 use Rattle.vg_plan_relations.proofs.Fitting.{binds-param, bound-binds, bound-there}
 use Rattle.vg_plan_relations.proofs.Lists.{differ-unique}

@@ -10,7 +10,7 @@ use Rattle.vg_plans.specs.Members.{Has}
 use Rattle.vg_shapes.specs.declared.match_table.Match.{Match}
 use Rattle.vg_shapes.specs.declared.operand.Operand.{Operand}
 use Rattle.vg_shapes.specs.declared.operand.Slot.{Slot}
-use Rattle.vg_shapes.specs.declared.pack.Pack.{Pack as Packed}
+use Rattle.vg_shapes.specs.declared.pack.Pack.{Pack}
 use Rattle.vg_shapes.specs.declared.pack.Pack.TheVariants.{Call}
 use Rattle.vg_shapes.specs.declared.ssa.Ssa.{Ssa}
 use Rattle.vg_shapes.specs.declared.wanted.Wanted.{Wanted}
@@ -18,13 +18,13 @@ use Rattle.vg_shapes.specs.declared.wanted.Wanted.TheVariants.{Value, Constant, 
 use Rattle.vg_shapes.specs.Description.{Description, IsPackable}
 use Rattle.vg_shapes.specs.Matches.{AreMatches}
 use Rattle.vg_shapes.specs.Pack.{match_at}
-use Rattle.vg_packing.specs.Held.{lane_width_of, lanes_from, register_of}
-use Rattle.vg_packing.specs.Producers.{agree, are_matched, call_producer, can_be_produced, lanes_for, value_at}
-use Rattle.vg_packing.specs.SameAs.{same_slot}
-use Rattle.vg_packing.specs.Taken.{operands_of}
-use Rattle.vg_packing.specs.Wants.{is_wanted, slot, value_of, wanted_slots}
-use Rattle.vg_packing.proofs.SameTests.{both-true, list-is, slot-is}
-use Rattle.vg_packing.proofs.Tried.{if-has}
+use Rattle.vg_kernel_plans.specs.Held.{lane_width_of, lanes_from, register_of}
+use Rattle.vg_kernel_plans.specs.Producers.{agree, are_matched, call_producer, can_be_produced, lanes_for, value_at}
+use Rattle.vg_kernel_plans.specs.SameAs.{same_slot}
+use Rattle.vg_kernel_plans.specs.Taken.{operands_of}
+use Rattle.vg_kernel_plans.specs.Wants.{is_wanted, slot, value_of, wanted_slots}
+use Rattle.vg_kernel_plans.proofs.SameTests.{both-true, list-is, slot-is}
+use Rattle.vg_kernel_plans.proofs.Tried.{if-has}
 use Rattle.vg_match.proofs.Laws.{wide-found}
 use Rattle.vg_plan_relations.specs.Produces.{AreRising, HasLane, IsCallPack, LaneFits, Produces}
 use Rattle.vg_plan_relations.proofs.Agreeing.{agree-binds, binds-agree}
@@ -153,7 +153,7 @@ module _ (ds : List Description) (matches : List Match) (ssa : Ssa) (o : Operand
   lane-count : 0 < e.lane_width → e.register / e.lane_width ≡ length e.lanes
   lane-count wide = ap (λ n. n / e.lane_width) (sym packable.fill) ∙ mul-div_cancel (length e.lanes) wide
 
-  pub call-right : (p : Packed) → Has p (call_producer ds matches ssa o d e) → Produces ds matches ssa p o
+  pub call-right : (p : Pack) → Has p (call_producer ds matches ssa o d e) → Produces ds matches ssa p o
   call-right p h =
       let lw = e.lane_width in
       let lanes = lanes_for (e.register / e.lane_width) 0 e.lane_width o.slots in

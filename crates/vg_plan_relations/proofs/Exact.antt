@@ -7,16 +7,16 @@ use Rattle.vg_plans.specs.Members.{AllDiffer, Has}
 use Rattle.vg_plans.proofs.Members.{from-filter, has-filter}
 use Rattle.vg_shapes.specs.declared.operand.Operand.{Operand}
 use Rattle.vg_shapes.specs.declared.operand.Slot.{Slot}
-use Rattle.vg_shapes.specs.declared.pack.Pack.{Pack as Packed}
+use Rattle.vg_shapes.specs.declared.pack.Pack.{Pack}
 use Rattle.vg_shapes.specs.declared.wanted.Wanted.TheVariants.{Value}
-use Rattle.vg_packing.specs.Held.{lanes_from}
-use Rattle.vg_packing.specs.Producers.{all_differ, can_be_produced}
-use Rattle.vg_packing.specs.Wants.{is_wanted, slot, value_of, wanted_slots, wanted_values, wants_value}
-use Rattle.vg_packing.proofs.SameTests.{both-true}
+use Rattle.vg_kernel_plans.specs.Held.{lanes_from}
+use Rattle.vg_kernel_plans.specs.Producers.{all_differ, can_be_produced}
+use Rattle.vg_kernel_plans.specs.Wants.{is_wanted, slot, value_of, wanted_slots, wanted_values, wants_value}
+use Rattle.vg_kernel_plans.proofs.SameTests.{both-true}
 use Rattle.vg_plan_relations.specs.Produces.{AreRising, HasLane}
 use Rattle.vg_plan_relations.proofs.Rising.{all-differ, differ-all, lane-of, lane-there, lanes-long, lanes-rise, lanes-values, lanes-want, rising-filter, rising-same, values-wanted}
 
-pub one-if : (b : Bool) (p q : Packed) → b ≡ true → q ≡ p → Has p (if b then q ∷ [] else [])
+pub one-if : (b : Bool) (p q : Pack) → b ≡ true → q ≡ p → Has p (if b then q ∷ [] else [])
 one-if true p q t e = inl e
 one-if false p q t e = absurd (cc)
 

@@ -7,13 +7,13 @@ use Rattle.vg_plans.proofs.Members.{any-found, any-is, from-filter, has-filter}
 use Rattle.vg_plans.proofs.Reach.{has-in, in-has}
 use Rattle.vg_shapes.specs.declared.operand.Operand.{Operand}
 use Rattle.vg_shapes.specs.declared.operand.Slot.{Slot}
-use Rattle.vg_shapes.specs.declared.pack.Pack.{Pack as Packed}
+use Rattle.vg_shapes.specs.declared.pack.Pack.{Pack}
 use Rattle.vg_shapes.specs.declared.ssa.Ssa.{Ssa}
 use Rattle.vg_shapes.specs.declared.wanted.Wanted.{Wanted}
 use Rattle.vg_shapes.specs.declared.wanted.Wanted.TheVariants.{Value, Constant, Nothing}
 use Rattle.vg_shapes.specs.Pack.{units_of}
-use Rattle.vg_packing.specs.LoadGroups.{feeders, feeds, load_groups}
-use Rattle.vg_packing.specs.Wants.{value_of, wanted_values}
+use Rattle.vg_kernel_plans.specs.LoadGroups.{feeders, feeds, load_groups}
+use Rattle.vg_kernel_plans.specs.Wants.{value_of, wanted_values}
 use Rattle.vg_plan_relations.specs.Plans.{Feeds}
 
 -- the values that slots want
@@ -55,14 +55,14 @@ wanted-value (x ∷ slots) s v h e = elim h [
   | inr r ↦ past x slots v (wanted-value slots s v r e)
 ]
 
-pub feeds-right : (ssa : Ssa) (o : Operand) (p : Packed) → Has p (feeders ssa o) → Feeds ssa p o
+pub feeds-right : (ssa : Ssa) (o : Operand) (p : Pack) → Has p (feeders ssa o) → Feeds ssa p o
 feeds-right ssa o p h =
     let k = from-filter (feeds o) p (load_groups ssa o.register) h in
     let v = any-found (λ v. is_in v (units_of p)) (wanted_values o) k.1 in
     let w = value-wanted o.slots v.0 v.1 in
     record { group = k.0; wanted = (w.0, v.0, w.1, w.2, in-has v.0 (units_of p) v.2) }
 
-pub feeds-whole : (ssa : Ssa) (o : Operand) (p : Packed) → Feeds ssa p o → Has p (feeders ssa o)
+pub feeds-whole : (ssa : Ssa) (o : Operand) (p : Pack) → Feeds ssa p o → Has p (feeders ssa o)
 feeds-whole ssa o p is =
     let w = is.wanted in
     has-filter (feeds o) p (load_groups ssa o.register) is.group

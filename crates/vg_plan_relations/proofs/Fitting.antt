@@ -20,8 +20,8 @@ use Rattle.vg_shapes.specs.Registers.{LeavesInside}
 use Rattle.vg_shapes.specs.declared.wanted.Wanted.TheVariants.{Nothing}
 use Rattle.vg_match.proofs.Binding.{leaf-same}
 use Rattle.vg_match.proofs.Laws.{found-fit as fit-found, wide-alone}
-use Rattle.vg_packing.specs.Producers.{are_matched}
-use Rattle.vg_packing.proofs.SameTests.{both-true}
+use Rattle.vg_kernel_plans.specs.Producers.{are_matched}
+use Rattle.vg_kernel_plans.proofs.SameTests.{both-true}
 use Rattle.vg_plan_relations.specs.Produces.{Binds, HasLane}
 use Rattle.vg_plan_relations.proofs.Lists.{all-has, get-has}
 

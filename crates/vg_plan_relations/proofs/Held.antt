@@ -7,14 +7,14 @@ use Rattle.std.proofs.lemmas.Bool.Decides.{nat_tests}
 use Rattle.vg_plans.specs.Members.{Has}
 use Rattle.vg_plans.proofs.Members.{any-found, any-is}
 use Rattle.vg_shapes.specs.declared.operand.Slot.{Slot}
-use Rattle.vg_shapes.specs.declared.pack.Pack.{Pack as Packed}
+use Rattle.vg_shapes.specs.declared.pack.Pack.{Pack}
 use Rattle.vg_shapes.specs.declared.ssa.Ssa.{Ssa}
 use Rattle.vg_shapes.specs.Description.{Description}
 use Rattle.vg_shapes.specs.Operands.{lanes_of}
-use Rattle.vg_packing.specs.Held.{held_slots, is_filled, lane_width_of, lanes_from, register_of}
-use Rattle.vg_packing.specs.SameAs.{same_slot}
-use Rattle.vg_packing.specs.Wants.{is_wanted, wants_value}
-use Rattle.vg_packing.proofs.SameTests.{both-true, slot-is}
+use Rattle.vg_kernel_plans.specs.Held.{held_slots, is_filled, lane_width_of, lanes_from, register_of}
+use Rattle.vg_kernel_plans.specs.SameAs.{same_slot}
+use Rattle.vg_kernel_plans.specs.Wants.{is_wanted, wants_value}
+use Rattle.vg_kernel_plans.proofs.SameTests.{both-true, slot-is}
 use Rattle.vg_plan_relations.specs.Laws.{HoldsIsTold}
 use Rattle.vg_plan_relations.specs.Produces.{IsLaneSlot}
 use Rattle.vg_plan_relations.proofs.Agreeing.{slot-itself}
@@ -26,7 +26,7 @@ true-all : {X : Type 0} (test : X → Bool) (xs : List X) → ((x : X) → Has x
 true-all test [] f = refl
 true-all test (x ∷ xs) f = and-true _ _ (f x (inl refl)) (true-all test xs (λ y h. f y (inr h)))
 
-module _ (ds : List Description) (ssa : Ssa) (p : Packed) where
+module _ (ds : List Description) (ssa : Ssa) (p : Pack) where
   held-lane : (s : Slot) → list_any (same_slot s) (held_slots ds ssa p) ≡ true → IsLaneSlot ds ssa p s
   held-lane s t =
       let w = lane_width_of ds ssa p in

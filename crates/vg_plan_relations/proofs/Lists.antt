@@ -5,7 +5,7 @@ use Rattle.std.specs.List.{AllByRecursion, list_all}
 use Rattle.vg_plans.specs.Members.{AllDiffer, Has}
 use Rattle.vg_plans.proofs.Lists.{every-has}
 use Rattle.vg_plans.proofs.Members.{Unique}
-use Rattle.vg_packing.proofs.SameTests.{both-true}
+use Rattle.vg_kernel_plans.proofs.SameTests.{both-true}
 
 pub all-has : {X : Type 0} (P : X → Type 0) (xs : List X) (x : X) → AllByRecursion P xs → Has x xs → P x
 all-has P [] x a h = absurd h

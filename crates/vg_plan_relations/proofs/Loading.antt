@@ -11,21 +11,21 @@ use Rattle.vg_plans.specs.Members.{AllDiffer, Has}
 use Rattle.vg_shapes.specs.declared.match_table.Match.{Match}
 use Rattle.vg_shapes.specs.declared.operand.Operand.{Operand}
 use Rattle.vg_shapes.specs.declared.operand.Slot.{Slot}
-use Rattle.vg_shapes.specs.declared.pack.Pack.{Pack as Packed}
+use Rattle.vg_shapes.specs.declared.pack.Pack.{Pack}
 use Rattle.vg_shapes.specs.declared.pack.Pack.TheVariants.{Loads}
 use Rattle.vg_shapes.specs.declared.ssa.Ssa.{Ssa}
-use Rattle.vg_shapes.specs.declared.unit.Unit.{Unit as Work}
-use Rattle.vg_shapes.specs.declared.unit.Unit.TheVariants.{Load, Store, Operation}
+use Rattle.vg_shapes.specs.declared.ssa_unit.SsaUnit.{SsaUnit}
+use Rattle.vg_shapes.specs.declared.ssa_unit.SsaUnit.TheVariants.{Load, Store, Operation}
 use Rattle.vg_shapes.specs.Description.{Description}
 use Rattle.vg_shapes.specs.Pack.{AreLoads, behind, is_pack_size}
 use Rattle.vg_shapes.specs.Units.{unit_at}
-use Rattle.vg_packing.specs.Held.{lanes_from}
-use Rattle.vg_packing.specs.Producers.{are_beside, are_loads, begin_loads, can_be_produced, load_producer, loads_from}
-use Rattle.vg_packing.specs.SameAs.{same_slot}
-use Rattle.vg_packing.specs.Taken.{first_width, register_for, unit_width}
-use Rattle.vg_packing.specs.Wants.{wanted_slots, wanted_values}
-use Rattle.vg_packing.proofs.SameTests.{both-true, eq-itself, list-is, operand-itself, slot-is}
-use Rattle.vg_packing.proofs.Tried.{if-has}
+use Rattle.vg_kernel_plans.specs.Held.{lanes_from}
+use Rattle.vg_kernel_plans.specs.Producers.{are_beside, are_loads, begin_loads, can_be_produced, load_producer, loads_from}
+use Rattle.vg_kernel_plans.specs.SameAs.{same_slot}
+use Rattle.vg_kernel_plans.specs.Taken.{first_width, register_for, unit_width}
+use Rattle.vg_kernel_plans.specs.Wants.{wanted_slots, wanted_values}
+use Rattle.vg_kernel_plans.proofs.SameTests.{both-true, eq-itself, list-is, operand-itself, slot-is}
+use Rattle.vg_kernel_plans.proofs.Tried.{if-has}
 use Rattle.vg_packs.proofs.Placing.{place-is}
 use Rattle.vg_plan_relations.specs.Produces.{AreRising, Produces}
 use Rattle.vg_plan_relations.proofs.Exact.{and-true, can-be, exact, has-once, has-two, lane-wanted, one-if, same-values, wanted-lane}
@@ -33,7 +33,7 @@ use Rattle.vg_plan_relations.proofs.Rising.{some-lanes}
 
 -- ---- loads beside each other
 
-load-is : (a : Address) (w : Width) (o : Option Work) → loads_from a w o ≡ true → o ≡ Some (Load a w)
+load-is : (a : Address) (w : Width) (o : Option SsaUnit) → loads_from a w o ≡ true → o ≡ Some (Load a w)
 load-is a w None t = absurd (cc)
 load-is a w (Some (Store b v x)) t = absurd (cc)
 load-is a w (Some (Operation op v k xs)) t = absurd (cc)
@@ -57,7 +57,7 @@ are-loads ssa w a (u ∷ us) h =
 abbrev Beside : Ssa → List ℕ → Type 0
 Beside ssa us = (w : Width) × (a : Address) × AreLoads ssa w a us × (first_width ssa us ≡ bits_of w)
 
-begun-are : (ssa : Ssa) (v : ℕ) (vs : List ℕ) (o : Option Work) → unit_at ssa v ≡ o → begin_loads ssa o (v ∷ vs) ≡ true → Beside ssa (v ∷ vs)
+begun-are : (ssa : Ssa) (v : ℕ) (vs : List ℕ) (o : Option SsaUnit) → unit_at ssa v ≡ o → begin_loads ssa o (v ∷ vs) ≡ true → Beside ssa (v ∷ vs)
 begun-are ssa v vs None e t = absurd (cc)
 begun-are ssa v vs (Some (Store a w x)) e t = absurd (cc)
 begun-are ssa v vs (Some (Operation op w k xs)) e t = absurd (cc)
@@ -92,7 +92,7 @@ is-wide W64 = omega arith
 pub slots-itself : (ss : List Slot) → pointwise same_slot ss ss ≡ true
 slots-itself ss = (both-true (nat_eq 0 0) (pointwise same_slot ss ss) (operand-itself (record { register = 0; slots = ss }))).1
 
-pub load-right : (ds : List Description) (matches : List Match) (ssa : Ssa) (o : Operand) (p : Packed)
+pub load-right : (ds : List Description) (matches : List Match) (ssa : Ssa) (o : Operand) (p : Pack)
     → Has p (load_producer ssa o) → Produces ds matches ssa p o
 load-right ds matches ssa o p h =
     let us = wanted_values o in

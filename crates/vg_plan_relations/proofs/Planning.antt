@@ -13,19 +13,19 @@ use Rattle.vg_plans.proofs.Reach.{has-in, in-has}
 use Rattle.vg_plans.proofs.Trying.{cycle-other}
 use Rattle.vg_shapes.specs.declared.match_table.Match.{Match}
 use Rattle.vg_shapes.specs.declared.operand.Operand.{Operand}
-use Rattle.vg_shapes.specs.declared.pack.Pack.{Pack as Packed}
+use Rattle.vg_shapes.specs.declared.pack.Pack.{Pack}
 use Rattle.vg_shapes.specs.declared.ssa.Ssa.{Ssa}
 use Rattle.vg_shapes.specs.Depends.{dependences}
 use Rattle.vg_shapes.specs.Description.{Description, IsPackable}
 use Rattle.vg_shapes.specs.Matches.{AreMatches}
 use Rattle.vg_shapes.specs.Pack.{units_of}
-use Rattle.vg_packing.specs.declared.choice.Choice.{Choice}
-use Rattle.vg_packing.specs.Fed.{IsPlanBy, feeders_by, groups_by, packing_by, unfed}
-use Rattle.vg_packing.specs.Laws.{IsPlanFor}
-use Rattle.vg_packing.specs.Packing.{packing}
-use Rattle.vg_packing.specs.Taken.{operands_of}
-use Rattle.vg_packing.proofs.FedPlans.{may-be-fed}
-use Rattle.vg_packing.proofs.Tried.{is-packing_by}
+use Rattle.vg_kernel_plans.specs.declared.choice.Choice.{Choice}
+use Rattle.vg_kernel_plans.specs.Fed.{IsPlanBy, feeders_by, groups_by, packing_by, unfed}
+use Rattle.vg_kernel_plans.specs.Laws.{IsPlanFor}
+use Rattle.vg_kernel_plans.specs.Packing.{packing}
+use Rattle.vg_kernel_plans.specs.Taken.{operands_of}
+use Rattle.vg_kernel_plans.proofs.FedPlans.{may-be-fed}
+use Rattle.vg_kernel_plans.proofs.Tried.{is-packing_by}
 use Rattle.vg_order.proofs.AllDependences.{dependences-give_orders, dependences-name_units}
 use Rattle.vg_plan_orders.proofs.Cycles.{plans-have-no-cycle}
 use Rattle.vg_plan_relations.specs.Laws.{PlansArePlansByNodes, PlansByChoiceArePlansByNodes, PlansByNodesMayBeFed}
@@ -40,7 +40,7 @@ module _ (c : Choice) (ds : List Description) (matches : List Match) (ssa : Ssa)
     (packable : AllByRecursion IsPackable ds) (are : AreMatches ds ssa matches) where
   -- ---- from a plan that grows
 
-  pub grown-by : (plan : List Packed) → IsPlanBy c ds matches ssa (dependences ssa) plan
+  pub grown-by : (plan : List Pack) → IsPlanBy c ds matches ssa (dependences ssa) plan
       → IsPlanByNodesBy c ds matches ssa plan
   grown-by plan is =
       let w = packing_by c ds matches ssa (dependences ssa) in
@@ -62,16 +62,16 @@ module _ (c : Choice) (ds : List Description) (matches : List Match) (ssa : Ssa)
 
   -- ---- from a plan by nodes
 
-  module _ (packs : List Packed) (is : IsPlanByNodesBy c ds matches ssa packs) where
+  module _ (packs : List Pack) (is : IsPlanByNodesBy c ds matches ssa packs) where
     -- the operands of a pack of a prefix rise
-    prefix-rises : (done left : List Packed) → packs ≡ done ++ left → (q : Packed) (o : Operand) → Has q done
+    prefix-rises : (done left : List Pack) → packs ≡ done ++ left → (q : Pack) (o : Operand) → Has q done
         → Has o (operands_of ds matches ssa q) → AreRising o.slots
     prefix-rises done left e q o hq ho =
         let k = around q done hq in
         let cut : packs ≡ k.before ++ q ∷ (k.after ++ left) = e ∙ ap (λ l. l ++ left) k.is ∙ append_assoc k.before (q ∷ k.after) left in
         pack-rises ds matches ssa packable are c k.before q o (is.made k.before (k.after ++ left) q cut) ho
 
-    new-units : (done left : List Packed) (p : Packed) → packs ≡ done ++ p ∷ left
+    new-units : (done left : List Pack) (p : Pack) → packs ≡ done ++ p ∷ left
         → not (list_any (is_packed (packing_by c ds matches ssa (dependences ssa)) done) (units_of p)) ≡ true
     new-units done left p e =
         let w = packing_by c ds matches ssa (dependences ssa) in
@@ -83,7 +83,7 @@ module _ (c : Choice) (ds : List Description) (matches : List Match) (ssa : Ssa)
               is.apart done left p e q.0 k.0 q.1 (in-has k.0 (units_of q.0) q.2) k.1)
         ]
 
-    no-cycle : (done left : List Packed) → packs ≡ done ++ left
+    no-cycle : (done left : List Pack) → packs ≡ done ++ left
         → has_no_cycle (packing_by c ds matches ssa (dependences ssa)) done ≡ true
     no-cycle done left e =
         let w = packing ds matches ssa (dependences ssa) in
@@ -92,7 +92,7 @@ module _ (c : Choice) (ds : List Description) (matches : List Match) (ssa : Ssa)
           | inr f ↦ absurd (let k = cycle-from ds matches ssa done f in is.free done left e k.0 k.1)
         ]
 
-    grow : (left done : List Packed) → packs ≡ done ++ left → IsPlanBy c ds matches ssa (dependences ssa) done
+    grow : (left done : List Pack) → packs ≡ done ++ left → IsPlanBy c ds matches ssa (dependences ssa) done
         → IsPlanBy c ds matches ssa (dependences ssa) packs
     grow [] done e plan = subst (IsPlanBy c ds matches ssa (dependences ssa)) (sym (e ∙ append-nil done)) plan
     grow (p ∷ left) done e plan =
@@ -113,7 +113,7 @@ plans-by-nodes-by c ds matches ssa plan packable are = (
 
 -- ---- without feeding, and with all that feeds
 
-module _ (ds : List Description) (matches : List Match) (ssa : Ssa) (plan : List Packed) where
+module _ (ds : List Description) (matches : List Match) (ssa : Ssa) (plan : List Pack) where
   pub to-unfed : IsPlanByNodes ds matches ssa plan → IsPlanByNodesBy unfed ds matches ssa plan
   to-unfed is = record {
     made = λ before after p e. elim (is.made before after p e) [ inl g ↦ inl g | inr k ↦ inr (inl k) ];
@@ -151,7 +151,7 @@ may-be-fed-by-nodes = record {
 }
 
 pub grown-nodes : (ds : List Description) (matches : List Match) (ssa : Ssa) → AllByRecursion IsPackable ds
-    → AreMatches ds ssa matches → (plan : List Packed) → IsPlanFor ds matches ssa (dependences ssa) plan
+    → AreMatches ds ssa matches → (plan : List Pack) → IsPlanFor ds matches ssa (dependences ssa) plan
     → IsPlanByNodes ds matches ssa plan
 grown-nodes ds matches ssa packable are plan is =
     from-unfed ds matches ssa plan (grown-by unfed ds matches ssa packable are plan is)

@@ -8,15 +8,15 @@ use Rattle.vg_plans.proofs.Lists.{every-append}
 use Rattle.vg_plans.proofs.Members.{has-append, has-left, has-right}
 use Rattle.vg_shapes.specs.declared.match_table.Match.{Match}
 use Rattle.vg_shapes.specs.declared.operand.Operand.{Operand}
-use Rattle.vg_shapes.specs.declared.pack.Pack.{Pack as Packed}
+use Rattle.vg_shapes.specs.declared.pack.Pack.{Pack}
 use Rattle.vg_shapes.specs.declared.pack.Pack.TheVariants.{Stores, Loads, Call}
 use Rattle.vg_shapes.specs.declared.ssa.Ssa.{Ssa}
 use Rattle.vg_shapes.specs.Description.{Description, IsPackable}
 use Rattle.vg_shapes.specs.Matches.{AreMatches}
-use Rattle.vg_packing.specs.Producers.{call_producer, call_producers, load_producer, producers}
-use Rattle.vg_packing.specs.SameAs.{same_pack}
-use Rattle.vg_packing.proofs.SameTests.{pack-is}
-use Rattle.vg_packing.proofs.Tried.{if-has}
+use Rattle.vg_kernel_plans.specs.Producers.{call_producer, call_producers, load_producer, producers}
+use Rattle.vg_kernel_plans.specs.SameAs.{same_pack}
+use Rattle.vg_kernel_plans.proofs.SameTests.{pack-is}
+use Rattle.vg_kernel_plans.proofs.Tried.{if-has}
 use Rattle.vg_plan_relations.specs.Laws.{ProducersAreListed}
 use Rattle.vg_plan_relations.specs.Produces.{AreRising, Produces}
 use Rattle.vg_plan_relations.proofs.Calling.{call-right, call-whole}
@@ -27,7 +27,7 @@ module _ (ds : List Description) (matches : List Match) (ssa : Ssa) (o : Operand
   -- ---- the calls, by number
 
   -- a call of the list is that of one description
-  calls-from : (n : ℕ) (es : List Description) (p : Packed) → Has p (call_producers ds matches ssa o n es)
+  calls-from : (n : ℕ) (es : List Description) (p : Pack) → Has p (call_producers ds matches ssa o n es)
       → (i : ℕ) × (e : Description) × (slice_get es i ≡ Some e) × Has p (call_producer ds matches ssa o (n + i) e)
   calls-from n [] p h = absurd h
   calls-from n (e ∷ es) p h =
@@ -41,7 +41,7 @@ module _ (ds : List Description) (matches : List Match) (ssa : Ssa) (o : Operand
             (suc k.0, k.1, k.2, subst (λ m. Has p (call_producer ds matches ssa o m k.1)) at k.3)
       ]
 
-  calls-have : (n : ℕ) (es : List Description) (i : ℕ) (e : Description) (p : Packed) → slice_get es i ≡ Some e
+  calls-have : (n : ℕ) (es : List Description) (i : ℕ) (e : Description) (p : Pack) → slice_get es i ≡ Some e
       → Has p (call_producer ds matches ssa o (n + i) e) → Has p (call_producers ds matches ssa o n es)
   calls-have n [] i e p at h = absurd (cc)
   calls-have n (x ∷ es) zero e p at h =
@@ -57,36 +57,36 @@ module _ (ds : List Description) (matches : List Match) (ssa : Ssa) (o : Operand
   -- ---- none stands twice
 
   -- a call of a description of this number or a greater one
-  abbrev CallsFrom : ℕ → Packed → Type 0
+  abbrev CallsFrom : ℕ → Pack → Type 0
   CallsFrom n p = (d : ℕ) × (lanes : List (Option ℕ)) × (Call d lanes ≡ p) × (n ≤ d)
 
   all-every : {X : Type 0} (P : X → Type 0) (xs : List X) → ((x : X) → Has x xs → P x) → Every P xs
   all-every P [] h = tt
   all-every P (x ∷ xs) h = (h x (inl refl), all-every P xs (λ y k. h y (inr k)))
 
-  one-or-none : (b : Bool) (p : Packed) → AllDiffer same_pack (if b then p ∷ [] else [])
+  one-or-none : (b : Bool) (p : Pack) → AllDiffer same_pack (if b then p ∷ [] else [])
   one-or-none true p = (tt, tt)
   one-or-none false p = tt
 
-  differ-append : (ps qs : List Packed) → AllDiffer same_pack ps → AllDiffer same_pack qs
-      → ((p q : Packed) → Has p ps → Has q qs → same_pack p q ≡ false) → AllDiffer same_pack (ps ++ qs)
+  differ-append : (ps qs : List Pack) → AllDiffer same_pack ps → AllDiffer same_pack qs
+      → ((p q : Pack) → Has p ps → Has q qs → same_pack p q ≡ false) → AllDiffer same_pack (ps ++ qs)
   differ-append [] qs a b f = b
   differ-append (p ∷ ps) qs a b f = (
     every-append (λ y. same_pack p y ≡ false) ps qs a.0 (all-every (λ y. same_pack p y ≡ false) qs (λ y k. f p y (inl refl) k)),
     differ-append ps qs a.1 b (λ x y h k. f x y (inr h) k),
   )
 
-  call-from : (n : ℕ) (e : Description) (p : Packed) → Has p (call_producer ds matches ssa o n e)
+  call-from : (n : ℕ) (e : Description) (p : Pack) → Has p (call_producer ds matches ssa o n e)
       → (lanes : List (Option ℕ)) × (Call n lanes ≡ p)
   call-from n e p h = let k = if-has _ (Call n _) p h in (_, k.1)
 
-  calls-number : (n : ℕ) (es : List Description) (p : Packed) → Has p (call_producers ds matches ssa o n es) → CallsFrom n p
+  calls-number : (n : ℕ) (es : List Description) (p : Pack) → Has p (call_producers ds matches ssa o n es) → CallsFrom n p
   calls-number n es p h =
       let k = calls-from n es p h in
       let c = call-from (n + k.0) k.1 p k.3 in
       (n + k.0, c.0, c.1, omega arith)
 
-  not-same : (p q : Packed) → (p ≡ q → ⊥) → same_pack p q ≡ false
+  not-same : (p q : Pack) → (p ≡ q → ⊥) → same_pack p q ≡ false
   not-same p q f = elim (cases_Bool (same_pack p q)) [ inl t ↦ absurd (f (pack-is p q t)) | inr g ↦ g ]
 
   calls-differ : (n : ℕ) (es : List Description) → AllDiffer same_pack (call_producers ds matches ssa o n es)
@@ -112,7 +112,7 @@ module _ (ds : List Description) (matches : List Match) (ssa : Ssa) (o : Operand
 
   -- ---- the list
 
-  pub listed-right : AllByRecursion IsPackable ds → AreMatches ds ssa matches → (p : Packed) → Has p (producers ds matches ssa o) → Produces ds matches ssa p o
+  pub listed-right : AllByRecursion IsPackable ds → AreMatches ds ssa matches → (p : Pack) → Has p (producers ds matches ssa o) → Produces ds matches ssa p o
   listed-right packable are p h = elim (has-append p (load_producer ssa o) (call_producers ds matches ssa o 0 ds) h) [
     | inl l ↦ load-right ds matches ssa o p l
     | inr r ↦
@@ -122,7 +122,7 @@ module _ (ds : List Description) (matches : List Match) (ssa : Ssa) (o : Operand
         (subst (λ n. Has p (call_producer ds matches ssa o n k.1)) z k.3)
   ]
 
-  pub listed-whole : AllByRecursion IsPackable ds → AreMatches ds ssa matches → AreRising o.slots → (p : Packed) → Produces ds matches ssa p o → Has p (producers ds matches ssa o)
+  pub listed-whole : AllByRecursion IsPackable ds → AreMatches ds ssa matches → AreRising o.slots → (p : Pack) → Produces ds matches ssa p o → Has p (producers ds matches ssa o)
   listed-whole packable are rise (Stores us) is = absurd is.pack
   listed-whole packable are rise (Loads us) is =
       has-left (Loads us) (load_producer ssa o) (call_producers ds matches ssa o 0 ds) (load-whole ds matches ssa o us rise is)

@@ -13,10 +13,10 @@ use Rattle.vg_shapes.specs.declared.ssa.Ssa.{Ssa}
 use Rattle.vg_shapes.specs.declared.wanted.Wanted.{Wanted}
 use Rattle.vg_shapes.specs.declared.wanted.Wanted.TheVariants.{Value, Constant, Nothing}
 use Rattle.vg_shapes.specs.Operands.{AreSlots, IsOperand}
-use Rattle.vg_packing.specs.Held.{lanes_from}
-use Rattle.vg_packing.specs.Producers.{all_differ}
-use Rattle.vg_packing.specs.Wants.{is_wanted, slot, value_of, wants_value}
-use Rattle.vg_packing.proofs.SameTests.{both-true}
+use Rattle.vg_kernel_plans.specs.Held.{lanes_from}
+use Rattle.vg_kernel_plans.specs.Producers.{all_differ}
+use Rattle.vg_kernel_plans.specs.Wants.{is_wanted, slot, value_of, wants_value}
+use Rattle.vg_kernel_plans.proofs.SameTests.{both-true}
 use Rattle.vg_plan_relations.specs.Produces.{AreRising, HasLane}
 
 -- ---- rising slots

@@ -5,14 +5,14 @@ use Rattle.vg_plans.specs.Members.{Has}
 use Rattle.vg_plans.specs.World.{follows}
 use Rattle.vg_shapes.specs.declared.operand.Operand.{Operand}
 use Rattle.vg_shapes.specs.declared.operand.Slot.{Slot}
-use Rattle.vg_shapes.specs.declared.pack.Pack.{Pack as Packed}
+use Rattle.vg_shapes.specs.declared.pack.Pack.{Pack}
 use Rattle.vg_shapes.specs.declared.pack.Pack.TheVariants.{Loads, Stores}
 use Rattle.vg_shapes.specs.declared.wanted.Wanted.TheVariants.{Value}
 use Rattle.vg_shapes.specs.Depends.{dependences}
 use Rattle.vg_shapes.specs.Matches.{AreMatches}
-use Rattle.vg_packing.specs.Fed.{IsFedPlanFor, fed, packing_by}
-use Rattle.vg_packing.specs.Taken.{group_operand, operands_of}
-use Rattle.vg_packing.specs.Wants.{slot}
+use Rattle.vg_kernel_plans.specs.Fed.{IsFedPlanFor, fed, packing_by}
+use Rattle.vg_kernel_plans.specs.Taken.{group_operand, operands_of}
+use Rattle.vg_kernel_plans.specs.Wants.{slot}
 use Rattle.vg_plan_relations.specs.Produces.{HasLane, IsLaneSlot, Produces}
 use Rattle.vg_plan_relations.specs.SwappedLoads.{SwappedLoadsAreFed, swapped, swapped_plan}
 use Rattle.vg_plan_relations.proofs.Planning.{grown-by}
@@ -42,7 +42,7 @@ no-lane k = by k.0 k.1 k.2 (ap (λ (s : Slot). s.low) k.3) (ap (λ (s : Slot). s
         absurd (omega (arith, first, second))
     by (suc i) v at low wants = absurd (omega (arith, low))
 
-not-produced : (p q : Packed) (o : Operand) → Stores (2 ∷ 3 ∷ []) ≡ q → Has o (operands_of [] [] swapped q)
+not-produced : (p q : Pack) (o : Operand) → Stores (2 ∷ 3 ∷ []) ≡ q → Has o (operands_of [] [] swapped q)
     → Produces [] [] swapped (Loads (0 ∷ 1 ∷ [])) o → ⊥
 not-produced p q o same h is =
     let own : Has o (group_operand swapped (2 ∷ 3 ∷ []) ∷ []) =

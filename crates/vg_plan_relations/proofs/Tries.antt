@@ -11,7 +11,7 @@ use Rattle.vg_plans.proofs.Members.{from-filter, from-flat_map, has-append, has-
 use Rattle.vg_shapes.specs.declared.match_table.Match.{Match}
 use Rattle.vg_shapes.specs.declared.operand.Operand.{Operand}
 use Rattle.vg_shapes.specs.declared.operand.Slot.{Slot}
-use Rattle.vg_shapes.specs.declared.pack.Pack.{Pack as Packed}
+use Rattle.vg_shapes.specs.declared.pack.Pack.{Pack}
 use Rattle.vg_shapes.specs.declared.pack.Pack.TheVariants.{Stores, Loads, Call}
 use Rattle.vg_shapes.specs.declared.ssa.Ssa.{Ssa}
 use Rattle.vg_shapes.specs.declared.wanted.Wanted.{Wanted}
@@ -19,13 +19,13 @@ use Rattle.vg_shapes.specs.Depends.{dependences}
 use Rattle.vg_shapes.specs.Description.{Description, IsPackable}
 use Rattle.vg_shapes.specs.Matches.{AreMatches}
 use Rattle.vg_shapes.specs.Pack.{AreStores, bounds_from}
-use Rattle.vg_packing.specs.declared.choice.Choice.{Choice}
-use Rattle.vg_packing.specs.Fed.{feeders_by, groups_by, packing_by}
-use Rattle.vg_packing.specs.Groups.{aligned_groups, is_aligned, store_groups}
-use Rattle.vg_packing.specs.LoadGroups.{feeders}
-use Rattle.vg_packing.specs.Producers.{producers}
-use Rattle.vg_packing.specs.Taken.{first_width, operands_of, params_of, slots_from, unit_width}
-use Rattle.vg_packing.proofs.LoadPacks.{IsLoadGroup, load-group}
+use Rattle.vg_kernel_plans.specs.declared.choice.Choice.{Choice}
+use Rattle.vg_kernel_plans.specs.Fed.{feeders_by, groups_by, packing_by}
+use Rattle.vg_kernel_plans.specs.Groups.{aligned_groups, is_aligned, store_groups}
+use Rattle.vg_kernel_plans.specs.LoadGroups.{feeders}
+use Rattle.vg_kernel_plans.specs.Producers.{producers}
+use Rattle.vg_kernel_plans.specs.Taken.{first_width, operands_of, params_of, slots_from, unit_width}
+use Rattle.vg_kernel_plans.proofs.LoadPacks.{IsLoadGroup, load-group}
 use Rattle.vg_packs.specs.Laws.{IsGroup}
 use Rattle.vg_packs.proofs.Once.{groups-listed}
 use Rattle.vg_plan_relations.specs.Plans.{FeedsFor, FeedsForBy, IsGroupBy, ProducesFor}
@@ -57,51 +57,51 @@ stores-wide ssa w a (u ∷ us) (x ∷ xs) s l = subst (λ n. 0 < n) (sym (ap uni
 
 -- ---- store groups and load groups by choice
 
-groups-right : (a : Bool) (ssa : Ssa) (p : Packed) → Has p (if a then aligned_groups ssa else store_groups ssa)
+groups-right : (a : Bool) (ssa : Ssa) (p : Pack) → Has p (if a then aligned_groups ssa else store_groups ssa)
     → IsGroupBy a ssa p
 groups-right true ssa p h =
     let k = from-filter (is_aligned ssa) p (store_groups ssa) h in
     ((groups-listed ssa).right p k.0, k.1)
 groups-right false ssa p h = (groups-listed ssa).right p h
 
-group-listed : (ssa : Ssa) (p : Packed) → IsGroup ssa p → Has p (store_groups ssa)
+group-listed : (ssa : Ssa) (p : Pack) → IsGroup ssa p → Has p (store_groups ssa)
 group-listed ssa (Stores us) g = (groups-listed ssa).whole us g
 group-listed ssa (Loads us) g = absurd g
 group-listed ssa (Call d lanes) g = absurd g
 
-groups-whole : (a : Bool) (ssa : Ssa) (p : Packed) → IsGroupBy a ssa p
+groups-whole : (a : Bool) (ssa : Ssa) (p : Pack) → IsGroupBy a ssa p
     → Has p (if a then aligned_groups ssa else store_groups ssa)
 groups-whole true ssa p g = has-filter (is_aligned ssa) p (store_groups ssa) (group-listed ssa p g.0) g.1
 groups-whole false ssa p g = group-listed ssa p g
 
-pub any-group : (a : Bool) (ssa : Ssa) (p : Packed) → IsGroupBy a ssa p → IsGroup ssa p
+pub any-group : (a : Bool) (ssa : Ssa) (p : Pack) → IsGroupBy a ssa p → IsGroup ssa p
 any-group true ssa p g = g.0
 any-group false ssa p g = g
 
 module _ (ds : List Description) (matches : List Match) (ssa : Ssa) where
-  pub any-feeds : (f : Bool) (before : List Packed) (p : Packed) → FeedsForBy f ds matches ssa before p
+  pub any-feeds : (f : Bool) (before : List Pack) (p : Pack) → FeedsForBy f ds matches ssa before p
       → FeedsFor ds matches ssa before p
   any-feeds true before p k = k
   any-feeds false before p k = absurd k
 
-  feeders-right : (f : Bool) (before : List Packed) (p q : Packed) (o : Operand) → Has q before
+  feeders-right : (f : Bool) (before : List Pack) (p q : Pack) (o : Operand) → Has q before
       → Has o (operands_of ds matches ssa q) → Has p (if f then feeders ssa o else [])
       → FeedsForBy f ds matches ssa before p
   feeders-right true before p q o hq ho h = (q, o, hq, ho, feeds-right ssa o p h)
   feeders-right false before p q o hq ho h = absurd h
 
   -- a load group is tried for the operand that it feeds
-  abbrev IsTriedFor : Bool → List Packed → Packed → Type 0
+  abbrev IsTriedFor : Bool → List Pack → Pack → Type 0
   IsTriedFor f before p =
-      (q : Packed) × (o : Operand) × Has q before × Has o (operands_of ds matches ssa q)
+      (q : Pack) × (o : Operand) × Has q before × Has o (operands_of ds matches ssa q)
       × Has p (if f then feeders ssa o else [])
 
-  feeders-whole : (f : Bool) (before : List Packed) (p : Packed) → FeedsForBy f ds matches ssa before p
+  feeders-whole : (f : Bool) (before : List Pack) (p : Pack) → FeedsForBy f ds matches ssa before p
       → IsTriedFor f before p
   feeders-whole true before p k = (k.0, k.1, k.2, k.3, feeds-whole ssa k.1 p k.4)
   feeders-whole false before p k = absurd k
 
-  fed-loads : (f : Bool) (before : List Packed) (p : Packed) → FeedsForBy f ds matches ssa before p
+  fed-loads : (f : Bool) (before : List Pack) (p : Pack) → FeedsForBy f ds matches ssa before p
       → IsLoadGroup ssa p
   fed-loads f before p k =
       let m = any-feeds f before p k in
@@ -111,13 +111,13 @@ module _ (ds : List Description) (matches : List Match) (ssa : Ssa) where
   -- ---- what is tried
 
   -- a pack is a store group, produces an operand of one of these, or feeds one
-  abbrev pub MayFollow : Choice → List Packed → Packed → Type 0
+  abbrev pub MayFollow : Choice → List Pack → Pack → Type 0
   MayFollow c before p =
       IsGroupBy c.aligned ssa p
       ⊎ (ProducesFor ds matches ssa before p ⊎ FeedsForBy c.fed ds matches ssa before p)
 
   module _ (packable : AllByRecursion IsPackable ds) (are : AreMatches ds ssa matches) where
-    pub pack-rises : (c : Choice) (before : List Packed) (p : Packed) (q : Operand) → MayFollow c before p
+    pub pack-rises : (c : Choice) (before : List Pack) (p : Pack) (q : Operand) → MayFollow c before p
         → Has q (operands_of ds matches ssa p) → AreRising q.slots
     pack-rises c before (Stores us) q m h = elim m [
       | inl k ↦
@@ -146,11 +146,11 @@ module _ (ds : List Description) (matches : List Match) (ssa : Ssa) where
       ]
     ]
 
-    pub tried-may : (c : Choice) (before : List Packed) (p : Packed)
+    pub tried-may : (c : Choice) (before : List Pack) (p : Pack)
         → Has p (tried (packing_by c ds matches ssa (dependences ssa)) before) → MayFollow c before p
     tried-may c before p h =
-        let of : Operand → List Packed = tried_for (packing_by c ds matches ssa (dependences ssa)) in
-        let all : Packed → List Packed = λ q. flat_map of (operands_of ds matches ssa q) in
+        let of : Operand → List Pack = tried_for (packing_by c ds matches ssa (dependences ssa)) in
+        let all : Pack → List Pack = λ q. flat_map of (operands_of ds matches ssa q) in
         elim (has-append p (groups_by c ssa) (flat_map all before) h) [
           | inl l ↦ inl (groups-right c.aligned ssa p l)
           | inr r ↦
@@ -162,13 +162,13 @@ module _ (ds : List Description) (matches : List Match) (ssa : Ssa) where
               ]
         ]
 
-    pub may-tried : (c : Choice) (before : List Packed) (p : Packed)
-        → ((q : Packed) (o : Operand) → Has q before → Has o (operands_of ds matches ssa q) → AreRising o.slots)
+    pub may-tried : (c : Choice) (before : List Pack) (p : Pack)
+        → ((q : Pack) (o : Operand) → Has q before → Has o (operands_of ds matches ssa q) → AreRising o.slots)
         → MayFollow c before p → Has p (tried (packing_by c ds matches ssa (dependences ssa)) before)
     may-tried c before p rises m =
-        let of : Operand → List Packed = tried_for (packing_by c ds matches ssa (dependences ssa)) in
-        let all : Packed → List Packed = λ q. flat_map of (operands_of ds matches ssa q) in
-        let there : (q : Packed) (o : Operand) → Has q before → Has o (operands_of ds matches ssa q) → Has p (of o)
+        let of : Operand → List Pack = tried_for (packing_by c ds matches ssa (dependences ssa)) in
+        let all : Pack → List Pack = λ q. flat_map of (operands_of ds matches ssa q) in
+        let there : (q : Pack) (o : Operand) → Has q before → Has o (operands_of ds matches ssa q) → Has p (of o)
         → Has p (tried (packing_by c ds matches ssa (dependences ssa)) before) =
         λ q o hq ho h.
         has-right p (groups_by c ssa) (flat_map all before)

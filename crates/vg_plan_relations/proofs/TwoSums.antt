@@ -19,8 +19,8 @@ use Rattle.vg_shapes.specs.Pack.{match_at}
 use Rattle.vg_shapes.specs.Registers.{bits_key}
 use Rattle.vg_shapes.specs.Sound.{term_at}
 use Rattle.vg_shapes.proofs.WholeTables.{wide-is-whole}
-use Rattle.vg_packing.specs.Laws.{IsPlanFor}
-use Rattle.vg_packing.specs.Packing.{packing}
+use Rattle.vg_kernel_plans.specs.Laws.{IsPlanFor}
+use Rattle.vg_kernel_plans.specs.Packing.{packing}
 use Rattle.vg_plan_relations.specs.TwoSums.{argument, four_sums, sum_lane, sum_match, sum_matches, sum_plan, sum_tree, two_sums, TwoSumsArePlanned}
 use Rattle.vg_plan_relations.proofs.Planning.{grown-nodes}
 

@@ -16,7 +16,7 @@ use Rattle.vg_shapes.specs.declared.match_table.Match.{Match}
 use Rattle.vg_shapes.specs.declared.operand.Operand.{Operand}
 use Rattle.vg_shapes.specs.declared.order.Node.{Node}
 use Rattle.vg_shapes.specs.declared.order.Node.TheVariants.{PackAt, UnitAt}
-use Rattle.vg_shapes.specs.declared.pack.Pack.{Pack as Packed}
+use Rattle.vg_shapes.specs.declared.pack.Pack.{Pack}
 use Rattle.vg_shapes.specs.declared.pack.Pack.TheVariants.{Stores, Loads, Call}
 use Rattle.vg_shapes.specs.declared.ssa.Ssa.{Ssa}
 use Rattle.vg_shapes.specs.declared.wanted.Wanted.{Wanted}
@@ -28,8 +28,8 @@ use Rattle.vg_shapes.specs.Nodes as node
 use Rattle.vg_shapes.specs.Order.{numbers_from, Stands}
 use Rattle.vg_shapes.specs.Pack.{bounds_from, units_of}
 use Rattle.vg_shapes.specs.Units.{arguments, is_unit, is_value}
-use Rattle.vg_packing.specs.Packing.{falling_units, needs_of, packing}
-use Rattle.vg_packing.specs.Wants.{value_of}
+use Rattle.vg_kernel_plans.specs.Packing.{falling_units, needs_of, packing}
+use Rattle.vg_kernel_plans.specs.Wants.{value_of}
 use Rattle.vg_deps.proofs.Pairs.{lists-dependences}
 use Rattle.vg_order.proofs.Graphs.{found-stands, unit-inside}
 use Rattle.vg_plan_relations.proofs.Exact.{and-true}
@@ -126,7 +126,7 @@ rows-depend ssa us x h =
     let k = from-flat_map (row_of (dependences ssa)) x us h in
     any-is (λ u. depends_on ssa u x) k.0 us k.1 (listed-depends ssa k.0 x k.2)
 
-pack-depends : (ssa : Ssa) (matches : List Match) (p : Packed) (x : ℕ) → Has x (needs_of matches ssa (dependences ssa) p) → node.pack_depends ssa matches p x ≡ true
+pack-depends : (ssa : Ssa) (matches : List Match) (p : Pack) (x : ℕ) → Has x (needs_of matches ssa (dependences ssa) p) → node.pack_depends ssa matches p x ≡ true
 pack-depends ssa matches (Stores us) x h = rows-depend ssa us x h
 pack-depends ssa matches (Loads us) x h = rows-depend ssa us x h
 pack-depends ssa matches (Call d lanes) x h =
@@ -134,8 +134,8 @@ pack-depends ssa matches (Call d lanes) x h =
     let t = value-has x (bounds_from matches d 0 lanes) k.0 in
     and-true _ _ k.1 t
 
-module _ (ds : List Description) (matches : List Match) (ssa : Ssa) (packs : List Packed) where
-  abbrev world : World Packed Operand Operand
+module _ (ds : List Description) (matches : List Match) (ssa : Ssa) (packs : List Pack) where
+  abbrev world : World Pack Operand Operand
   world = packing ds matches ssa (dependences ssa)
 
   -- a node has a unit, and depends on one of these
@@ -146,7 +146,7 @@ module _ (ds : List Description) (matches : List Match) (ssa : Ssa) (packs : Lis
     waits : Has next left
     depends : node.node_depends ssa matches packs n next ≡ true
 
-  needed-of : (v : ℕ) (q : Packed) (x : ℕ) → Has x (if is_in v (units_of q) then needs_of matches ssa (dependences ssa) q else [])
+  needed-of : (v : ℕ) (q : Pack) (x : ℕ) → Has x (if is_in v (units_of q) then needs_of matches ssa (dependences ssa) q else [])
       → (is_in v (units_of q) ≡ true) × Has x (needs_of matches ssa (dependences ssa) q)
   needed-of v q x h = elim (cases_Bool (is_in v (units_of q))) [ inl t ↦ (t, rw t at h) | inr f ↦ absurd (rw f at h) ]
 

@@ -6,7 +6,7 @@ use Rattle.vg_shapes.specs.declared.match_table.Bound.{Bound}
 use Rattle.vg_shapes.specs.declared.match_table.Match.{Match}
 use Rattle.vg_shapes.specs.declared.operand.Operand.{Operand}
 use Rattle.vg_shapes.specs.declared.operand.Slot.{Slot}
-use Rattle.vg_shapes.specs.declared.pack.Pack.{Pack as Packed}
+use Rattle.vg_shapes.specs.declared.pack.Pack.{Pack}
 use Rattle.vg_shapes.specs.declared.pack.Pack.TheVariants.{Stores, Loads, Call}
 use Rattle.vg_shapes.specs.declared.ssa.Ssa.{Ssa}
 use Rattle.vg_shapes.specs.declared.wanted.Wanted.TheVariants.{Value}
@@ -16,9 +16,9 @@ use Rattle.vg_shapes.specs.Leaves.{bit_number}
 use Rattle.vg_shapes.specs.Matches.{lane_at}
 use Rattle.vg_shapes.specs.Operands.{lanes_of}
 use Rattle.vg_shapes.specs.Pack.{IsLoadPack, match_at, units_of}
-use Rattle.vg_packing.specs.Held.{lane_width_of, register_of}
-use Rattle.vg_packing.specs.Taken.{slot_of}
-use Rattle.vg_packing.specs.Wants.{is_wanted, slot}
+use Rattle.vg_kernel_plans.specs.Held.{lane_width_of, register_of}
+use Rattle.vg_kernel_plans.specs.Taken.{slot_of}
+use Rattle.vg_kernel_plans.specs.Wants.{is_wanted, slot}
 
 -- a lane has this value, lane 0 first; a lane may have none
 abbrev pub HasLane : List (Option ℕ) → ℕ → ℕ → Type 0
@@ -58,13 +58,13 @@ pub record IsCallPack
   pub agree : LanesAgree matches d lanes
 
 -- a pack that leaves a register: a load pack or a call pack
-abbrev pub LeavesRegister : List Description → List Match → Ssa → Packed → Type 0
+abbrev pub LeavesRegister : List Description → List Match → Ssa → Pack → Type 0
 LeavesRegister ds matches ssa (Stores us) = ⊥
 LeavesRegister ds matches ssa (Loads us) = IsLoadPack ssa us
 LeavesRegister ds matches ssa (Call d lanes) = IsCallPack ds matches ssa d lanes
 
 -- a slot is a lane of a pack: it stands where the lane does, is as wide, and wants its value
-abbrev pub IsLaneSlot : List Description → Ssa → Packed → Slot → Type 0
+abbrev pub IsLaneSlot : List Description → Ssa → Pack → Slot → Type 0
 IsLaneSlot ds ssa p s =
     (i : ℕ) × (v : ℕ) × HasLane (lanes_of p) i v
     × (s ≡ slot (i * lane_width_of ds ssa p) (lane_width_of ds ssa p) (Value v))
@@ -72,7 +72,7 @@ IsLaneSlot ds ssa p s =
 -- A pack produces an operand: its register is as wide, and its lanes are exactly the slots that
 -- want something. So each of these wants a value, and no lane is matched that no slot wants.
 pub record Produces
-    (ds : List Description) (matches : List Match) (ssa : Ssa) (p : Packed) (o : Operand)
+    (ds : List Description) (matches : List Match) (ssa : Ssa) (p : Pack) (o : Operand)
     : Type 0 where
   pub pack : LeavesRegister ds matches ssa p
   -- no unit stands in the pack twice
@@ -83,7 +83,7 @@ pub record Produces
 
 -- A pack holds an operand: its register is as wide, and each slot that wants something is a lane of
 -- it. Some slot does, as an operand that wants nothing is held by no pack.
-pub record Holds (ds : List Description) (ssa : Ssa) (p : Packed) (o : Operand) : Type 0 where
+pub record Holds (ds : List Description) (ssa : Ssa) (p : Pack) (o : Operand) : Type 0 where
   pub register : register_of ds ssa p ≡ o.register
   pub some : (s : Slot) × Has s o.slots × (is_wanted s.wanted ≡ true)
   pub wanted : (s : Slot) → Has s o.slots → is_wanted s.wanted ≡ true → IsLaneSlot ds ssa p s

@@ -4,13 +4,13 @@ use Rattle.vg_base.specs.declared.address.Address.{Address}
 use Rattle.vg_base.specs.declared.width.Width.TheVariants.{W32}
 use Rattle.vg_scalar.specs.declared.two_op.TwoOp.TheVariants.{Add}
 use Rattle.vg_shapes.specs.declared.match_table.Match.{Match}
-use Rattle.vg_shapes.specs.declared.pack.Pack.{Pack as Packed}
+use Rattle.vg_shapes.specs.declared.pack.Pack.{Pack}
 use Rattle.vg_shapes.specs.declared.pack.Pack.TheVariants.{Call, Stores}
 use Rattle.vg_shapes.specs.declared.ssa.Ssa.{Ssa}
 use Rattle.vg_shapes.specs.declared.ssa.SsaParamKind.TheVariants.{Integer, Pointer}
-use Rattle.vg_shapes.specs.declared.unit.Operator.TheVariants.{Two}
-use Rattle.vg_shapes.specs.declared.unit.Unit.{Unit as Work}
-use Rattle.vg_shapes.specs.declared.unit.Unit.TheVariants.{Operation, Store}
+use Rattle.vg_shapes.specs.declared.ssa_unit.Operator.TheVariants.{Two}
+use Rattle.vg_shapes.specs.declared.ssa_unit.SsaUnit.{SsaUnit}
+use Rattle.vg_shapes.specs.declared.ssa_unit.SsaUnit.TheVariants.{Operation, Store}
 use Rattle.vg_shapes.specs.declared.wanted.Wanted.TheVariants.{Nothing, Value}
 use Rattle.vg_shapes.specs.Description.{Description}
 use Rattle.vg_shapes.specs.Registers.{bits_key}
@@ -30,7 +30,7 @@ argument v = leaf 32 (argument_key v)
 abbrev pub sum_tree : Tree
 sum_tree = two term.Add 32 (argument 0) (argument 1)
 
-abbrev pub sum_unit : Work
+abbrev pub sum_unit : SsaUnit
 sum_unit = Operation (Two Add) W32 0 (record { first = Value 0; second = Value 1; third = Nothing })
 
 abbrev pub word : ℕ → Address
@@ -107,7 +107,7 @@ sum_matches =
 -- ---- the plan
 
 -- both stores in one line, and both sums by one call, in lanes 0 and 1
-abbrev pub sum_plan : List Packed
+abbrev pub sum_plan : List Pack
 sum_plan = Stores (4 ∷ 5 ∷ []) ∷ Call 0 (Some 2 ∷ Some 3 ∷ None ∷ None ∷ []) ∷ []
 
 -- the call produces what the stores store, and the two are a plan

@@ -3,7 +3,7 @@
 //!
 //! `specs/Produces.antt` says when a pack produces an operand and when it holds one, and
 //! `specs/Plans.antt` when a list of packs is a plan, without load groups that feed operands or with
-//! them. The laws join them to the lists and tests of `vg_packing`, by which packs are found and plans
+//! them. The laws join them to the lists and tests of `vg_kernel_plans`, by which packs are found and plans
 //! grow. `specs/TwoSums.antt` has a small kernel, an instance, and a plan with a call, and
 //! `specs/SwappedLoads.antt` a small kernel with a plan that is fed.
 #![tactic(auto)]

@@ -6,10 +6,10 @@ use Rattle.vg_base.specs.Trap.{◌>>=◌}
 use Rattle.vg_program.specs.declared.param.Param.{Param}
 use Rattle.vg_program.specs.Text.{address_text, imm_text}
 use Rattle.vg_shapes.specs.declared.access.Access.{Access}
-use Rattle.vg_shapes.specs.declared.pack.Pack.{Pack as Packed}
+use Rattle.vg_shapes.specs.declared.pack.Pack.{Pack}
 use Rattle.vg_shapes.specs.declared.pack.Pack.TheVariants.{Stores, Loads, Call}
 use Rattle.vg_shapes.specs.declared.ssa.Ssa.{Ssa}
-use Rattle.vg_shapes.specs.declared.unit.Unit.{Unit as Work}
+use Rattle.vg_shapes.specs.declared.ssa_unit.SsaUnit.{SsaUnit}
 use Rattle.vg_shapes.specs.Description.{Description}
 use Rattle.vg_plan_text.specs.declared.costs.Costs.{Costs}
 use Rattle.vg_shapes.specs.Layout.{access_of}
@@ -19,7 +19,7 @@ abbrev pub newline : List ℕ
 newline = 10 ∷ []
 
 -- what a unit reads or writes, if it is there and does
-abbrev pub accessed : Option Work → Option Access
+abbrev pub accessed : Option SsaUnit → Option Access
 accessed unit = unit >>= access_of
 
 -- what the first of these units reads or writes
@@ -40,7 +40,7 @@ call_line None count = []
 call_line (Some d) count =
     codes "pack call " ++ d.name ++ imm_text d.imm ++ codes " lanes " ++ decimal count ++ newline
 
-abbrev pub pack_line : List Param → List Description → Ssa → Packed → List ℕ
+abbrev pub pack_line : List Param → List Description → Ssa → Pack → List ℕ
 pack_line params ds ssa (Stores us) =
     access_line params (codes "store") (length us) (first_access ssa us)
 pack_line params ds ssa (Loads us) =
@@ -55,6 +55,6 @@ cost_line costs =
     ++ codes " scalar " ++ decimal costs.scalar ++ newline
 
 -- a line for each pack, and the line on costs
-abbrev pub plan_text : List Param → List Description → Ssa → List Packed → Costs → List ℕ
+abbrev pub plan_text : List Param → List Description → Ssa → List Pack → Costs → List ℕ
 plan_text params ds ssa plan costs =
     flat_map (pack_line params ds ssa) plan ++ cost_line costs

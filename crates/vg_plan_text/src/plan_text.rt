@@ -7,13 +7,13 @@ ghost use Rattle.vg_plan_text.specs.PlanText.{access_line, accessed, call_line, 
 
 use crate::costs::Costs;
 use std::alloc::{AllocError, Global};
-use vg_packing::units::unit_at;
+use vg_kernel_plans::units::unit_at;
 use vg_program::Param;
 use vg_program::parts::{put_address, put_imm, put_number};
-use vg_shapes::{Access, Description, Pack, Plan, Ssa, Unit};
+use vg_shapes::{Access, Description, Pack, Plan, Ssa, SsaUnit};
 
 /// What a unit reads or writes, if it is there and does.
-fn access_of(unit: Option<Unit>) -> Option<Access>
+fn access_of(unit: Option<SsaUnit>) -> Option<Access>
     ensures { result ≡ accessed unit }
 {
     match unit {

@@ -15,8 +15,8 @@ use Rattle.vg_bits.specs.declared.register.Reg.{Reg}
 use Rattle.vg_script.specs.Views.{Whole}
 use Rattle.vg_pmean.specs.Applied.{IsReady}
 use Rattle.vg_pmean.specs.Held.{Alike, Held, widths_in, entered_at, filled}
-use Rattle.vg_pmean.specs.declared.room.Room.{Room}
-use Rattle.vg_pmean.specs.Room.{Suffices, around, either, no_room}
+use Rattle.vg_pmean.specs.declared.frame_room.FrameRoom.{FrameRoom}
+use Rattle.vg_pmean.specs.FrameRoom.{Suffices, around, either, no_room}
 
 pub length_at : (rs : List (List ℕ)) (r : ℕ) → get_or (map (λ x. length x) rs) r 0 ≡ length (get_or rs r [])
 length_at [] r = refl
@@ -122,7 +122,7 @@ entered_length (w ∷ ws) (n ∷ ns) = ap suc (entered_length ws ns)
 
 -- ---- room inside a call
 
-module _ (ws : List ℕ) (n : ℕ) (g s a room : Room) (k : ℕ) (h : Suffices (around ws n (either g (either s a))) room (k + 1)) where
+module _ (ws : List ℕ) (n : ℕ) (g s a room : FrameRoom) (k : ℕ) (h : Suffices (around ws n (either g (either s a))) room (k + 1)) where
   pub suffices_given : Suffices g room k
   suffices_given = record { frames = omega (arith, h.frames); registers = omega (arith, h.registers); variables = omega (arith, h.variables); bits = omega (arith, h.bits) }
 
@@ -133,7 +133,7 @@ module _ (ws : List ℕ) (n : ℕ) (g s a room : Room) (k : ℕ) (h : Suffices (
   suffices_answer = record { frames = omega (arith, h.frames); registers = omega (arith, h.registers); variables = omega (arith, h.variables); bits = omega (arith, h.bits) }
 
 -- less is looked at when the statements are done
-pub suffices_less : (ws : List ℕ) (n : ℕ) (g s a room : Room) (k : ℕ) → Suffices (around ws n (either g (either s a))) room k → Suffices (around ws n (either g (either s no_room))) room k
+pub suffices_less : (ws : List ℕ) (n : ℕ) (g s a room : FrameRoom) (k : ℕ) → Suffices (around ws n (either g (either s a))) room k → Suffices (around ws n (either g (either s no_room))) room k
 suffices_less ws n g s a room k h = record { frames = omega (arith, h.frames); registers = omega (arith, h.registers); variables = omega (arith, h.variables); bits = omega (arith, h.bits) }
 
 -- ---- one more
@@ -159,17 +159,17 @@ given_next [] k d some = absurd (omega arith)
 given_next (p ∷ ps) zero d some = refl
 given_next (p ∷ ps) (suc k) d some = given_next ps k d (omega arith)
 
-pub alike_more : (room : Room) (hs : List Held) (h : Held) → Alike room hs → h.room ≡ room → Alike room (hs ++ h ∷ [])
+pub alike_more : (room : FrameRoom) (hs : List Held) (h : Held) → Alike room hs → h.room ≡ room → Alike room (hs ++ h ∷ [])
 alike_more room [] h all same = (same, tt)
 alike_more room (x ∷ hs) h all same = (all.0, alike_more room hs h all.1 same)
 
-pub ready_first : (a b : Room) (i : Whole) → IsReady a i → IsReady (either a b) i
+pub ready_first : (a b : FrameRoom) (i : Whole) → IsReady a i → IsReady (either a b) i
 ready_first a b i h = record {
   formed = h.formed;
   enough = record { frames = omega (arith, h.enough.frames); registers = omega (arith, h.enough.registers); variables = omega (arith, h.enough.variables); bits = omega (arith, h.enough.bits) };
 }
 
-pub ready_second : (a b : Room) (i : Whole) → IsReady b i → IsReady (either a b) i
+pub ready_second : (a b : FrameRoom) (i : Whole) → IsReady b i → IsReady (either a b) i
 ready_second a b i h = record {
   formed = h.formed;
   enough = record { frames = omega (arith, h.enough.frames); registers = omega (arith, h.enough.registers); variables = omega (arith, h.enough.variables); bits = omega (arith, h.enough.bits) };

@@ -14,7 +14,7 @@ use Rattle.vg_bits.proofs.Ranges.{length-range, length-replaced, range-replaced_
 use Rattle.vg_bits.proofs.BitLists.{bits-zero, IsBits-range}
 use Rattle.vg_bits.proofs.ByteLists.{length-bits_of_bytes, IsBits-bits_of_bytes, bits_of_bytes-append, bits_of_bytes-zero}
 use Rattle.vg_pmean.specs.declared.extent.Extent.{Extent}
-use Rattle.vg_pmean.specs.declared.room.Room.{Room}
+use Rattle.vg_pmean.specs.declared.frame_room.FrameRoom.{FrameRoom}
 use Rattle.vg_pmean.specs.Extent.{IsLaid, IsRoomy, total, widths_of, place_in, bits_at, registers_in}
 use Rattle.vg_pmean.specs.Held.{Held, held, widths_in}
 use Rattle.vg_pmean.proofs.Laying.{ends, width_at, written_at, register_at, take-both, all_zero}
@@ -28,7 +28,7 @@ same_length new old more at is fits =
     let all : at + length more ≤ length (bits_of_bytes old) = omega (arith, fits, length-bits_of_bytes old) in
     omega (arith, size, length-bits_of_bytes new, length-bits_of_bytes old, length-replaced at more (bits_of_bytes old) all)
 
-module _ (room : Room) (es : List Extent) (v : Vec ℕ) (spare vs : List ℕ) (p q : ℕ) (roomy : IsRoomy room es v.items spare p q) (now : Held) (view : held (cells_of v.items es vs) room ≡ now) where
+module _ (room : FrameRoom) (es : List Extent) (v : Vec ℕ) (spare vs : List ℕ) (p q : ℕ) (roomy : IsRoomy room es v.items spare p q) (now : Held) (view : held (cells_of v.items es vs) room ≡ now) where
   all_inside : total (widths_of es) ≤ length (bits_of_bytes v.items)
   all_inside = omega (arith, roomy.within, roomy.bytes_hold, length-bits_of_bytes v.items)
 

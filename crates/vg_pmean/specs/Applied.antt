@@ -7,8 +7,8 @@ use Rattle.vg_script.specs.Cells.{Cells, entered, after}
 use Rattle.vg_script.specs.Formed.{ScriptFormed}
 use Rattle.vg_script.specs.Views.{Whole, whole_of}
 use Rattle.vg_script.specs.declared.whole.Whole as code
-use Rattle.vg_pmean.specs.declared.room.Room.{Room}
-use Rattle.vg_pmean.specs.Room.{Suffices, around, script_room}
+use Rattle.vg_pmean.specs.declared.frame_room.FrameRoom.{FrameRoom}
+use Rattle.vg_pmean.specs.FrameRoom.{Suffices, around, script_room}
 
 -- the numbers of the parameters, and after them the immediate
 abbrev pub given : {B : ℕ} → List (Reg B) → ℕ → List ℕ
@@ -41,10 +41,10 @@ answer r imm ns =
     option_map_or (λ i. left_in_dst (whole_of i) ns) (slice_get r.instances (place_of r.least imm)) []
 
 -- an instance that is formed, and that this room is enough for
-pub record IsReady (room : Room) (i : Whole) : Type 0 where
+pub record IsReady (room : FrameRoom) (i : Whole) : Type 0 where
   pub formed : ScriptFormed i.widths i.script
   pub enough : Suffices (around i.widths i.variables (script_room i.script)) room room.frames
 
-abbrev pub AreReady : Room → List code.Whole → Type 0
+abbrev pub AreReady : FrameRoom → List code.Whole → Type 0
 AreReady room is =
     (k : ℕ) (i : code.Whole) → slice_get is k ≡ Some i → IsReady room (whole_of i)

@@ -2,7 +2,7 @@
 use Rattle.std.specs.Prelude.{◌≡◌, ℕ, ◌+◌, ◌*◌, ◌^◌, ◌<◌, ◌≤◌, List, [], ◌∷◌, length, map, get_or}
 use Rattle.vg_bits.specs.Range.{range}
 use Rattle.vg_pmean.specs.declared.extent.Extent.{Extent}
-use Rattle.vg_pmean.specs.declared.room.Room.{Room}
+use Rattle.vg_pmean.specs.declared.frame_room.FrameRoom.{FrameRoom}
 
 -- one after the other, from this place on
 abbrev pub IsLaid : ℕ → List Extent → Type 0
@@ -32,7 +32,7 @@ registers_in bits es = map (bits_at bits) es
 
 -- What holds of a frame with this room: its places, its bytes, as many to spare, and how many
 -- places and variables there is room for.
-pub record IsRoomy (room : Room) (es : List Extent) (bytes spare : List ℕ) (places variables : ℕ) : Type 0 where
+pub record IsRoomy (room : FrameRoom) (es : List Extent) (bytes spare : List ℕ) (places variables : ℕ) : Type 0 where
   pub small : room.bits < 2 ^ 64
   pub laid : IsLaid 0 es
   pub within : total (widths_of es) ≤ room.bits

@@ -2,13 +2,13 @@
 use Rattle.std.specs.Prelude.{◌≡◌, ℕ, ◌+◌, List, [], ◌∷◌, length, map, get_or, set}
 use Rattle.vg_base.specs.Bits.{bits}
 use Rattle.vg_script.specs.Cells.{Cells}
-use Rattle.vg_pmean.specs.declared.room.Room.{Room}
+use Rattle.vg_pmean.specs.declared.frame_room.FrameRoom.{FrameRoom}
 
 pub record Held : Type 0 where
   pub cells : Cells
-  pub room : Room
+  pub room : FrameRoom
 
-abbrev pub held : Cells → Room → Held
+abbrev pub held : Cells → FrameRoom → Held
 held c r = record { cells = c; room = r }
 
 -- the widths of the registers
@@ -28,6 +28,6 @@ filled r [] c = c
 filled r (n ∷ ns) c = filled (r + 1) ns (entered_at r n c)
 
 -- frames that all have this room
-abbrev pub Alike : Room → List Held → Type 0
+abbrev pub Alike : FrameRoom → List Held → Type 0
 Alike r [] = Unit {0}
 Alike r (h ∷ hs) = (h.room ≡ r) × Alike r hs

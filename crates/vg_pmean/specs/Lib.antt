@@ -1,6 +1,6 @@
 pub mod Extent
 pub mod Held
-pub mod Room
+pub mod FrameRoom
 pub mod Applied
 pub mod Readied
 pub mod Entries

@@ -6,21 +6,21 @@ ghost use Rattle.vg_base.specs.Bits.{bits, bits_of_bytes, num};
 ghost use Rattle.vg_pmean.specs.Applied.{AreReady, answer, given, place_of};
 ghost use Rattle.vg_pmean.specs.Readied.{ready, ready_of};
 
+use crate::frame_room::FrameRoom;
 use crate::frames::{Frames, frame_bytes};
 use crate::instance::Instance;
 use crate::prepared::Prepared;
-use crate::room::Room;
 use std::alloc::{AllocError, Global};
 use vg_bits::Reg;
 
 /// The greatest number of nodes of all scripts of an entry.
 const MAX_NODES: u64 = 16_777_216;
 
-/// Room for each of these instances.
-fn room_of(instances: &[Instance]) -> Room
+/// FrameRoom for each of these instances.
+fn room_of(instances: &[Instance]) -> FrameRoom
     ensures { AreReady result (map (λ i. i.whole) instances.now) }
 {
-    let mut room = Room::nothing();
+    let mut room = FrameRoom::nothing();
     'instances: for instance in instances {
         room = room.either(instance.room);
     }

@@ -10,8 +10,8 @@ ghost use Rattle.vg_pmean.specs.Extent.{IsLaid, total, widths_of};
 ghost use Rattle.vg_pmean.specs.Held.{entered_at, held, widths_in};
 
 use crate::extent::{Extent, place_of, source, target};
+use crate::frame_room::FrameRoom;
 use crate::pieces::{put_number, put_padded};
-use crate::room::Room;
 use std::alloc::{AllocError, Global};
 use std::marker::Model;
 use vg_bits::bit_range::{copy, read, write};
@@ -21,7 +21,7 @@ use vg_script::WholeNumber;
 /// The registers and variables of a frame. Contracts see what it holds, and its room, which stays.
 #[derive(Drop)]
 pub(crate) struct Cells {
-    room: Room,
+    room: FrameRoom,
     places: Vec<Extent>,
     bytes: Vec<u8>,
     spare: Vec<u8>,
@@ -112,8 +112,9 @@ fn begin(variables: &mut Vec<u128>, count: usize)
 
 impl Cells {
     /// A frame with this room that holds nothing.
-    pub(crate) fn new(alloc: Global, room: Room) -> Result<Cells, AllocError>
-        ensures { IfOk result (λ cells. cells ≡ held (record { registers = []; variables = [] }) room) }
+    pub(crate) fn new(alloc: Global, room: FrameRoom) -> Result<Cells, AllocError>
+        ensures { IfOk result (λ cells. cells ≡ held (record { registers = []; variables = [] })
+            room) }
     {
         let count = room.bits / 8 + 1;
         let places = Vec::with_capacity(alloc, room.registers)?;
@@ -192,9 +193,8 @@ impl Cells {
         count: u128,
     )
         requires { low + width ≤ get_or (widths_in self.old.cells) register 0 }
-        ensures is { self.new ≡ held
-            (written register low (bits width (bits_read other.now.cells from from_low count)) self.old.cells)
-            self.old.room }
+        ensures is { self.new ≡ held (written register low (bits width (bits_read other.now.cells
+            from from_low count)) self.old.cells) self.old.room }
         ensures widths { widths_in self.new.cells ≡ widths_in self.old.cells }
     {
         let to = target(&self.places, register, low, width);
@@ -219,9 +219,8 @@ impl Cells {
         from_low: u128,
     )
         requires { low + width ≤ get_or (widths_in self.old.cells) register 0 }
-        ensures is { self.new ≡ held
-            (written register low (bits width (bits_read self.old.cells from from_low width)) self.old.cells)
-            self.old.room }
+        ensures is { self.new ≡ held (written register low (bits width (bits_read self.old.cells
+            from from_low width)) self.old.cells) self.old.room }
         ensures widths { widths_in self.new.cells ≡ widths_in self.old.cells }
     {
         let to = target(&self.places, register, low, width);

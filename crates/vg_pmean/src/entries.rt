@@ -60,7 +60,8 @@ fn instances_over(
     range: &ImmRange,
 ) -> Result<Vec<Instance>, AllocError>
     requires { IsWritten (header_in checked.now) (operation_in checked.now) }
-    ensures { IfOk result (λ is. AreAll (header_in checked.now) (operation_in checked.now) (Some range.now) (map (λ i. i.whole) is.items)) }
+    ensures { IfOk result (λ is. AreAll (header_in checked.now) (operation_in checked.now) (Some
+        range.now) (map (λ i. i.whole) is.items)) }
 {
     let mut instances = Vec::new(alloc);
     let mut nodes: u64 = 0;
@@ -81,7 +82,8 @@ fn instances_over(
 /// The one instance of an entry that has no immediate.
 fn only_instance(alloc: Global, checked: &Checked) -> Result<Vec<Instance>, AllocError>
     requires { IsWritten (header_in checked.now) (operation_in checked.now) }
-    ensures { IfOk result (λ is. AreAll (header_in checked.now) (operation_in checked.now) None (map (λ i. i.whole) is.items)) }
+    ensures { IfOk result (λ is. AreAll (header_in checked.now) (operation_in checked.now) None (map
+        (λ i. i.whole) is.items)) }
 {
     let Some(instance) = instance_for(alloc, checked, None)? else {
         return Err(AllocError);
@@ -94,7 +96,8 @@ fn only_instance(alloc: Global, checked: &Checked) -> Result<Vec<Instance>, Allo
 /// All instances of an entry.
 fn all_instances(alloc: Global, checked: &Checked) -> Result<Vec<Instance>, AllocError>
     requires { IsWritten (header_in checked.now) (operation_in checked.now) }
-    ensures { IfOk result (λ is. AreAll (header_in checked.now) (operation_in checked.now) (header_in checked.now).imm (map (λ i. i.whole) is.items)) }
+    ensures { IfOk result (λ is. AreAll (header_in checked.now) (operation_in checked.now)
+        (header_in checked.now).imm (map (λ i. i.whole) is.items)) }
 {
     match &checked.header().imm {
         Some(range) => instances_over(alloc, checked, range),
@@ -119,7 +122,8 @@ impl Prepared {
     /// scripts or 2^28 bytes of frames.
     pub fn new(alloc: Global, checked: &Checked) -> Result<Prepared, AllocError>
         requires written { IsWritten (header_in checked.now) (operation_in checked.now) }
-        ensures means { IfOk result (λ p. AnswersAll (header_in checked.now) (operation_in checked.now) (ready_of p)) }
+        ensures means { IfOk result (λ p. AnswersAll (header_in checked.now) (operation_in
+            checked.now) (ready_of p)) }
     {
         let instances = all_instances(alloc, checked)?;
         Prepared::from_instances(alloc, least_of(&checked.header().imm), instances)
@@ -161,7 +165,8 @@ pub fn answer_once<const B: usize>(
     imm: u8,
 ) -> Result<Option<Reg<B>>, AllocError>
     requires written { IsWritten (header_in checked.now) (operation_in checked.now) }
-    ensures means { AnswersTo (header_in checked.now) (operation_in checked.now) params.now imm result }
+    ensures means { AnswersTo (header_in checked.now) (operation_in checked.now) params.now imm
+        result }
 {
     let Some(mut prepared) = Prepared::for_one(alloc, checked, imm)? else {
         return Ok(None);

@@ -6,7 +6,7 @@ ghost use Rattle.vg_script.specs.Formed.{Formed, FrameFormed, GivenFormed, LowFo
 ghost use Rattle.vg_script.specs.Script.{width_of};
 ghost use Rattle.vg_script.specs.Views.{frame_of, given_of, low_of, script_of, word_of};
 ghost use Rattle.vg_pmean.specs.Held.{Alike, filled, held, widths_in};
-ghost use Rattle.vg_pmean.specs.Room.{Suffices, frame_room, given_room, low_room, no_room, script_room, word_room};
+ghost use Rattle.vg_pmean.specs.FrameRoom.{Suffices, frame_room, given_room, low_room, no_room, script_room, word_room};
 
 use crate::cells::Cells;
 use vg_base::number::{low_bits, signed, unsigned};
@@ -122,7 +122,8 @@ fn block(frame: &Frame, answer: &Word, own: &Cells, free: &mut [Cells]) -> u128
     requires room { Suffices (frame_room (frame_of frame.now) (word_room (word_of answer.now)))
         own.now.room (length free.old) }
     requires alike { Alike own.now.room free.old }
-    ensures is { result ≡ word_value (behind own.now.cells (frame_of frame.now)) (word_of answer.now) }
+    ensures is { result ≡ word_value (behind own.now.cells (frame_of frame.now)) (word_of
+        answer.now) }
     ensures below { result < 2 ^ width_of (word_of answer.now) }
     ensures kept { Alike own.now.room free.new }
     ensures count { length free.new ≡ length free.old }
@@ -168,8 +169,8 @@ fn enter_given(given: &Given, count: usize, own: &Cells, cells: &mut Cells, free
     requires room { Suffices (given_room (given_of given.now)) own.now.room (length free.old) }
     requires alike { Alike own.now.room free.old }
     requires count { length cells.old.cells.registers ≡ count }
-    ensures is { cells.new ≡
-        held (filled 0 (numbers_given own.now.cells (given_of given.now)) cells.old.cells) cells.old.room }
+    ensures is { cells.new ≡ held (filled 0 (numbers_given own.now.cells (given_of given.now))
+        cells.old.cells) cells.old.room }
     ensures kept { Alike own.now.room free.new }
     ensures count { length free.new ≡ length free.old }
 {

@@ -5,11 +5,11 @@ ghost use Rattle.vg_base.specs.Bits.{bits, bits_of_bytes, num};
 ghost use Rattle.vg_script.specs.Views.{script_of, whole_of};
 ghost use Rattle.vg_pmean.specs.Applied.{given, left_in_dst};
 ghost use Rattle.vg_pmean.specs.Held.{Alike};
-ghost use Rattle.vg_pmean.specs.Room.{Suffices, around, script_room};
+ghost use Rattle.vg_pmean.specs.FrameRoom.{Suffices, around, script_room};
 
 use crate::cells::Cells;
+use crate::frame_room::FrameRoom;
 use crate::instance::Instance;
-use crate::room::Room;
 use std::alloc::{AllocError, Global};
 use std::marker::Model;
 use vg_bits::Reg;
@@ -26,10 +26,10 @@ pub(crate) struct Frames {
 
 impl Model for Frames {
     ghost use Rattle.std.specs.Prelude.{◌+◌, ◌≤◌, length};
-    ghost use Rattle.vg_pmean.specs.declared.room.Room.{Room};
+    ghost use Rattle.vg_pmean.specs.declared.frame_room.FrameRoom.{FrameRoom};
     ghost use Rattle.vg_pmean.specs.Held.{Alike};
 
-    ghost Value = { Room };
+    ghost Value = { FrameRoom };
 
     ghost view = { λ f. f.cells.room };
 
@@ -38,7 +38,7 @@ impl Model for Frames {
 }
 
 /// How many bytes a frame has, at most.
-fn bytes_of(room: Room) -> usize {
+fn bytes_of(room: FrameRoom) -> usize {
     room.registers
         .saturating_add(room.variables)
         .saturating_mul(16)
@@ -46,13 +46,13 @@ fn bytes_of(room: Room) -> usize {
 }
 
 /// How many bytes the frames of a room have, at most.
-pub(crate) fn frame_bytes(room: Room) -> usize {
+pub(crate) fn frame_bytes(room: FrameRoom) -> usize {
     bytes_of(room).saturating_mul(room.frames)
 }
 
 /// The frames but the first.
 #[tactic(auto, using(crate::proofs::Entering::alike_more))]
-fn free_frames(alloc: Global, room: Room) -> Result<Vec<Cells>, AllocError>
+fn free_frames(alloc: Global, room: FrameRoom) -> Result<Vec<Cells>, AllocError>
     ensures alike { IfOk result (λ free. Alike room free.items) }
     ensures count { IfOk result (λ free. room.frames ≤ length free.items + 1) }
 {
@@ -65,7 +65,7 @@ fn free_frames(alloc: Global, room: Room) -> Result<Vec<Cells>, AllocError>
 
 impl Frames {
     /// Frames with this room, or want of memory, also where they would have more than 2^28 bytes.
-    pub(crate) fn new(alloc: Global, room: Room) -> Result<Frames, AllocError>
+    pub(crate) fn new(alloc: Global, room: FrameRoom) -> Result<Frames, AllocError>
         ensures { IfOk result (λ frames. frames ≡ room) }
     {
         if frame_bytes(room) > MAX_BYTES {

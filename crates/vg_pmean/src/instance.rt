@@ -8,12 +8,12 @@ ghost use Rattle.vg_pmean.specs.Applied.{IsReady, given, left_in_dst};
 ghost use Rattle.vg_pmean.specs.Held.{Alike, filled, held};
 ghost use Rattle.std.proofs.Props.{props};
 ghost use Rattle.vg_script.proofs.Unique.{script_formed_once};
-ghost use Rattle.vg_pmean.specs.Room.{Suffices, around, script_room};
+ghost use Rattle.vg_pmean.specs.FrameRoom.{Suffices, around, script_room};
 
 use crate::cells::Cells;
 use crate::evaluate::run;
+use crate::frame_room::FrameRoom;
 use crate::need::add_script;
-use crate::room::Room;
 use std::alloc::AllocError;
 use vg_bits::Reg;
 use vg_script::Whole;
@@ -23,8 +23,8 @@ use vg_script::Whole;
 pub struct Instance {
     /// Its script, with the widths of its registers.
     pub whole: Whole,
-    /// Room for its own frame and those of the calls inside it.
-    pub room: Room,
+    /// FrameRoom for its own frame and those of the calls inside it.
+    pub room: FrameRoom,
     ghost ready: { IsReady room (whole_of whole) } by { Prim.hlevel (props, script_formed_once) },
 }
 
@@ -50,7 +50,7 @@ impl Instance {
         requires { ScriptFormed whole.widths (script_of whole.script) }
         ensures { IfOk result (λ instance. instance.whole ≡ whole) }
     {
-        let mut inside = Room::nothing();
+        let mut inside = FrameRoom::nothing();
         add_script(&mut inside, &whole.script)?;
         let room = inside.around(whole.widths.as_slice(), whole.variables)?;
         Ok(Instance { whole, room })
@@ -64,8 +64,8 @@ impl Instance {
         cells: &mut Cells,
         free: &mut [Cells],
     ) -> Reg<B>
-        requires room { Suffices (around self.now.whole.widths self.now.whole.variables (script_room (script_of self.now.whole.script)))
-            cells.old.room (length free.old + 1) }
+        requires room { Suffices (around self.now.whole.widths self.now.whole.variables (script_room
+            (script_of self.now.whole.script))) cells.old.room (length free.old + 1) }
         requires alike { Alike cells.old.room free.old }
         ensures bits { bits_of_bytes result.bytes ≡
             bits (8 * B) (num (left_in_dst (whole_of self.now.whole) (given params.now imm))) }

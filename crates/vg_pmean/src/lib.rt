@@ -6,12 +6,12 @@ mod cells;
 mod entries;
 mod evaluate;
 mod extent;
+mod frame_room;
 mod frames;
 mod instance;
 mod need;
 mod pieces;
 mod prepared;
-mod room;
 
 pub use entries::answer_once;
 pub use instance::Instance;

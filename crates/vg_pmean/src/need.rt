@@ -2,16 +2,16 @@
 
 ghost use Rattle.std.specs.Prelude.{◌≡◌, IfOk};
 ghost use Rattle.vg_script.specs.Views.{frame_of, given_of, low_of, script_of, word_of};
-ghost use Rattle.vg_pmean.specs.Room.{either, frame_room, given_room, low_room, script_room, word_room};
+ghost use Rattle.vg_pmean.specs.FrameRoom.{either, frame_room, given_room, low_room, script_room, word_room};
 
-use crate::room::Room;
+use crate::frame_room::FrameRoom;
 use std::alloc::AllocError;
 use vg_script::{Frame, Given, Low, Script, Word};
 
 /// Adds what a word needs. Fails for want of memory where it is more than an address can say.
 #[cycle(need)]
 #[tactic(auto, using(crate::proofs::Rooms::either_none, crate::proofs::Rooms::either_two, crate::proofs::Rooms::either_three))]
-fn add_word(room: &mut Room, word: &Word) -> Result<(), AllocError>
+fn add_word(room: &mut FrameRoom, word: &Word) -> Result<(), AllocError>
     ensures { IfOk result (λ u. room.new ≡ either room.old (word_room (word_of word.now))) }
 {
     match word {
@@ -43,7 +43,7 @@ fn add_word(room: &mut Room, word: &Word) -> Result<(), AllocError>
 
 #[cycle(need)]
 #[tactic(auto, using(crate::proofs::Rooms::either_none))]
-fn add_low(room: &mut Room, low: &Low) -> Result<(), AllocError>
+fn add_low(room: &mut FrameRoom, low: &Low) -> Result<(), AllocError>
     ensures { IfOk result (λ u. room.new ≡ either room.old (low_room (low_of low.now))) }
 {
     match low {
@@ -54,11 +54,11 @@ fn add_low(room: &mut Room, low: &Low) -> Result<(), AllocError>
 
 #[cycle(need)]
 #[tactic(auto, using(crate::proofs::Rooms::none_either))]
-fn add_block(room: &mut Room, frame: &Frame, answer: &Word) -> Result<(), AllocError>
+fn add_block(room: &mut FrameRoom, frame: &Frame, answer: &Word) -> Result<(), AllocError>
     ensures { IfOk result (λ u. room.new ≡
         either room.old (frame_room (frame_of frame.now) (word_room (word_of answer.now)))) }
 {
-    let mut behind = Room::nothing();
+    let mut behind = FrameRoom::nothing();
     add_word(&mut behind, answer)?;
     add_frame(room, frame, behind)
 }
@@ -66,11 +66,11 @@ fn add_block(room: &mut Room, frame: &Frame, answer: &Word) -> Result<(), AllocE
 /// Adds what a call needs, with what is looked at in its frame when its statements are done.
 #[cycle(need)]
 #[tactic(auto, using(crate::proofs::Rooms::none_either, crate::proofs::Rooms::either_two))]
-fn add_frame(room: &mut Room, frame: &Frame, behind: Room) -> Result<(), AllocError>
+fn add_frame(room: &mut FrameRoom, frame: &Frame, behind: FrameRoom) -> Result<(), AllocError>
     ensures { IfOk result (λ u. room.new ≡
         either room.old (frame_room (frame_of frame.now) behind)) }
 {
-    let mut inside = Room::nothing();
+    let mut inside = FrameRoom::nothing();
     add_given(&mut inside, &frame.given)?;
     add_script(&mut inside, &frame.script)?;
     let all = inside
@@ -82,7 +82,7 @@ fn add_frame(room: &mut Room, frame: &Frame, behind: Room) -> Result<(), AllocEr
 
 #[cycle(need)]
 #[tactic(auto, using(crate::proofs::Rooms::either_none, crate::proofs::Rooms::either_two))]
-fn add_given(room: &mut Room, given: &Given) -> Result<(), AllocError>
+fn add_given(room: &mut FrameRoom, given: &Given) -> Result<(), AllocError>
     ensures { IfOk result (λ u. room.new ≡ either room.old (given_room (given_of given.now))) }
 {
     let mut left = given;
@@ -105,7 +105,7 @@ fn add_given(room: &mut Room, given: &Given) -> Result<(), AllocError>
 /// Adds what a script needs. Fails for want of memory where it is more than an address can say.
 #[cycle(need)]
 #[tactic(auto, using(crate::proofs::Rooms::either_none, crate::proofs::Rooms::either_two, crate::proofs::Rooms::either_three))]
-pub(crate) fn add_script(room: &mut Room, script: &Script) -> Result<(), AllocError>
+pub(crate) fn add_script(room: &mut FrameRoom, script: &Script) -> Result<(), AllocError>
     ensures { IfOk result (λ u. room.new ≡ either room.old (script_room (script_of script.now))) }
 {
     let mut left = script;
@@ -150,11 +150,11 @@ pub(crate) fn add_script(room: &mut Room, script: &Script) -> Result<(), AllocEr
 
 #[cycle(need)]
 #[tactic(auto, using(crate::proofs::Rooms::none_either))]
-fn add_copy(room: &mut Room, frame: &Frame, low: &Low) -> Result<(), AllocError>
+fn add_copy(room: &mut FrameRoom, frame: &Frame, low: &Low) -> Result<(), AllocError>
     ensures { IfOk result (λ u. room.new ≡
         either room.old (frame_room (frame_of frame.now) (low_room (low_of low.now)))) }
 {
-    let mut behind = Room::nothing();
+    let mut behind = FrameRoom::nothing();
     add_low(&mut behind, low)?;
     add_frame(room, frame, behind)
 }

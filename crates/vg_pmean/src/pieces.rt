@@ -71,8 +71,8 @@ pub(crate) fn put_padded(
     requires from_inside { start + count ≤ 8 * length from.now }
     requires fits { count ≤ width }
     requires small { at + width < 2 ^ 64 }
-    ensures { bits_of_bytes bytes.new ≡ replaced at
-        (range start count (bits_of_bytes from.now) ++ replicate (width - count) 0) (bits_of_bytes bytes.old) }
+    ensures { bits_of_bytes bytes.new ≡ replaced at (range start count (bits_of_bytes from.now) ++
+        replicate (width - count) 0) (bits_of_bytes bytes.old) }
 {
     copy(bytes, BitIndex::new(at), from, BitIndex::new(start), count);
     repeat(bytes, at + count, width - count, false);

@@ -21,8 +21,8 @@ use Rattle.vg_pseudo.specs.Definitions.{Context, callee_of}
 use Rattle.vg_pseudo.specs.Words.{level_of, operator_named, prefix_named, function_named, element_named, number_of, is_free, begins_operand}
 use Rattle.vg_pseudo.specs.Reader.{next_at, expect_at, accept_at, items_behind}
 
--- An expression that was read, how many nodes it has one below the other with parentheses counted, and the greatest depth
--- of the DEFINEs that it calls, where a DEFINE's body is read.
+-- An expression that was read, how many nodes it has one below the other with parentheses counted, and the
+-- greatest depth of the DEFINEs that it calls, where a DEFINE's body is read.
 pub record Part : Type 0 where
   pub expression : Expression
   pub depth : ℕ
@@ -116,7 +116,8 @@ arguments_at inner r = do
 -- a function of as many arguments as it takes
 abbrev pub function_of : Function → Place → List Part → Option Part
 function_of (functions.One op) place (x ∷ []) = Some (above_one (unary (spot_at place) op x.expression) x)
-function_of (functions.Two op) place (x ∷ y ∷ []) = Some (above_two (binary (spot_at place) op x.expression y.expression) x y)
+function_of (functions.Two op) place (x ∷ y ∷ []) =
+    Some (above_two (binary (spot_at place) op x.expression y.expression) x y)
 function_of f place parts = None
 
 -- a call of a function after its name, which stands at this place
@@ -203,7 +204,8 @@ operand_at context inner r = do
 
 -- the operator of a word, where it binds as this level does
 abbrev pub operator_of : ℕ → List ℕ → Option BinaryOp
-operator_of level bytes = option_map_or (λ op. if nat_eq (level_of op) level then Some op else None) (operator_named bytes) None
+operator_of level bytes =
+    option_map_or (λ op. if nat_eq (level_of op) level then Some op else None) (operator_named bytes) None
 
 -- the operator that comes next and binds as this level does, which is taken then
 abbrev pub operator_at : ℕ → Reading → Result (Option BinaryOp × Reading) PseudoFault

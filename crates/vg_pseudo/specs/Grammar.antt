@@ -31,10 +31,11 @@ Counts context (Some k) calls =
     ((context.inside ≡ true) × (k.depth < 64) × (calls ≡ k.depth)) ⊎ ((context.inside ≡ false) × (calls ≡ 0))
 Counts context None calls = calls ≡ 0
 
--- An expression, by how loose its operators may be. Level 0 has no operators outside of calls, parentheses and brackets;
--- levels 1 to 7 have those that bind as loose or tighter, and level 8 has the choice by `?` too. On the left of an
--- operator stands its own level, on the right the next tighter one, so operators of one level nest to the left; but a
--- comparison has the next tighter level on both sides. `AreMore` are further arguments, each after a comma.
+-- An expression, by how loose its operators may be. Level 0 has no operators outside of calls, parentheses and
+-- brackets; levels 1 to 7 have those that bind as loose or tighter, and level 8 has the choice by `?` too. On
+-- the left of an operator stands its own level, on the right the next tighter one, so operators of one level
+-- nest to the left; but a comparison has the next tighter level on both sides. `AreMore` are further arguments,
+-- each after a comma.
 mutual
   pub data IsExpression (context : Context) : ℕ → Words → Part → Type 0 where
     literal : (w : Spelled) (n : ℕ)

@@ -64,7 +64,8 @@ define_at context r = do
   closed ← expect_at (codes "}") answer.1
   Ok (
     record {
-      define = record { name = name.0.bytes; params = params.0; body = body.0.statements; answer = answer.0.expression };
+      define =
+          record { name = name.0.bytes; params = params.0; body = body.0.statements; answer = answer.0.expression };
       depth = max body.0.calls answer.0.calls + 1;
     },
     closed.1,
@@ -86,8 +87,8 @@ and_define done d = record {
   known = with_callee done.known d.define.name (callee d);
 }
 
--- DEFINEs after those that are done, as long as one follows; one has a word or more, so that `room` never runs out where
--- it is greater than the number of words left
+-- DEFINEs after those that are done, as long as one follows; one has a word or more, so that `room` never runs
+-- out where it is greater than the number of words left
 unfoldable pub defines_from : ℕ → Defines → Reading → Result (Defines × Reading) PseudoFault
 defines_from zero done r = Ok (done, r)
 defines_from (suc room) done r = do

@@ -1,5 +1,5 @@
--- Reading an operation from left to right, word by word: single words, and lists. Each function reads a part at the front
--- of what is left and gives it with what is left after it, or the first fault that it meets.
+-- Reading an operation from left to right, word by word: single words, and lists. Each function reads a part at
+-- the front of what is left and gives it with what is left after it, or the first fault that it meets.
 use Rattle.std.specs.Prelude.{ℕ, zero, suc, Bool, true, false, List, [], ◌∷◌, ◌++◌, Result, Ok, Err, if◌then◌else◌}
 use Rattle.std.specs.Str.{bytes_eq}
 use Rattle.vg_base.specs.Bind.{◌>>=◌, or_fault}
@@ -50,7 +50,8 @@ Follows = Reading → Result (Bool × Reading) PseudoFault
 
 -- Items after those that are done, as long as one follows. An item has a word or more, so that `room` never runs out
 -- where it is greater than the number of words left.
-unfoldable pub items_from : {X : Type 0} → Follows → (Reading → Result (X × Reading) PseudoFault) → ℕ → List X → Reading → Result (List X × Reading) PseudoFault
+unfoldable pub items_from : {X : Type 0} → Follows → (Reading → Result (X × Reading) PseudoFault) → ℕ →
+    List X → Reading → Result (List X × Reading) PseudoFault
 items_from follows item zero done r = Ok (done, r)
 items_from follows item (suc room) done r = do
   next ← follows r
@@ -58,5 +59,6 @@ items_from follows item (suc room) done r = do
       else Ok (done, next.1)
 
 -- items after those that are done, as long as one follows
-abbrev pub items_behind : {X : Type 0} → Follows → (Reading → Result (X × Reading) PseudoFault) → List X → Reading → Result (List X × Reading) PseudoFault
+abbrev pub items_behind : {X : Type 0} → Follows → (Reading → Result (X × Reading) PseudoFault) → List X →
+    Reading → Result (List X × Reading) PseudoFault
 items_behind follows item done r = items_from follows item (suc (unread r)) done r

@@ -79,7 +79,8 @@ abbrev pub statements_of : Stmt → Statements
 statements_of stmt.End = stop
 statements_of (stmt.Assign' p t e q s) = assign p (expression_of t) (expression_of e) (statements_of s)
 statements_of (stmt.AssignAbove' p n l e q s) = above p n (expression_of l) (expression_of e) (statements_of s)
-statements_of (stmt.For' p n a b q s r t) = repeat p n (expression_of a) (expression_of b) (statements_of s) (statements_of t)
+statements_of (stmt.For' p n a b q s r t) =
+    repeat p n (expression_of a) (expression_of b) (statements_of s) (statements_of t)
 statements_of (stmt.If' p w q s) = choose (statements_of w) (statements_of s)
 statements_of (stmt.Way' c p s q w) = way (expression_of c) (statements_of s) (statements_of w)
 statements_of (stmt.Else' p s) = last (statements_of s)

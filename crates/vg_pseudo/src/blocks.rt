@@ -56,7 +56,11 @@ pub(crate) fn chained(blocks: Vec<Block>, last: Block) -> Block
 
 /// ELSE and its statements.
 pub(crate) fn else_block(alloc: Global, inside: Block) -> Result<Block, PseudoFault>
-    ensures node { Gives block_of result (Ok (record { statements = last (block_of inside).statements; calls = inside.calls })) }
+    ensures node { Gives block_of result (Ok (record {
+      statements = last (block_of
+          inside).statements;
+      calls = inside.calls;
+    })) }
 {
     Ok(Block {
         statements: Stmt::Else {
@@ -75,7 +79,12 @@ pub(crate) fn for_block(
     last: Part,
     inside: Block,
 ) -> Result<Block, PseudoFault>
-    ensures node { Gives block_of result (Ok (record { statements = repeat place variable.entry.bytes.now (expression_of first.expression) (expression_of last.expression) (block_of inside).statements stop; calls = max (max first.calls last.calls) inside.calls })) }
+    ensures node { Gives block_of result (Ok (record {
+      statements = repeat place
+          variable.entry.bytes.now (expression_of first.expression) (expression_of last.expression)
+          (block_of inside).statements stop;
+      calls = max (max first.calls last.calls) inside.calls;
+    })) }
 {
     Ok(Block {
         statements: Stmt::For {

@@ -67,7 +67,11 @@ impl Definitions {
         name: &[u8],
         callee: Callee,
     ) -> Result<(), AllocError>
-        ensures ok { OnOk result (self.new ≡ record { known = with_callee self.old.known name.now callee; inside = self.old.inside }) }
+        ensures ok { OnOk result (self.new ≡ record {
+          known = with_callee self.old.known name.now
+              callee;
+          inside = self.old.inside;
+        }) }
     {
         let name = Vec::from_slice(alloc, name)?;
         self.callees.insert(name, callee)?;

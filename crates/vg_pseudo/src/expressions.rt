@@ -42,7 +42,8 @@ const LOOSEST: u32 = 8;
 
 /// An operand where no node may stand.
 fn too_deep(whole: Place, lexer: &mut Lexer<'_>) -> Result<Part, PseudoFault>
-    ensures read { Reads part_of (reading lexer.new) result (too_deep_at whole (reading lexer.old)) }
+    ensures read { Reads part_of (reading lexer.new) result (too_deep_at whole (reading
+        lexer.old)) }
     ensures fewer { OnOk result (unread (reading lexer.new) ≤ unread (reading lexer.old)) }
     ensures deep { IfOk result (λ p. p.depth ≤ 0) }
 {
@@ -66,7 +67,8 @@ fn operator_of(level: u32, bytes: &[u8]) -> Option<BinaryOp>
 
 /// The operator that comes next and binds as this level does, which is taken then.
 fn operator(level: u32, lexer: &mut Lexer<'_>) -> Result<Option<BinaryOp>, PseudoFault>
-    ensures read { Reads (λ o. o) (reading lexer.new) result (operator_at level (reading lexer.old)) }
+    ensures read { Reads (λ o. o) (reading lexer.new) result (operator_at level (reading
+        lexer.old)) }
     ensures fewer { OnOk result (unread (reading lexer.new) ≤ unread (reading lexer.old)) }
 {
     let mut ahead = *lexer;
@@ -82,7 +84,8 @@ fn operator(level: u32, lexer: &mut Lexer<'_>) -> Result<Option<BinaryOp>, Pseud
 
 /// A name that stands alone.
 fn name_leaf(alloc: Global, word: Word<'_>) -> Result<Part, PseudoFault>
-    ensures node { Gives part_of result (Ok (leaf (name (spot_at word.entry.place) word.entry.bytes.now))) }
+    ensures node { Gives part_of result (Ok (leaf (name (spot_at word.entry.place)
+        word.entry.bytes.now))) }
     ensures deep { IfOk result (λ p. p.depth ≡ 1) }
 {
     let name = Name::new(alloc, word.bytes)?;
@@ -94,7 +97,8 @@ fn name_leaf(alloc: Global, word: Word<'_>) -> Result<Part, PseudoFault>
 
 /// `name.elem`
 fn part_leaf(alloc: Global, word: Word<'_>, size: Width) -> Result<Part, PseudoFault>
-    ensures node { Gives part_of result (Ok (leaf (part (spot_at word.entry.place) word.entry.bytes.now size))) }
+    ensures node { Gives part_of result (Ok (leaf (part (spot_at word.entry.place)
+        word.entry.bytes.now size))) }
     ensures deep { IfOk result (λ p. p.depth ≡ 1) }
 {
     let name = Name::new(alloc, word.bytes)?;
@@ -146,7 +150,8 @@ fn function_node(
 ) -> Result<Part, PseudoFault>
     requires few { room ≤ 63 }
     requires deep { All (λ p. p.depth ≤ room) parts.items }
-    ensures node { Gives part_of result (or_fault (function_of function place (map part_of parts.items)) (Shape place)) }
+    ensures node { Gives part_of result (or_fault (function_of function place (map part_of
+        parts.items)) (Shape place)) }
     ensures deep { IfOk result (λ p. p.depth ≤ room + 1) }
 {
     let mut parts = parts;
@@ -174,7 +179,8 @@ fn expression(
 ) -> Result<Part, PseudoFault>
     requires most { room ≤ 64 }
     requires loosest { level ≤ 8 }
-    ensures read { Reads part_of (reading lexer.new) result (expression_at definitions.now whole room level (reading lexer.old)) }
+    ensures read { Reads part_of (reading lexer.new) result (expression_at definitions.now whole
+        room level (reading lexer.old)) }
     ensures fewer { OnOk result (unread (reading lexer.new) ≤ unread (reading lexer.old)) }
     ensures deep { IfOk result (λ p. p.depth ≤ room) }
 {
@@ -197,7 +203,8 @@ fn at_level(
 ) -> Result<Part, PseudoFault>
     requires most { room ≤ 63 }
     requires loosest { level ≤ 8 }
-    ensures read { Reads part_of (reading lexer.new) result (level_at definitions.now whole (expression_at definitions.now whole room) room level (reading lexer.old)) }
+    ensures read { Reads part_of (reading lexer.new) result (level_at definitions.now whole
+        (expression_at definitions.now whole room) room level (reading lexer.old)) }
     ensures fewer { OnOk result (unread (reading lexer.new) ≤ unread (reading lexer.old)) }
     ensures deep { IfOk result (λ p. p.depth ≤ room + 1) }
 {
@@ -222,7 +229,8 @@ fn behind(
     requires most { room ≤ 63 }
     requires loosest { level ≤ 7 }
     requires shallow { left.depth ≤ room + 1 }
-    ensures read { Reads part_of (reading lexer.new) result (behind_at whole (expression_at definitions.now whole room) room level (part_of left) (reading lexer.old)) }
+    ensures read { Reads part_of (reading lexer.new) result (behind_at whole (expression_at
+        definitions.now whole room) room level (part_of left) (reading lexer.old)) }
     ensures fewer { OnOk result (unread (reading lexer.new) ≤ unread (reading lexer.old)) }
     ensures deep { IfOk result (λ p. p.depth ≤ room + 1) }
 {
@@ -250,7 +258,8 @@ fn joined(
     requires most { room ≤ 63 }
     requires loosest { level ≤ 7 }
     requires shallow { first.depth ≤ room + 1 }
-    ensures read { Reads part_of (reading lexer.new) result (joined_at whole (expression_at definitions.now whole room) room level room (part_of first) (reading lexer.old)) }
+    ensures read { Reads part_of (reading lexer.new) result (joined_at whole (expression_at
+        definitions.now whole room) room level room (part_of first) (reading lexer.old)) }
     ensures fewer { OnOk result (unread (reading lexer.new) ≤ unread (reading lexer.old)) }
     ensures deep { IfOk result (λ p. p.depth ≤ room + 1) }
 {
@@ -291,7 +300,8 @@ fn joined_one(
 ) -> Result<Part, PseudoFault>
     requires most { room ≤ 63 }
     requires loosest { level ≤ 7 }
-    ensures read { Reads part_of (reading lexer.new) result (joined_one whole (expression_at definitions.now whole room) room level (part_of left) op (reading lexer.old)) }
+    ensures read { Reads part_of (reading lexer.new) result (joined_one whole (expression_at
+        definitions.now whole room) room level (part_of left) op (reading lexer.old)) }
     ensures fewer { OnOk result (unread (reading lexer.new) ≤ unread (reading lexer.old)) }
     ensures deep { IfOk result (λ p. p.depth ≤ room + 1) }
 {
@@ -317,7 +327,8 @@ fn join(
     requires most { room ≤ 63 }
     requires loosest { level ≤ 7 }
     requires shallow { left.depth ≤ room }
-    ensures read { Reads part_of (reading lexer.new) result (join_at (expression_at definitions.now whole room) level (part_of left) op (reading lexer.old)) }
+    ensures read { Reads part_of (reading lexer.new) result (join_at (expression_at definitions.now
+        whole room) level (part_of left) op (reading lexer.old)) }
     ensures fewer { OnOk result (unread (reading lexer.new) ≤ unread (reading lexer.old)) }
     ensures deep { IfOk result (λ p. p.depth ≤ room + 1) }
 {
@@ -339,7 +350,8 @@ fn compared(
 ) -> Result<Part, PseudoFault>
     requires most { room ≤ 63 }
     requires shallow { left.depth ≤ room + 1 }
-    ensures read { Reads part_of (reading lexer.new) result (compared_at whole (expression_at definitions.now whole room) room (part_of left) (reading lexer.old)) }
+    ensures read { Reads part_of (reading lexer.new) result (compared_at whole (expression_at
+        definitions.now whole room) room (part_of left) (reading lexer.old)) }
     ensures fewer { OnOk result (unread (reading lexer.new) ≤ unread (reading lexer.old)) }
     ensures deep { IfOk result (λ p. p.depth ≤ room + 1) }
 {
@@ -362,7 +374,8 @@ fn chosen(
 ) -> Result<Part, PseudoFault>
     requires most { room ≤ 63 }
     requires shallow { condition.depth ≤ room + 1 }
-    ensures read { Reads part_of (reading lexer.new) result (chosen_at whole (expression_at definitions.now whole room) room (part_of condition) (reading lexer.old)) }
+    ensures read { Reads part_of (reading lexer.new) result (chosen_at whole (expression_at
+        definitions.now whole room) room (part_of condition) (reading lexer.old)) }
     ensures fewer { OnOk result (unread (reading lexer.new) ≤ unread (reading lexer.old)) }
     ensures deep { IfOk result (λ p. p.depth ≤ room + 1) }
 {
@@ -388,7 +401,8 @@ fn choice_behind(
 ) -> Result<Part, PseudoFault>
     requires most { room ≤ 63 }
     requires shallow { condition.depth ≤ room }
-    ensures read { Reads part_of (reading lexer.new) result (choice_at (expression_at definitions.now whole room) (part_of condition) (reading lexer.old)) }
+    ensures read { Reads part_of (reading lexer.new) result (choice_at (expression_at
+        definitions.now whole room) (part_of condition) (reading lexer.old)) }
     ensures fewer { OnOk result (unread (reading lexer.new) ≤ unread (reading lexer.old)) }
     ensures deep { IfOk result (λ p. p.depth ≤ room + 1) }
 {
@@ -409,7 +423,8 @@ fn operand(
     lexer: &mut Lexer<'_>,
 ) -> Result<Part, PseudoFault>
     requires most { room ≤ 63 }
-    ensures read { Reads part_of (reading lexer.new) result (operand_at definitions.now (expression_at definitions.now whole room) (reading lexer.old)) }
+    ensures read { Reads part_of (reading lexer.new) result (operand_at definitions.now
+        (expression_at definitions.now whole room) (reading lexer.old)) }
     ensures fewer { OnOk result (unread (reading lexer.new) ≤ unread (reading lexer.old)) }
     ensures deep { IfOk result (λ p. p.depth ≤ room + 1) }
 {
@@ -432,7 +447,8 @@ fn parenthesised(
     lexer: &mut Lexer<'_>,
 ) -> Result<Part, PseudoFault>
     requires most { room ≤ 63 }
-    ensures read { Reads part_of (reading lexer.new) result (parenthesised_at (expression_at definitions.now whole room) place (reading lexer.old)) }
+    ensures read { Reads part_of (reading lexer.new) result (parenthesised_at (expression_at
+        definitions.now whole room) place (reading lexer.old)) }
     ensures fewer { OnOk result (unread (reading lexer.new) ≤ unread (reading lexer.old)) }
     ensures deep { IfOk result (λ p. p.depth ≤ room + 1) }
 {
@@ -458,7 +474,8 @@ fn prefixed(
     lexer: &mut Lexer<'_>,
 ) -> Result<Part, PseudoFault>
     requires most { room ≤ 63 }
-    ensures read { Reads part_of (reading lexer.new) result (prefixed_at (expression_at definitions.now whole room) op place (reading lexer.old)) }
+    ensures read { Reads part_of (reading lexer.new) result (prefixed_at (expression_at
+        definitions.now whole room) op place (reading lexer.old)) }
     ensures fewer { OnOk result (unread (reading lexer.new) ≤ unread (reading lexer.old)) }
     ensures deep { IfOk result (λ p. p.depth ≤ room + 1) }
 {
@@ -477,7 +494,8 @@ fn plain(
     lexer: &mut Lexer<'_>,
 ) -> Result<Part, PseudoFault>
     requires most { room ≤ 63 }
-    ensures read { Reads part_of (reading lexer.new) result (plain_at definitions.now (expression_at definitions.now whole room) (spelled_of word.entry) (reading lexer.old)) }
+    ensures read { Reads part_of (reading lexer.new) result (plain_at definitions.now (expression_at
+        definitions.now whole room) (spelled_of word.entry) (reading lexer.old)) }
     ensures fewer { OnOk result (unread (reading lexer.new) ≤ unread (reading lexer.old)) }
     ensures deep { IfOk result (λ p. p.depth ≤ room + 1) }
 {
@@ -504,7 +522,8 @@ fn named(
     lexer: &mut Lexer<'_>,
 ) -> Result<Part, PseudoFault>
     requires most { room ≤ 63 }
-    ensures read { Reads part_of (reading lexer.new) result (named_at definitions.now (expression_at definitions.now whole room) (spelled_of word.entry) (reading lexer.old)) }
+    ensures read { Reads part_of (reading lexer.new) result (named_at definitions.now (expression_at
+        definitions.now whole room) (spelled_of word.entry) (reading lexer.old)) }
     ensures fewer { OnOk result (unread (reading lexer.new) ≤ unread (reading lexer.old)) }
     ensures deep { IfOk result (λ p. p.depth ≤ room + 1) }
 {
@@ -530,7 +549,8 @@ fn free(
     lexer: &mut Lexer<'_>,
 ) -> Result<Part, PseudoFault>
     requires most { room ≤ 63 }
-    ensures read { Reads part_of (reading lexer.new) result (free_at definitions.now (expression_at definitions.now whole room) (spelled_of word.entry) (reading lexer.old)) }
+    ensures read { Reads part_of (reading lexer.new) result (free_at definitions.now (expression_at
+        definitions.now whole room) (spelled_of word.entry) (reading lexer.old)) }
     ensures fewer { OnOk result (unread (reading lexer.new) ≤ unread (reading lexer.old)) }
     ensures deep { IfOk result (λ p. p.depth ≤ room + 1) }
 {
@@ -552,7 +572,8 @@ fn call(
     lexer: &mut Lexer<'_>,
 ) -> Result<Part, PseudoFault>
     requires most { room ≤ 63 }
-    ensures read { Reads part_of (reading lexer.new) result (call_at definitions.now (expression_at definitions.now whole room) (spelled_of word.entry) (reading lexer.old)) }
+    ensures read { Reads part_of (reading lexer.new) result (call_at definitions.now (expression_at
+        definitions.now whole room) (spelled_of word.entry) (reading lexer.old)) }
     ensures fewer { OnOk result (unread (reading lexer.new) ≤ unread (reading lexer.old)) }
     ensures deep { IfOk result (λ p. p.depth ≤ room + 1) }
 {
@@ -578,7 +599,8 @@ fn function(
     lexer: &mut Lexer<'_>,
 ) -> Result<Part, PseudoFault>
     requires most { room ≤ 63 }
-    ensures read { Reads part_of (reading lexer.new) result (function_at (expression_at definitions.now whole room) function place (reading lexer.old)) }
+    ensures read { Reads part_of (reading lexer.new) result (function_at (expression_at
+        definitions.now whole room) function place (reading lexer.old)) }
     ensures fewer { OnOk result (unread (reading lexer.new) ≤ unread (reading lexer.old)) }
     ensures deep { IfOk result (λ p. p.depth ≤ room + 1) }
 {
@@ -598,7 +620,8 @@ fn arguments(
     lexer: &mut Lexer<'_>,
 ) -> Result<Vec<Part>, PseudoFault>
     requires most { room ≤ 63 }
-    ensures read { Reads (λ v. map part_of v.items) (reading lexer.new) result (arguments_at (expression_at definitions.now whole room) (reading lexer.old)) }
+    ensures read { Reads (λ v. map part_of v.items) (reading lexer.new) result (arguments_at
+        (expression_at definitions.now whole room) (reading lexer.old)) }
     ensures fewer { OnOk result (unread (reading lexer.new) ≤ unread (reading lexer.old)) }
     ensures deep { IfOk result (λ v. All (λ p. p.depth ≤ room) v.items) }
 {
@@ -620,7 +643,9 @@ fn more_arguments(
 ) -> Result<Vec<Part>, PseudoFault>
     requires most { room ≤ 63 }
     requires shallow { first.depth ≤ room }
-    ensures read { Reads (λ v. map part_of v.items) (reading lexer.new) result (items_behind (accept_at (codes ",")) (expression_at definitions.now whole room 8) (part_of first ∷ []) (reading lexer.old)) }
+    ensures read { Reads (λ v. map part_of v.items) (reading lexer.new) result (items_behind
+        (accept_at (codes ",")) (expression_at definitions.now whole room 8) (part_of first ∷ [])
+        (reading lexer.old)) }
     ensures fewer { OnOk result (unread (reading lexer.new) ≤ unread (reading lexer.old)) }
     ensures deep { IfOk result (λ v. All (λ p. p.depth ≤ room) v.items) }
 {
@@ -654,7 +679,8 @@ pub(crate) fn form(
     lexer: &mut Lexer<'_>,
 ) -> Result<Part, PseudoFault>
     requires most { room ≤ 64 }
-    ensures read { Reads part_of (reading lexer.new) result (form_at (index_in definitions.now whole room) (spelled_of word.entry) (reading lexer.old)) }
+    ensures read { Reads part_of (reading lexer.new) result (form_at (index_in definitions.now whole
+        room) (spelled_of word.entry) (reading lexer.old)) }
     ensures fewer { OnOk result (unread (reading lexer.new) ≤ unread (reading lexer.old)) }
     ensures deep { IfOk result (λ p. p.depth ≤ room + 1) }
 {
@@ -679,7 +705,8 @@ fn bracket(
     lexer: &mut Lexer<'_>,
 ) -> Result<Part, PseudoFault>
     requires most { room ≤ 64 }
-    ensures read { Reads part_of (reading lexer.new) result (bracket_at (index_in definitions.now whole room) (spelled_of word.entry) (reading lexer.old)) }
+    ensures read { Reads part_of (reading lexer.new) result (bracket_at (index_in definitions.now
+        whole room) (spelled_of word.entry) (reading lexer.old)) }
     ensures fewer { OnOk result (unread (reading lexer.new) ≤ unread (reading lexer.old)) }
     ensures deep { IfOk result (λ p. p.depth ≤ room + 1) }
 {
@@ -705,7 +732,8 @@ fn slice_behind(
 ) -> Result<Part, PseudoFault>
     requires most { room ≤ 64 }
     requires shallow { high.depth ≤ room }
-    ensures read { Reads part_of (reading lexer.new) result (slice_end (index_in definitions.now whole room) (spelled_of word.entry) (part_of high) (reading lexer.old)) }
+    ensures read { Reads part_of (reading lexer.new) result (slice_end (index_in definitions.now
+        whole room) (spelled_of word.entry) (part_of high) (reading lexer.old)) }
     ensures fewer { OnOk result (unread (reading lexer.new) ≤ unread (reading lexer.old)) }
     ensures deep { IfOk result (λ p. p.depth ≤ room + 1) }
 {
@@ -726,7 +754,8 @@ fn element_behind(
     lexer: &mut Lexer<'_>,
 ) -> Result<Part, PseudoFault>
     requires most { room ≤ 64 }
-    ensures read { Reads part_of (reading lexer.new) result (element_at (index_in definitions.now whole room) (spelled_of word.entry) (reading lexer.old)) }
+    ensures read { Reads part_of (reading lexer.new) result (element_at (index_in definitions.now
+        whole room) (spelled_of word.entry) (reading lexer.old)) }
     ensures fewer { OnOk result (unread (reading lexer.new) ≤ unread (reading lexer.old)) }
     ensures deep { IfOk result (λ p. p.depth ≤ room + 1) }
 {
@@ -753,7 +782,8 @@ fn element_index(
     lexer: &mut Lexer<'_>,
 ) -> Result<Part, PseudoFault>
     requires most { room ≤ 64 }
-    ensures read { Reads part_of (reading lexer.new) result (element_end (index_in definitions.now whole room) (spelled_of word.entry) size (reading lexer.old)) }
+    ensures read { Reads part_of (reading lexer.new) result (element_end (index_in definitions.now
+        whole room) (spelled_of word.entry) size (reading lexer.old)) }
     ensures fewer { OnOk result (unread (reading lexer.new) ≤ unread (reading lexer.old)) }
     ensures deep { IfOk result (λ p. p.depth ≤ room + 1) }
 {
@@ -772,7 +802,8 @@ pub(crate) fn index(
     lexer: &mut Lexer<'_>,
 ) -> Result<Part, PseudoFault>
     requires most { room ≤ 64 }
-    ensures read { Reads part_of (reading lexer.new) result (index_in definitions.now whole room (reading lexer.old)) }
+    ensures read { Reads part_of (reading lexer.new) result (index_in definitions.now whole room
+        (reading lexer.old)) }
     ensures fewer { OnOk result (unread (reading lexer.new) ≤ unread (reading lexer.old)) }
     ensures deep { IfOk result (λ p. p.depth ≤ room) }
 {
@@ -790,7 +821,8 @@ pub(crate) fn whole(
     definitions: &Definitions,
     lexer: &mut Lexer<'_>,
 ) -> Result<Part, PseudoFault>
-    ensures read { Reads part_of (reading lexer.new) result (whole_at definitions.now (reading lexer.old)) }
+    ensures read { Reads part_of (reading lexer.new) result (whole_at definitions.now (reading
+        lexer.old)) }
     ensures fewer { OnOk result (unread (reading lexer.new) ≤ unread (reading lexer.old)) }
 {
     let mut ahead = *lexer;

@@ -22,7 +22,8 @@ use vg_text::lexer::Word;
 /// `name[index]`
 pub(crate) fn bit(alloc: Global, word: Word<'_>, index: Part) -> Result<Part, PseudoFault>
     requires { index.depth ≤ 64 }
-    ensures node { Gives part_of result (Ok (above_one (bit (spot_at word.entry.place) word.entry.bytes.now (part_of index).expression) (part_of index))) }
+    ensures node { Gives part_of result (Ok (above_one (bit (spot_at word.entry.place)
+        word.entry.bytes.now (part_of index).expression) (part_of index))) }
     ensures deep { IfOk result (λ p. p.depth ≡ index.depth + 1) }
 {
     let name = Name::new(alloc, word.bytes)?;
@@ -47,7 +48,9 @@ pub(crate) fn slice(
 ) -> Result<Part, PseudoFault>
     requires high { high.depth ≤ 64 }
     requires low { low.depth ≤ 64 }
-    ensures node { Gives part_of result (Ok (above_two (slice (spot_at word.entry.place) word.entry.bytes.now (part_of high).expression (part_of low).expression) (part_of high) (part_of low))) }
+    ensures node { Gives part_of result (Ok (above_two (slice (spot_at word.entry.place)
+        word.entry.bytes.now (part_of high).expression (part_of low).expression) (part_of high)
+        (part_of low))) }
     ensures deep { IfOk result (λ p. p.depth ≡ max high.depth low.depth + 1) }
 {
     let name = Name::new(alloc, word.bytes)?;
@@ -72,7 +75,8 @@ pub(crate) fn element(
     index: Part,
 ) -> Result<Part, PseudoFault>
     requires { index.depth ≤ 64 }
-    ensures node { Gives part_of result (Ok (above_one (element (spot_at word.entry.place) word.entry.bytes.now size (part_of index).expression) (part_of index))) }
+    ensures node { Gives part_of result (Ok (above_one (element (spot_at word.entry.place)
+        word.entry.bytes.now size (part_of index).expression) (part_of index))) }
     ensures deep { IfOk result (λ p. p.depth ≡ index.depth + 1) }
 {
     let name = Name::new(alloc, word.bytes)?;
@@ -97,7 +101,8 @@ pub(crate) fn unary(
     operand: Part,
 ) -> Result<Part, PseudoFault>
     requires { operand.depth ≤ 64 }
-    ensures node { Gives part_of result (Ok (above_one (unary (spot_at place) op (part_of operand).expression) (part_of operand))) }
+    ensures node { Gives part_of result (Ok (above_one (unary (spot_at place) op (part_of
+        operand).expression) (part_of operand))) }
     ensures deep { IfOk result (λ p. p.depth ≡ operand.depth + 1) }
 {
     let expression = Expr::Unary {
@@ -122,7 +127,8 @@ pub(crate) fn binary(
 ) -> Result<Part, PseudoFault>
     requires left { left.depth ≤ 64 }
     requires right { right.depth ≤ 64 }
-    ensures node { Gives part_of result (Ok (above_two (binary (spot_at place) op (part_of left).expression (part_of right).expression) (part_of left) (part_of right))) }
+    ensures node { Gives part_of result (Ok (above_two (binary (spot_at place) op (part_of
+        left).expression (part_of right).expression) (part_of left) (part_of right))) }
     ensures deep { IfOk result (λ p. p.depth ≡ max left.depth right.depth + 1) }
 {
     let expression = Expr::Binary {
@@ -148,8 +154,11 @@ pub(crate) fn choice(
     requires condition { condition.depth ≤ 64 }
     requires first { first.depth ≤ 64 }
     requires second { second.depth ≤ 64 }
-    ensures node { Gives part_of result (Ok (above_three (choice (spot_at (outer_of (part_of condition).expression)) (part_of condition).expression (part_of first).expression (part_of second).expression) (part_of condition) (part_of first) (part_of second))) }
-    ensures deep { IfOk result (λ p. p.depth ≡ max condition.depth (max first.depth second.depth) + 1) }
+    ensures node { Gives part_of result (Ok (above_three (choice (spot_at (outer_of (part_of
+        condition).expression)) (part_of condition).expression (part_of first).expression (part_of
+        second).expression) (part_of condition) (part_of first) (part_of second))) }
+    ensures deep { IfOk result (λ p. p.depth ≡ max condition.depth (max first.depth second.depth) +
+        1) }
 {
     let expression = Expr::Choice {
         spot: Spot::at(condition.expression.spot().outer),
@@ -183,7 +192,8 @@ fn linked_one(alloc: Global, part: Part, behind: Linked) -> Result<Linked, Pseud
 /// All arguments of a call that counts for so much.
 fn linked(alloc: Global, parts: Vec<Part>, calls: u8, room: u32) -> Result<Linked, PseudoFault>
     requires { All (λ p. p.depth ≤ room) parts.items }
-    ensures node { Gives linked_of result (Ok (linked (map part_of parts.items) (linked_none calls))) }
+    ensures node { Gives linked_of result (Ok (linked (map part_of parts.items) (linked_none
+        calls))) }
     ensures deep { IfOk result (λ l. l.depth ≤ room) }
 {
     let mut left = parts;
@@ -211,7 +221,8 @@ pub(crate) fn call_node(
 ) -> Result<Part, PseudoFault>
     requires few { room ≤ 64 }
     requires deep { All (λ p. p.depth ≤ room) parts.items }
-    ensures node { Gives part_of result (Ok (call_of (spelled_of word.entry) (linked (map part_of parts.items) (linked_none calls)))) }
+    ensures node { Gives part_of result (Ok (call_of (spelled_of word.entry) (linked (map part_of
+        parts.items) (linked_none calls)))) }
     ensures deep { IfOk result (λ p. p.depth ≤ room + 1) }
 {
     let linked = linked(alloc, parts, calls, room)?;

@@ -79,7 +79,8 @@ fn more_params(
     first: DefineParam,
     lexer: &mut Lexer<'_>,
 ) -> Result<Vec<DefineParam>, PseudoFault>
-    ensures read { Reads (λ v. v.items) (reading lexer.new) result (items_behind (accept_at (codes ",")) param_at (first ∷ []) (reading lexer.old)) }
+    ensures read { Reads (λ v. v.items) (reading lexer.new) result (items_behind (accept_at (codes
+        ",")) param_at (first ∷ []) (reading lexer.old)) }
     ensures fewer { OnOk result (unread (reading lexer.new) ≤ unread (reading lexer.old)) }
 {
     let mut done = Vec::new(alloc);
@@ -118,7 +119,8 @@ fn define(
     definitions: &Definitions,
     lexer: &mut Lexer<'_>,
 ) -> Result<Defined, PseudoFault>
-    ensures read { Reads defined_of (reading lexer.new) result (define_at definitions.now (reading lexer.old)) }
+    ensures read { Reads defined_of (reading lexer.new) result (define_at definitions.now (reading
+        lexer.old)) }
     ensures fewer { OnOk result (unread (reading lexer.new) ≤ unread (reading lexer.old)) }
 {
     let word = name(lexer)?;
@@ -156,7 +158,12 @@ fn register(
     definitions: &mut Definitions,
     defined: &Defined,
 ) -> Result<(), AllocError>
-    ensures ok { OnOk result (definitions.new ≡ record { known = with_callee definitions.old.known (defined_of defined.now).define.name (callee (defined_of defined.now)); inside = definitions.old.inside }) }
+    ensures ok { OnOk result (definitions.new ≡ record {
+      known = with_callee definitions.old.known
+          (defined_of defined.now).define.name (callee (defined_of defined.now));
+      inside =
+          definitions.old.inside;
+    }) }
 {
     let callee = callee(defined);
     definitions.define(alloc, defined.define.name.bytes(), callee)
@@ -169,7 +176,11 @@ fn defines(
     lexer: &mut Lexer<'_>,
 ) -> Result<Vec<Define>, PseudoFault>
     requires { definitions.old ≡ record { known = []; inside = true } }
-    ensures read { Reads (λ v. record { defines = map define_of v.items; known = definitions.new.known }) (reading lexer.new) result (defines_at (reading lexer.old)) }
+    ensures read { Reads (λ v. record {
+      defines = map define_of v.items;
+      known =
+          definitions.new.known;
+    }) (reading lexer.new) result (defines_at (reading lexer.old)) }
 {
     let mut done = Vec::new(alloc);
     'defines: loop {
@@ -193,7 +204,8 @@ fn defines(
 /// An operation, up to the END after it.
 #[tactic(auto, unfolding(crate::specs::Operations::operation_at))]
 fn operation(alloc: Global, lexer: &mut Lexer<'_>) -> Result<Operation, PseudoFault>
-    ensures read { Reads operation_of (reading lexer.new) result (operation_at (reading lexer.old)) }
+    ensures read { Reads operation_of (reading lexer.new) result (operation_at (reading
+        lexer.old)) }
 {
     let mut definitions = Definitions::new(alloc);
     let defines = defines(alloc, &mut definitions, lexer)?;
@@ -212,7 +224,8 @@ fn operation(alloc: Global, lexer: &mut Lexer<'_>) -> Result<Operation, PseudoFa
 /// lexer stands as it was. `Memory` says nothing of the text.
 pub fn parse_operation(alloc: Global, lexer: &mut Lexer<'_>) -> Result<Operation, PseudoFault>
     // What the reader answers, word by word: the operation, or the first fault and its place; and where the lexer is then.
-    ensures exact { Reads operation_of (reading lexer.new) result (operation_at (reading lexer.old)) }
+    ensures exact { Reads operation_of (reading lexer.new) result (operation_at (reading
+        lexer.old)) }
     // After a refusal the lexer stands as it was.
     ensures behind { OnErr result (lexer.new ≡ lexer.old) }
 {

@@ -27,7 +27,8 @@ pub(crate) fn next<'a>(lexer: &mut Lexer<'a>) -> Result<Word<'a>, PseudoFault>
 
 /// This very word.
 pub(crate) fn expect<'a>(text: &[u8], lexer: &mut Lexer<'a>) -> Result<Word<'a>, PseudoFault>
-    ensures read { Reads spelled_of (reading lexer.new) result (expect_at text.now (reading lexer.old)) }
+    ensures read { Reads spelled_of (reading lexer.new) result (expect_at text.now (reading
+        lexer.old)) }
     ensures fewer { OnOk result (unread (reading lexer.new) ≤ unread (reading lexer.old)) }
 {
     let word = next(lexer)?;
@@ -40,7 +41,8 @@ pub(crate) fn expect<'a>(text: &[u8], lexer: &mut Lexer<'a>) -> Result<Word<'a>,
 
 /// Whether this very word comes next, which is taken then.
 pub(crate) fn accept<'a>(text: &[u8], lexer: &mut Lexer<'a>) -> Result<bool, PseudoFault>
-    ensures read { Reads (λ b. b) (reading lexer.new) result (accept_at text.now (reading lexer.old)) }
+    ensures read { Reads (λ b. b) (reading lexer.new) result (accept_at text.now (reading
+        lexer.old)) }
     ensures fewer { OnOk result (unread (reading lexer.new) ≤ unread (reading lexer.old)) }
 {
     let mut ahead = *lexer;

@@ -30,7 +30,8 @@ const DEEPEST_INDEX: u32 = 64;
 
 /// Whether a statement follows.
 fn statement_follows(lexer: &mut Lexer<'_>) -> Result<bool, PseudoFault>
-    ensures read { Reads (λ b. b) (reading lexer.new) result (statement_follows (reading lexer.old)) }
+    ensures read { Reads (λ b. b) (reading lexer.new) result (statement_follows (reading
+        lexer.old)) }
 {
     let mut ahead = *lexer;
     let word = next(&mut ahead)?;
@@ -97,7 +98,8 @@ fn assigned(
     target: Expr,
     lexer: &mut Lexer<'_>,
 ) -> Result<Block, PseudoFault>
-    ensures read { Reads block_of (reading lexer.new) result (assigned_at definitions.now place (expression_of target) (reading lexer.old)) }
+    ensures read { Reads block_of (reading lexer.new) result (assigned_at definitions.now place
+        (expression_of target) (reading lexer.old)) }
     ensures fewer { OnOk result (unread (reading lexer.new) ≤ unread (reading lexer.old)) }
 {
     let _sign = expect(b":=", lexer)?;
@@ -121,7 +123,8 @@ fn above(
     word: Word<'_>,
     lexer: &mut Lexer<'_>,
 ) -> Result<Block, PseudoFault>
-    ensures read { Reads block_of (reading lexer.new) result (above_at definitions.now (spelled_of word.entry) (reading lexer.old)) }
+    ensures read { Reads block_of (reading lexer.new) result (above_at definitions.now (spelled_of
+        word.entry) (reading lexer.old)) }
     ensures fewer { OnOk result (unread (reading lexer.new) ≤ unread (reading lexer.old)) }
 {
     let low = index(alloc, definitions, None, DEEPEST_INDEX, lexer)?;
@@ -148,7 +151,8 @@ fn assignment(
     word: Word<'_>,
     lexer: &mut Lexer<'_>,
 ) -> Result<Block, PseudoFault>
-    ensures read { Reads block_of (reading lexer.new) result (assignment_at definitions.now (spelled_of word.entry) (reading lexer.old)) }
+    ensures read { Reads block_of (reading lexer.new) result (assignment_at definitions.now
+        (spelled_of word.entry) (reading lexer.old)) }
     ensures fewer { OnOk result (unread (reading lexer.new) ≤ unread (reading lexer.old)) }
 {
     if above_follows(lexer)? {
@@ -171,7 +175,8 @@ fn statement(
     room: u32,
     lexer: &mut Lexer<'_>,
 ) -> Result<Block, PseudoFault>
-    ensures read { Reads block_of (reading lexer.new) result (statement_at definitions.now room (reading lexer.old)) }
+    ensures read { Reads block_of (reading lexer.new) result (statement_at definitions.now room
+        (reading lexer.old)) }
     ensures fewer { OnOk result (unread (reading lexer.new) ≤ unread (reading lexer.old) - 1) }
 {
     let word = next(lexer)?;
@@ -191,7 +196,8 @@ fn headed(
     word: Word<'_>,
     lexer: &mut Lexer<'_>,
 ) -> Result<Block, PseudoFault>
-    ensures read { Reads block_of (reading lexer.new) result (word_at_head definitions.now (block_at (statement_at definitions.now room)) (spelled_of word.entry) (reading lexer.old)) }
+    ensures read { Reads block_of (reading lexer.new) result (word_at_head definitions.now (block_at
+        (statement_at definitions.now room)) (spelled_of word.entry) (reading lexer.old)) }
     ensures fewer { OnOk result (unread (reading lexer.new) ≤ unread (reading lexer.old)) }
 {
     let place = word.place;
@@ -217,7 +223,8 @@ fn block(
     room: u32,
     lexer: &mut Lexer<'_>,
 ) -> Result<Block, PseudoFault>
-    ensures read { Reads block_of (reading lexer.new) result (block_at (statement_at definitions.now room) (reading lexer.old)) }
+    ensures read { Reads block_of (reading lexer.new) result (block_at (statement_at definitions.now
+        room) (reading lexer.old)) }
     ensures fewer { OnOk result (unread (reading lexer.new) ≤ unread (reading lexer.old)) }
 {
     let all = block_items(alloc, definitions, room, lexer)?;
@@ -232,7 +239,8 @@ fn block_items(
     room: u32,
     lexer: &mut Lexer<'_>,
 ) -> Result<Vec<Block>, PseudoFault>
-    ensures read { Reads (λ v. map block_of v.items) (reading lexer.new) result (items_behind statement_follows (statement_at definitions.now room) [] (reading lexer.old)) }
+    ensures read { Reads (λ v. map block_of v.items) (reading lexer.new) result (items_behind
+        statement_follows (statement_at definitions.now room) [] (reading lexer.old)) }
     ensures fewer { OnOk result (unread (reading lexer.new) ≤ unread (reading lexer.old)) }
 {
     let mut done = Vec::new(alloc);
@@ -261,7 +269,8 @@ fn for_loop(
     place: Place,
     lexer: &mut Lexer<'_>,
 ) -> Result<Block, PseudoFault>
-    ensures read { Reads block_of (reading lexer.new) result (for_at definitions.now (block_at (statement_at definitions.now room)) place (reading lexer.old)) }
+    ensures read { Reads block_of (reading lexer.new) result (for_at definitions.now (block_at
+        (statement_at definitions.now room)) place (reading lexer.old)) }
     ensures fewer { OnOk result (unread (reading lexer.new) ≤ unread (reading lexer.old)) }
 {
     let variable = name(lexer)?;
@@ -283,7 +292,8 @@ fn if_ways(
     room: u32,
     lexer: &mut Lexer<'_>,
 ) -> Result<Block, PseudoFault>
-    ensures read { Reads block_of (reading lexer.new) result (if_at definitions.now (block_at (statement_at definitions.now room)) (reading lexer.old)) }
+    ensures read { Reads block_of (reading lexer.new) result (if_at definitions.now (block_at
+        (statement_at definitions.now room)) (reading lexer.old)) }
     ensures fewer { OnOk result (unread (reading lexer.new) ≤ unread (reading lexer.old)) }
 {
     let first = way(alloc, definitions, room, lexer)?;
@@ -309,7 +319,8 @@ fn way(
     room: u32,
     lexer: &mut Lexer<'_>,
 ) -> Result<Block, PseudoFault>
-    ensures read { Reads block_of (reading lexer.new) result (way_at definitions.now (block_at (statement_at definitions.now room)) (reading lexer.old)) }
+    ensures read { Reads block_of (reading lexer.new) result (way_at definitions.now (block_at
+        (statement_at definitions.now room)) (reading lexer.old)) }
     ensures fewer { OnOk result (unread (reading lexer.new) ≤ unread (reading lexer.old)) }
 {
     let condition = whole(alloc, definitions, lexer)?;
@@ -333,7 +344,9 @@ fn more_ways(
     first: Block,
     lexer: &mut Lexer<'_>,
 ) -> Result<Vec<Block>, PseudoFault>
-    ensures read { Reads (λ v. map block_of v.items) (reading lexer.new) result (items_behind else_if_follows (way_at definitions.now (block_at (statement_at definitions.now room))) (block_of first ∷ []) (reading lexer.old)) }
+    ensures read { Reads (λ v. map block_of v.items) (reading lexer.new) result (items_behind
+        else_if_follows (way_at definitions.now (block_at (statement_at definitions.now room)))
+        (block_of first ∷ []) (reading lexer.old)) }
     ensures fewer { OnOk result (unread (reading lexer.new) ≤ unread (reading lexer.old)) }
 {
     let mut done = Vec::new(alloc);
@@ -362,7 +375,8 @@ fn else_way(
     room: u32,
     lexer: &mut Lexer<'_>,
 ) -> Result<Block, PseudoFault>
-    ensures read { Reads block_of (reading lexer.new) result (else_at (block_at (statement_at definitions.now room)) (reading lexer.old)) }
+    ensures read { Reads block_of (reading lexer.new) result (else_at (block_at (statement_at
+        definitions.now room)) (reading lexer.old)) }
     ensures fewer { OnOk result (unread (reading lexer.new) ≤ unread (reading lexer.old)) }
 {
     if !accept(b"ELSE", lexer)? {
@@ -381,7 +395,8 @@ fn case_arms(
     room: u32,
     lexer: &mut Lexer<'_>,
 ) -> Result<Block, PseudoFault>
-    ensures read { Reads block_of (reading lexer.new) result (case_at definitions.now (block_at (statement_at definitions.now room)) (reading lexer.old)) }
+    ensures read { Reads block_of (reading lexer.new) result (case_at definitions.now (block_at
+        (statement_at definitions.now room)) (reading lexer.old)) }
     ensures fewer { OnOk result (unread (reading lexer.new) ≤ unread (reading lexer.old)) }
 {
     let selector = whole(alloc, definitions, lexer)?;
@@ -407,7 +422,9 @@ fn arm_items(
     room: u32,
     lexer: &mut Lexer<'_>,
 ) -> Result<Vec<Block>, PseudoFault>
-    ensures read { Reads (λ v. map block_of v.items) (reading lexer.new) result (items_behind arm_follows (arm_at (block_at (statement_at definitions.now room))) [] (reading lexer.old)) }
+    ensures read { Reads (λ v. map block_of v.items) (reading lexer.new) result (items_behind
+        arm_follows (arm_at (block_at (statement_at definitions.now room))) [] (reading
+        lexer.old)) }
     ensures fewer { OnOk result (unread (reading lexer.new) ≤ unread (reading lexer.old)) }
 {
     let mut done = Vec::new(alloc);
@@ -435,7 +452,8 @@ fn arm(
     room: u32,
     lexer: &mut Lexer<'_>,
 ) -> Result<Block, PseudoFault>
-    ensures read { Reads block_of (reading lexer.new) result (arm_at (block_at (statement_at definitions.now room)) (reading lexer.old)) }
+    ensures read { Reads block_of (reading lexer.new) result (arm_at (block_at (statement_at
+        definitions.now room)) (reading lexer.old)) }
     ensures fewer { OnOk result (unread (reading lexer.new) ≤ unread (reading lexer.old) - 1) }
 {
     let number = number(lexer)?;
@@ -457,7 +475,8 @@ pub(crate) fn statements(
     definitions: &Definitions,
     lexer: &mut Lexer<'_>,
 ) -> Result<Block, PseudoFault>
-    ensures read { Reads block_of (reading lexer.new) result (statements_at definitions.now (reading lexer.old)) }
+    ensures read { Reads block_of (reading lexer.new) result (statements_at definitions.now (reading
+        lexer.old)) }
     ensures fewer { OnOk result (unread (reading lexer.new) ≤ unread (reading lexer.old)) }
 {
     block(alloc, definitions, DEEPEST, lexer)

@@ -9,25 +9,25 @@ use Rattle.vg_pseudo.specs.declared.spot.Spot.{Spot}
 use Rattle.vg_pseudo.specs.Resolved.{Expr, Arguments, end, more}
 use Rattle.vg_interval.specs.declared.fault.RangeFault.{RangeFault}
 use Rattle.vg_interval.specs.Found.{Found, Passed, passed}
-use Rattle.vg_interval.specs.Judge.{Sight, Kept, Count, judge, judge_all, spot_of}
+use Rattle.vg_interval.specs.Judge.{Sight, KnownNumber, Count, judge, judge_all, spot_of}
 use Rattle.vg_range.specs.Seen.{argument_of, behind_passed}
 
-abbrev rest_passed : Sight → List Kept → Arguments → Passed × Count → Result (List Passed × Count) RangeFault
+abbrev rest_passed : Sight → List KnownNumber → Arguments → Passed × Count → Result (List Passed × Count) RangeFault
 rest_passed s ks xs p = judge_all s ks xs p.1 >>= λ rest. Ok (p.0 ∷ rest.0, rest.1)
 
-by_passed : (s : Sight) (ks : List Kept) (xs : Arguments) (q : Result Passed RangeFault) (c : Count)
+by_passed : (s : Sight) (ks : List KnownNumber) (xs : Arguments) (q : Result Passed RangeFault) (c : Count)
     → (q >>= λ first. judge_all s ks xs c >>= λ rest. Ok (first ∷ rest.0, rest.1))
     ≡ ((q >>= λ p. Ok (p, c)) >>= rest_passed s ks xs)
 by_passed s ks xs (Ok p) c = refl
 by_passed s ks xs (Err e) c = refl
 
-by_found : (s : Sight) (ks : List Kept) (xs : Arguments) (u : Spot) (r : Result (Found × Count) RangeFault)
+by_found : (s : Sight) (ks : List KnownNumber) (xs : Arguments) (u : Spot) (r : Result (Found × Count) RangeFault)
     → (r >>= λ f. passed u f.0 >>= λ first. judge_all s ks xs f.1 >>= λ rest. Ok (first ∷ rest.0, rest.1))
     ≡ ((r >>= λ f. passed u f.0 >>= λ p. Ok (p, f.1)) >>= rest_passed s ks xs)
 by_found s ks xs u (Ok f) = by_passed s ks xs (passed u f.0) f.1
 by_found s ks xs u (Err e) = refl
 
-all_is : (s : Sight) (ks : List Kept) (x : Expr) (xs : Arguments) (c : Count)
+all_is : (s : Sight) (ks : List KnownNumber) (x : Expr) (xs : Arguments) (c : Count)
     → judge_all s ks (more x xs) c ≡ (argument_of s ks x c >>= rest_passed s ks xs)
 all_is s ks x xs c = by_found s ks xs (spot_of x) (judge s ks x c)
 
@@ -41,7 +41,7 @@ passed_none (Ok g) = refl
 passed_none (Err e) = refl
 
 -- one argument more is judged
-pub passed_next : (s : Sight) (ks : List Kept) (x : Expr) (xs : Arguments) (c d : Count) (done : List Passed) (p : Passed)
+pub passed_next : (s : Sight) (ks : List KnownNumber) (x : Expr) (xs : Arguments) (c d : Count) (done : List Passed) (p : Passed)
     → argument_of s ks x c ≡ Ok (p, d)
     → behind_passed (done ++ p ∷ []) (judge_all s ks xs d) ≡ behind_passed done (judge_all s ks (more x xs) c)
 passed_next s ks x xs c d done p e =
@@ -49,12 +49,12 @@ passed_next s ks x xs c d done p e =
     ∙ sym (ap (behind_passed done) (all_is s ks x xs c ∙ ap (λ r. r >>= rest_passed s ks xs) e))
 
 -- none is left
-pub passed_done : (s : Sight) (ks : List Kept) (c : Count) (done : List Passed) (r : Result (List Passed × Count) RangeFault)
+pub passed_done : (s : Sight) (ks : List KnownNumber) (c : Count) (done : List Passed) (r : Result (List Passed × Count) RangeFault)
     → behind_passed done (judge_all s ks end c) ≡ r → r ≡ Ok (done, c)
 passed_done s ks c done r e = sym e ∙ ap (λ l. Ok (l, c)) (append-nil done)
 
 -- an argument has a fault
-pub passed_fails : (s : Sight) (ks : List Kept) (x : Expr) (xs : Arguments) (c : Count) (done : List Passed) (fault : Option RangeFault)
+pub passed_fails : (s : Sight) (ks : List KnownNumber) (x : Expr) (xs : Arguments) (c : Count) (done : List Passed) (fault : Option RangeFault)
     (r : Result (List Passed × Count) RangeFault)
     → behind_passed done (judge_all s ks (more x xs) c) ≡ r
     → FailsBy fault (argument_of s ks x c) → FailsBy fault r

@@ -12,17 +12,17 @@ use Rattle.vg_pseudo.specs.Resolved.{Code, stop, assign, skip, repeat, choose, w
 use Rattle.vg_script.specs.Script.{Script}
 use Rattle.vg_interval.specs.declared.fault.RangeFault.{RangeFault}
 use Rattle.vg_interval.specs.Judge.{Count}
-use Rattle.vg_range.specs.Met.{arm_of, first_arm, rest_arms}
-use Rattle.vg_range.specs.Walk.{Course, Stand, Arms, all_arms, arm_taken, arms_do_nothing, beginning, is_empty, walk, with_arm}
+use Rattle.vg_range.specs.Steps.{arm_of, first_arm, rest_arms}
+use Rattle.vg_range.specs.Walk.{WalkContext, WalkState, Arms, all_arms, arm_taken, arms_do_nothing, beginning, is_empty, walk, with_arm}
 use Rattle.vg_range.proofs.Stepping.{again}
 use Rattle.vg_range.proofs.WaysLeft.{and_moved}
 
 -- one arm, and then those after it
-abbrev pub armed : Course → Code → Stand → Arms → Count → Result (Arms × Count) RangeFault
+abbrev pub armed : WalkContext → Code → WalkState → Arms → Count → Result (Arms × Count) RangeFault
 armed x c w found n =
     option_map_or (λ r. first_arm x c w found n >>= λ g. all_arms x r w g.0 g.1) (rest_arms c) (Ok (found, n))
 
-armed_is : (x : Course) (c : Code) (w : Stand) (found : Arms) (n : Count) → armed x c w found n ≡ all_arms x c w found n
+armed_is : (x : WalkContext) (c : Code) (w : WalkState) (found : Arms) (n : Count) → armed x c w found n ≡ all_arms x c w found n
 armed_is x stop w found n = refl
 armed_is x (assign p t e rest) w found n = refl
 armed_is x (skip p rest) w found n = refl
@@ -34,31 +34,31 @@ armed_is x (pick e arms rest) w found n = refl
 armed_is x (arm k body more) w found n =
     again (walk x body (beginning w n)) (λ v. Ok (with_arm x k v found, v.count)) (λ g. all_arms x more w g.0 g.1)
 
-at_more : (x : Course) (c r : Code) (w : Stand) (found : Arms) (n : Count) → rest_arms c ≡ Some r
+at_more : (x : WalkContext) (c r : Code) (w : WalkState) (found : Arms) (n : Count) → rest_arms c ≡ Some r
     → (first_arm x c w found n >>= λ g. all_arms x r w g.0 g.1) ≡ all_arms x c w found n
 at_more x c r w found n e =
     sym (ap (λ o. option_map_or (λ q. first_arm x c w found n >>= λ g. all_arms x q w g.0 g.1) o (Ok (found, n))) e)
     ∙ armed_is x c w found n
 
 -- an arm more
-pub arms_next : (x : Course) (c r : Code) (w : Stand) (found more : Arms) (n m : Count) → rest_arms c ≡ Some r
+pub arms_next : (x : WalkContext) (c r : Code) (w : WalkState) (found more : Arms) (n m : Count) → rest_arms c ≡ Some r
     → first_arm x c w found n ≡ Ok (more, m) → all_arms x r w more m ≡ all_arms x c w found n
 arms_next x c r w found more n m e h =
     sym (ap (λ o. o >>= λ g. all_arms x r w g.0 g.1) h) ∙ at_more x c r w found n e
 
 -- an arm has a fault
-pub arms_fail : (x : Course) (c r : Code) (w : Stand) (found : Arms) (n : Count) (fault : Option RangeFault) → rest_arms c ≡ Some r
+pub arms_fail : (x : WalkContext) (c r : Code) (w : WalkState) (found : Arms) (n : Count) (fault : Option RangeFault) → rest_arms c ≡ Some r
     → FailsBy fault (first_arm x c w found n) → FailsBy fault (all_arms x c w found n)
 arms_fail x c r w found n fault e h =
     rw (sym (at_more x c r w found n e)) (fails_bind fault (first_arm x c w found n) (λ g. all_arms x r w g.0 g.1) h)
 
-by_number : (x : Course) (body : Code) (w : Stand) (o : Option Code) (r : Result Stand RangeFault) (b : Bool)
+by_number : (x : WalkContext) (body : Code) (w : WalkState) (o : Option Code) (r : Result WalkState RangeFault) (b : Bool)
     → option_map_or (λ c. walk x c w) o (Ok w) ≡ r
     → option_map_or (λ c. walk x c w) (if b then Some body else o) (Ok w) ≡ (if b then walk x body w else r)
 by_number x body w o r true e = refl
 by_number x body w o r false e = e
 
-taken_is : (x : Course) (c : Code) (w : Stand) (z : ℤ)
+taken_is : (x : WalkContext) (c : Code) (w : WalkState) (z : ℤ)
     → option_map_or (λ b. walk x b w) (arm_of z c) (Ok w) ≡ arm_taken x c w z
 taken_is x stop w z = refl
 taken_is x (assign p t e rest) w z = refl
@@ -71,10 +71,10 @@ taken_is x (pick e arms rest) w z = refl
 taken_is x (arm n body more) w z =
     by_number x body w (arm_of z more) (arm_taken x more w z) (int_eq z (pos n)) (taken_is x more w z)
 
-pub one_taken : (x : Course) (c body : Code) (w : Stand) (z : ℤ) → arm_of z c ≡ Some body → walk x body w ≡ arm_taken x c w z
+pub one_taken : (x : WalkContext) (c body : Code) (w : WalkState) (z : ℤ) → arm_of z c ≡ Some body → walk x body w ≡ arm_taken x c w z
 one_taken x c body w z e = sym (ap (λ o. option_map_or (λ b. walk x b w) o (Ok w)) e) ∙ taken_is x c w z
 
-pub none_taken : (x : Course) (c : Code) (w : Stand) (z : ℤ) → arm_of z c ≡ None → arm_taken x c w z ≡ Ok w
+pub none_taken : (x : WalkContext) (c : Code) (w : WalkState) (z : ℤ) → arm_of z c ≡ None → arm_taken x c w z ≡ Ok w
 none_taken x c w z e = sym (taken_is x c w z) ∙ ap (λ o. option_map_or (λ b. walk x b w) o (Ok w)) e
 
 nothing_behind : (arms : List (ℕ × Script)) (v : ℕ × Script)

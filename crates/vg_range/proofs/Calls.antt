@@ -27,7 +27,7 @@ use Rattle.vg_interval.specs.Words.{extended}
 use Rattle.vg_interval.specs.Found.{Found, known, handed, bit, within, wide, loose, handed_word, Passed, computed}
 use Rattle.vg_interval.specs.Found as found
 use Rattle.vg_interval.specs.Judge.{Count, Walk, spot_of, no_walk}
-use Rattle.vg_range.specs.Walk.{Stand, Course, judged, walk, constant_passed, constants_of, given_of, course_of, walks_from, imm_constant}
+use Rattle.vg_range.specs.Walk.{WalkState, WalkContext, judged, walk, constant_passed, constants_of, given_of, context_of, walks_from, imm_constant}
 use Rattle.vg_range.specs.Walk as walking
 use Rattle.vg_interval.proofs.Covers.{cells, AllBits, AreCells, IsHanded, IsWithin, Covers, block-stands, handed-stands, handed-within, truth-within}
 use Rattle.vg_interval.proofs.Operators.{Made, same_pair}
@@ -205,7 +205,7 @@ Agrees walks fs = (k : ℕ) → CallAgrees (get_or walks k no_walk) (get_or fs k
 begins : (walks : List Walk) (fs : Functions) (ws : List ℕ) (b : Body) (cs : List (Option ℕ)) (given : List ℕ) (n : Count) → Agrees walks fs
     → AllSmall ws → KeepsEnough ws b
     → ((r m : ℕ) → get_or cs r None ≡ Some m → num (get_or (entered b.widths (take b.parameters given)) r []) ≡ m)
-    → Together (course_of true walks ws cs) fs (cells (begun b given)) (walking.begun b n) (begun b given)
+    → Together (context_of true walks ws cs) fs (cells (begun b given)) (walking.begun b n) (begun b given)
 begins walks fs ws b cs given n agree small enough same = record {
   knows = record {
     cells = begun-cells ws b given enough;
@@ -228,7 +228,7 @@ called-agrees walks fs f agree proper ws c cs at ps ns h n m a e =
     let qs = take b.parameters ps in
     let ms = take b.parameters ns in
     let vs = kept_widths b.widths in
-    let x = course_of true walks b.widths (constants_of vs qs) in
+    let x = context_of true walks b.widths (constants_of vs qs) in
     let w = bind_ok (walk x b.code (walking.begun b n)) _ e in
     let g = bind_ok (judged x w.0 f.answer) _ w.2 in
     let r = bind_ok (found.answered (spot_of f.answer) (frame vs b.numbers (given_of qs) w.0.script) g.0.0) _ g.2 in
@@ -312,7 +312,7 @@ instances-mean r proper imm w e given has =
     let same = λ (k n : ℕ) (p : get_or cs k None ≡ Some n). ap (λ v. num (get_or v k [])) (sym (same-entered b.widths (take b.parameters given))) ∙ has k n p in
     let start = begins walks fs b.widths b cs given (record { steps = 0; is_dynamic = false }) agree proper.body.small (keeps-all b) same in
     let spares = code-spares b.code b.parameters cs (λ q p. past-imm r.result imm b.widths q (subst (λ v. v ≤ q) proper.result p)) proper.body.code in
-    let left = walk-sound b.code (course_of true walks b.widths cs) fs refl spares (cells (begun b given)) (walking.begun b (record { steps = 0; is_dynamic = false })) w (begun b given) start e in
+    let left = walk-sound b.code (context_of true walks b.widths cs) fs refl spares (cells (begun b given)) (walking.begun b (record { steps = 0; is_dynamic = false })) w (begun b given) start e in
     record {
       formed = wider-formed (kept_widths b.widths) b.widths (λ r. omega (arith, kept-at b.widths r)) w.script left.formed;
       leaves = ap (λ v. get_or (after w.script v).registers r.result []) (frame-begins b given) ∙ ap (λ v. get_or v.registers r.result []) left.same;

@@ -5,7 +5,7 @@ use Rattle.vg_pseudo.specs.declared.spot.Spot.{Spot}
 use Rattle.vg_pseudo.specs.Resolved.{Expr, choice}
 use Rattle.vg_interval.specs.declared.fault.RangeFault.{RangeFault}
 use Rattle.vg_interval.specs.Found.{Found, Operand, fixed, moving, operand}
-use Rattle.vg_interval.specs.Judge.{Sight, Kept, Count, Judges, chosen, judge, spot_of}
+use Rattle.vg_interval.specs.Judge.{Sight, KnownNumber, Count, Judges, chosen, judge, spot_of}
 use Rattle.vg_interval.specs.Views.{condition_of}
 use Rattle.vg_range.specs.Seen.{chosen_by, tested_at}
 
@@ -23,7 +23,7 @@ choice_by_condition (Err e) u s first t second = refl
 choice_by_condition (Ok f) u s first t second = by_operand (operand u f.0) f.0 f.1 s first t second
 
 -- a choice as it is judged
-pub choice_at : (s : Sight) (ks : List Kept) (c : Count) (p : Spot) (x y z : Expr)
+pub choice_at : (s : Sight) (ks : List KnownNumber) (c : Count) (p : Spot) (x y z : Expr)
     → chosen_by (tested_at (spot_of x) (judge s ks x c)) (spot_of y) (judge s ks y) (spot_of z) (judge s ks z)
     ≡ judge s ks (choice p x y z) c
 choice_at s ks c p x y z = choice_by_condition (judge s ks x c) (spot_of x) (spot_of y) (judge s ks y) (spot_of z) (judge s ks z)

@@ -16,12 +16,12 @@ use Rattle.vg_interval.specs.declared.span.Span.{Span}
 use Rattle.vg_interval.specs.Interval.{between, fit, is_small, binary_span, slice_span, unsigned_span}
 use Rattle.vg_interval.specs.Words.{binary_word, comparison}
 use Rattle.vg_interval.specs.Found.{Found, known, read, handed, bit, within, wide, loose, Operand, fixed, moving, word_of, or_too_wide, operand}
-use Rattle.vg_interval.specs.Judge.{Sight, Kept, constant, varying, Count, result_known, result_within, is_shift, is_comparison, joined, binary_at, spot_of, judge}
+use Rattle.vg_interval.specs.Judge.{Sight, KnownNumber, constant, varying, Count, result_known, result_within, is_shift, is_comparison, joined, binary_at, spot_of, judge}
 use Rattle.vg_interval.specs.Views.{Condition, always, tested, condition_of, condition_at}
 use Rattle.vg_range.specs.Estimates.{kept_found, estimate_of, kept_joined, joined_estimate, is_joined, condition_by, decided_at, way_behind, given_at, filled, estimate_filled, estimate_set}
-use Rattle.vg_range.specs.Met.{Met, way_at, way_by}
+use Rattle.vg_range.specs.Steps.{WayStep, way_at, way_by}
 use Rattle.vg_range.specs.Seen.{number_set, tested_at}
-use Rattle.vg_range.specs.Walk.{Course, Goal, Stand, Ways, at_count, beginning, judged, kept_of, put_word, stored, target_number, assigned, walk, with_script}
+use Rattle.vg_range.specs.Walk.{WalkContext, Goal, WalkState, Ways, at_count, beginning, judged, kept_of, put_word, stored, target_number, assigned, walk, with_script}
 
 -- what is kept of what is found is what is kept of the operand that it is
 from_span : (place : Place) (o : Option Span) (x : Word)
@@ -44,7 +44,7 @@ kept_is s (loose y) = refl
 
 -- ---- operators that are no shifts
 
-abbrev counted_kept : Count → Result Kept RangeFault → Result (Kept × Count) RangeFault
+abbrev counted_kept : Count → Result KnownNumber RangeFault → Result (KnownNumber × Count) RangeFault
 counted_kept n r = r >>= λ k. Ok (k, n)
 
 abbrev counted_found : Count → Result Found RangeFault → Result (Found × Count) RangeFault
@@ -86,7 +86,7 @@ unshifted : (s : Spot) (op : BinaryOp) (t : Spot) (n : Count) (a b : Operand) �
     → counted_kept n (kept_joined s op (kept_of a) (kept_of b)) ≡ estimate_of s (binary_at s op t a b n)
 unshifted s op t n a b h = rw h (joined_kept s op n a b)
 
-abbrev joined_behind : Spot → BinaryOp → Kept → Result (Kept × Count) RangeFault → Result (Kept × Count) RangeFault
+abbrev joined_behind : Spot → BinaryOp → KnownNumber → Result (KnownNumber × Count) RangeFault → Result (KnownNumber × Count) RangeFault
 joined_behind s op a second = second >>= λ b. counted_kept b.1 (kept_joined s op a b.0)
 
 second_operand : (s : Spot) (op : BinaryOp) (t : Spot) (n : Count) (a : Operand) (o : Result Operand RangeFault) → is_shift op ≡ false
@@ -113,30 +113,30 @@ first_judged : (s : Spot) (op : BinaryOp) (u t : Spot) (r : Result (Found × Cou
 first_judged s op u t (Ok f) second h = rw (kept_is u f.0) (first_operand s op t f.1 (operand u f.0) second h)
 first_judged s op u t (Err e) second h = refl
 
-pub joined_is : (s : Sight) (ks : List Kept) (p : Spot) (op : BinaryOp) (x y : Expr) (c : Count) → is_shift op ≡ false
+pub joined_is : (s : Sight) (ks : List KnownNumber) (p : Spot) (op : BinaryOp) (x y : Expr) (c : Count) → is_shift op ≡ false
     → joined_estimate s ks p op x y c ≡ estimate_of p (judge s ks (binary p op x y) c)
 joined_is s ks p op x y c h = first_judged p op (spot_of x) (spot_of y) (judge s ks x c) (judge s ks y) h
 
 -- ---- conditions
 
 -- what says the same but for a word that is not kept leads to the same way
-way_by-same : (x : Course) (body : Result Stand RangeFault) (found : Ways) (f : Found) (a : Operand) (n : Count) → x.is_kept ≡ false
+way_by-same : (x : WalkContext) (body : Result WalkState RangeFault) (found : Ways) (f : Found) (a : Operand) (n : Count) → x.is_kept ≡ false
     → way_by x body found (condition_by (kept_of a)) n ≡ way_by x body found (condition_of f a) n
 way_by-same x body found f (fixed z) n h = refl
 way_by-same x body found f (moving i y) n h = rw h refl
 
-way_operand : (x : Course) (body : Code) (w : Stand) (found : Ways) (f : Found) (n : Count) (o : Result Operand RangeFault) → x.is_kept ≡ false
+way_operand : (x : WalkContext) (body : Code) (w : WalkState) (found : Ways) (f : Found) (n : Count) (o : Result Operand RangeFault) → x.is_kept ≡ false
     → way_behind x body w found (counted_kept n (o >>= λ a. Ok (kept_of a)) >>= λ k. Ok (condition_by k.0, k.1))
     ≡ way_behind x body w found ((o >>= λ a. Ok (condition_of f a)) >>= λ d. Ok (d, n))
 way_operand x body w found f n (Ok a) h = way_by-same x (walk x body (beginning w n)) found f a n h
 way_operand x body w found f n (Err e) h = refl
 
-way_judged : (x : Course) (body : Code) (w : Stand) (found : Ways) (s : Spot) (r : Result (Found × Count) RangeFault) → x.is_kept ≡ false
+way_judged : (x : WalkContext) (body : Code) (w : WalkState) (found : Ways) (s : Spot) (r : Result (Found × Count) RangeFault) → x.is_kept ≡ false
     → way_behind x body w found (estimate_of s r >>= λ k. Ok (condition_by k.0, k.1)) ≡ way_behind x body w found (tested_at s r)
 way_judged x body w found s (Ok f) h = rw (kept_is s f.0) (way_operand x body w found f.0 f.1 (operand s f.0) h)
 way_judged x body w found s (Err e) h = refl
 
-pub way_is : (x : Course) (c : Expr) (body : Code) (w : Stand) (found : Ways) (n : Count)
+pub way_is : (x : WalkContext) (c : Expr) (body : Code) (w : WalkState) (found : Ways) (n : Count)
     → way_behind x body w found (decided_at x.is_kept (spot_of c) (judge x.sight w.numbers c n)) ≡ way_at x c body w found n
 way_is x c body w found n = elim (cases_Bool x.is_kept) [
   | inl t ↦ rw t refl
@@ -148,24 +148,24 @@ way_is x c body w found n = elim (cases_Bool x.is_kept) [
 
 -- ---- assignments
 
-unwritten : (x : Course) (s : Script) (w : Stand) → x.is_kept ≡ false → with_script x s w ≡ w
+unwritten : (x : WalkContext) (s : Script) (w : WalkState) → x.is_kept ≡ false → with_script x s w ≡ w
 unwritten x s w h = rw h refl
 
-abbrev stand_ok : Stand → Result Stand RangeFault
+abbrev stand_ok : WalkState → Result WalkState RangeFault
 stand_ok w = Ok w
 
-set_operand : (x : Course) (p : Spot) (t : Target) (w : Stand) (f : Found) (n : Count) (o : Result Operand RangeFault) → x.is_kept ≡ false → operand p f ≡ o
+set_operand : (x : WalkContext) (p : Spot) (t : Target) (w : WalkState) (f : Found) (n : Count) (o : Result Operand RangeFault) → x.is_kept ≡ false → operand p f ≡ o
     → assigned x p t None f (at_count w n) ≡ (counted_kept n (o >>= λ a. Ok (kept_of a)) >>= λ k. Ok (number_set (at_count w k.1) (target_number t) k.0))
 set_operand x p t w f n (Ok a) h e = rw (e, h) refl
 set_operand x p t w f n (Err d) h e = rw e refl
 
-set_judged : (x : Course) (p : Spot) (t : Target) (w : Stand) (r : Result (Found × Count) RangeFault) → x.is_kept ≡ false
+set_judged : (x : WalkContext) (p : Spot) (t : Target) (w : WalkState) (r : Result (Found × Count) RangeFault) → x.is_kept ≡ false
     → (r >>= λ f. assigned x p t None f.0 (at_count w f.1))
     ≡ (estimate_of p r >>= λ k. Ok (number_set (at_count w k.1) (target_number t) k.0))
 set_judged x p t w (Ok f) h = rw (kept_is p f.0) (set_operand x p t w f.0 f.1 (operand p f.0) h refl)
 set_judged x p t w (Err e) h = refl
 
-pub set_is : (x : Course) (t : Target) (e : Expr) (w : Stand) → x.is_kept ≡ false
+pub set_is : (x : WalkContext) (t : Target) (e : Expr) (w : WalkState) → x.is_kept ≡ false
     → estimate_set x (target_number t) e w ≡ given_at x t None e w
 set_is x t e w h = sym (set_judged x (spot_of e) t w (judged x w e) h)
 
@@ -216,7 +216,7 @@ joined_plain s op n (moving i y) (moving j z) = either_plain (is_comparison op) 
 binary_plain : (s : Spot) (op : BinaryOp) (t : Spot) (n : Count) (a b : Operand) → is_shift op ≡ false → AllPlain (binary_at s op t a b n)
 binary_plain s op t n a b h = rw h (joined_plain s op n a b)
 
-judged_plain : (s : Sight) (ks : List Kept) (e : Expr) (c : Count) → is_joined e ≡ true → AllPlain (judge s ks e c)
+judged_plain : (s : Sight) (ks : List KnownNumber) (e : Expr) (c : Count) → is_joined e ≡ true → AllPlain (judge s ks e c)
 judged_plain s ks (binary p op x y) c h =
     behind_plain (judge s ks x c) _ (λ f.
     behind_plain (operand (spot_of x) f.0) _ (λ a.
@@ -230,34 +230,34 @@ judged_plain s ks (binary p op x y) c h =
     ]
 judged_plain s ks e c h = absurd (cc)
 
-put_filled : (x : Course) (p : Spot) (g : Goal) (i : Span) (y : Word) (w : Stand) → x.is_kept ≡ false
+put_filled : (x : WalkContext) (p : Spot) (g : Goal) (i : Span) (y : Word) (w : WalkState) → x.is_kept ≡ false
     → (put_word p.outer g y >>= λ made. Ok (with_script x made w)) ≡ filled p.outer g (varying i) w
 put_filled x p g i y w h = elim (cases_Bool (nat_le g.bits.width 128)) [
   | inl t ↦ rw (t, h) refl
   | inr t ↦ rw t refl
 ]
 
-plain_filled : (x : Course) (p : Spot) (t : Target) (g : Goal) (f : Found) (w : Stand) → x.is_kept ≡ false → is_plain f ≡ true
+plain_filled : (x : WalkContext) (p : Spot) (t : Target) (g : Goal) (f : Found) (w : WalkState) → x.is_kept ≡ false → is_plain f ≡ true
     → assigned x p t (Some g) f w ≡ (kept_found p f >>= λ k. filled p.outer g k w)
 plain_filled x p t g (known z v) w h e = rw (h, e) refl
 plain_filled x p t g (bit y) w h e = put_filled x p g (unsigned_span 1) _ w h
 plain_filled x p t g (within i y) w h e = put_filled x p g i y w h
 plain_filled x p t g f w h e = absurd (cc)
 
-filled_counted : (x : Course) (p : Spot) (t : Target) (g : Goal) (f : Found) (w : Stand) (n : Count) (o : Result Kept RangeFault) → kept_found p f ≡ o
+filled_counted : (x : WalkContext) (p : Spot) (t : Target) (g : Goal) (f : Found) (w : WalkState) (n : Count) (o : Result KnownNumber RangeFault) → kept_found p f ≡ o
     → assigned x p t (Some g) f (at_count w n) ≡ (o >>= λ k. filled p.outer g k (at_count w n))
     → assigned x p t (Some g) f (at_count w n) ≡ (counted_kept n o >>= λ k. filled p.outer g k.0 (at_count w k.1))
 filled_counted x p t g f w n (Ok k) e q = q
 filled_counted x p t g f w n (Err d) e q = q
 
-filled_judged : (x : Course) (p : Spot) (t : Target) (g : Goal) (w : Stand) (r : Result (Found × Count) RangeFault) → x.is_kept ≡ false → AllPlain r
+filled_judged : (x : WalkContext) (p : Spot) (t : Target) (g : Goal) (w : WalkState) (r : Result (Found × Count) RangeFault) → x.is_kept ≡ false → AllPlain r
     → (r >>= λ f. assigned x p t (Some g) f.0 (at_count w f.1))
     ≡ (estimate_of p r >>= λ k. filled p.outer g k.0 (at_count w k.1))
 filled_judged x p t g w (Ok f) h all =
     filled_counted x p t g f.0 w f.1 (kept_found p f.0) refl (plain_filled x p t g f.0 (at_count w f.1) h (all f refl))
 filled_judged x p t g w (Err e) h all = refl
 
-pub filled_is : (x : Course) (t : Target) (g : Goal) (e : Expr) (w : Stand) → x.is_kept ≡ false → is_joined e ≡ true
+pub filled_is : (x : WalkContext) (t : Target) (g : Goal) (e : Expr) (w : WalkState) → x.is_kept ≡ false → is_joined e ≡ true
     → estimate_filled x g e w ≡ given_at x t (Some g) e w
 filled_is x t g e w h j =
     sym (filled_judged x (spot_of e) t g w (judged x w e) h (judged_plain x.sight w.numbers e w.count j))

@@ -14,7 +14,7 @@ use Rattle.vg_interval.specs.Views.{told}
 use Rattle.vg_range.specs.Acceptance.{checked, judged_from}
 use Rattle.vg_range.specs.Checks.{IsFirst}
 use Rattle.vg_range.specs.Immediates.{first_imm}
-use Rattle.vg_range.specs.Walk.{Stand, imm_constant, instance_at}
+use Rattle.vg_range.specs.Walk.{WalkState, imm_constant, instance_at}
 
 none_before : (imm other : Option ℕ) (ws : List ℕ) → imm_constant zero imm ws ≡ imm_constant zero other ws
 none_before imm other [] = refl
@@ -44,14 +44,14 @@ judged_done r imm step count h =
     let none : count - step ≡ 0 = omega (arith, h) in ap (judged_from r imm) none
 
 -- after the first immediate
-judged_next : (r : Resolved) (imm n : ℕ) (w : Stand) → 0 < n → instance_at false r (Some imm) ≡ Ok w
+judged_next : (r : Resolved) (imm n : ℕ) (w : WalkState) → 0 < n → instance_at false r (Some imm) ≡ Ok w
     → judged_from r (imm + 1) (n - 1) ≡ judged_from r imm n
 unfolding judged_from
 judged_next r imm zero w h e = absurd (omega (arith, h))
 judged_next r imm (suc n) w h e =
     let back : suc n - 1 ≡ n = omega arith in rw (back, e) refl
 
-pub judged_step : (r : Resolved) (lo step count : ℕ) (w : Stand) → step < count → instance_at false r (Some (lo + step)) ≡ Ok w
+pub judged_step : (r : Resolved) (lo step count : ℕ) (w : WalkState) → step < count → instance_at false r (Some (lo + step)) ≡ Ok w
     → judged_from r (lo + (step + 1)) (count - (step + 1)) ≡ judged_from r (lo + step) (count - step)
 judged_step r lo step count w h e =
     let imm : lo + (step + 1) ≡ lo + step + 1 = omega arith in

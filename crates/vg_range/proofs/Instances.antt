@@ -8,7 +8,7 @@ use Rattle.vg_interval.specs.declared.fault.RangeFault.{RangeFault}
 use Rattle.vg_interval.specs.Found.{Passed, computed, answered}
 use Rattle.vg_interval.specs.Found as found
 use Rattle.vg_interval.specs.Judge.{Walk, spot_of, no_walk}
-use Rattle.vg_range.specs.Walk.{Stand, judged, walk, constant_passed, constants_of, given_of, course_of, begun, called, walks_from, imm_constant, instance_at}
+use Rattle.vg_range.specs.Walk.{WalkState, judged, walk, constant_passed, constants_of, given_of, context_of, begun, called, walks_from, imm_constant, instance_at}
 use Rattle.vg_range.specs.Kept.{GoesAs, AcceptedAreWritten}
 use Rattle.vg_range.proofs.Bare.{seen, steps_same, bare, bare_passed, all_bare, answered-same, view}
 use Rattle.vg_range.proofs.Judged.{looks, counts, CallsSame, AllSame}
@@ -45,8 +45,8 @@ called-same : (k j : Bool) (us vs : List Walk) (f : Function) → AllSame us vs 
 called-same k j us vs f h s ps qs c e =
     let b = f.body in
     let ws = kept_widths b.widths in
-    let x = course_of k us b.widths (constants_of ws (take b.parameters ps)) in
-    let y = course_of j vs b.widths (constants_of ws (take b.parameters qs)) in
+    let x = context_of k us b.widths (constants_of ws (take b.parameters ps)) in
+    let y = context_of j vs b.widths (constants_of ws (take b.parameters qs)) in
     let alike : Alike x y = record { widths = refl; constants = constants-same ws b.parameters ps qs e; turns = refl; calls = h } in
     steps_same known_at view (walk x b.code (begun b c)) (walk y b.code (begun b c)) _ _ (walk-alike b.code x y alike (begun b c) (begun b c) refl) (λ w v p.
     steps_same view view (judged x w f.answer) (judged y v f.answer) _ _ (judged-alike x y alike w v p f.answer) (λ g i q.
@@ -78,20 +78,20 @@ functions-same k j (f ∷ fs) us vs h l =
 instance-same : (k j : Bool) (r : Resolved) (imm : Option ℕ) → seen known_at (instance_at k r imm) ≡ seen known_at (instance_at j r imm)
 instance-same k j r imm =
     let cs = imm_constant r.result imm r.body.widths in
-    let x = course_of k (walks_from k [] r.functions) r.body.widths cs in
-    let y = course_of j (walks_from j [] r.functions) r.body.widths cs in
+    let x = context_of k (walks_from k [] r.functions) r.body.widths cs in
+    let y = context_of j (walks_from j [] r.functions) r.body.widths cs in
     let start = begun r.body (record { steps = 0; is_dynamic = false }) in
     walk-alike r.body.code x y
     (record { widths = refl; constants = refl; turns = refl; calls = functions-same k j r.functions [] [] (λ n. none-same) refl }) start start refl
 
 -- results that look the same, by what the first is
-refused-too : (r q : Result Stand RangeFault) → seen known_at r ≡ seen known_at q → (e : RangeFault) → r ≡ Err e → q ≡ Err e
+refused-too : (r q : Result WalkState RangeFault) → seen known_at r ≡ seen known_at q → (e : RangeFault) → r ≡ Err e → q ≡ Err e
 refused-too (Ok w) q h e p = absurd (cc)
 refused-too (Err d) (Ok v) h e p = absurd (cc)
 refused-too (Err d) (Err c) h e p = cc
 
-accepted-too : (r q : Result Stand RangeFault) → seen known_at r ≡ seen known_at q → (w : Stand) → r ≡ Ok w
-    → (v : Stand) × (q ≡ Ok v) × (v.numbers ≡ w.numbers) × (v.count ≡ w.count)
+accepted-too : (r q : Result WalkState RangeFault) → seen known_at r ≡ seen known_at q → (w : WalkState) → r ≡ Ok w
+    → (v : WalkState) × (q ≡ Ok v) × (v.numbers ≡ w.numbers) × (v.count ≡ w.count)
 accepted-too (Err d) q h w p = absurd (cc)
 accepted-too (Ok u) (Err c) h w p = absurd (cc)
 accepted-too (Ok u) (Ok v) h w p =

@@ -7,7 +7,7 @@ use Rattle.vg_pseudo.specs.declared.spot.Spot.{Spot}
 use Rattle.vg_pseudo.specs.Resolved.{Expr, literal, counter, variable, slice, element, front, unary, binary, choice, call, Arguments, end, more}
 use Rattle.vg_interval.specs.declared.fault.RangeFault.{RangeFault}
 use Rattle.vg_interval.specs.Found.{Found, Operand, fixed, moving, plain, operand, Passed, passed}
-use Rattle.vg_interval.specs.Judge.{Kept, Count, step, Walk, index_of, unary_at, spot_of, no_walk, Judges, branch, chosen, judge, judge_all}
+use Rattle.vg_interval.specs.Judge.{KnownNumber, Count, step, Walk, index_of, unary_at, spot_of, no_walk, Judges, branch, chosen, judge, judge_all}
 use Rattle.vg_range.proofs.Bare.{seen, steps_same, bare, bare_operand, bare_index, bare_passed, all_bare, counted, operand-same, passed-same, index-same, plain-same, span-same, sight_of, view, slice-same, element-same, unary-same, binary-same}
 
 -- what is counted and looks the same
@@ -73,7 +73,7 @@ abbrev found_with : Found → Count → Result (Found × Count) RangeFault
 found_with f c = Ok (f, c)
 
 mutual
-  pub judge-same : (e : Expr) (ws : List ℕ) (cs : List (Option ℕ)) (ts : List ℤ) (us vs : List Walk) → AllSame us vs → (ks : List Kept) (c : Count)
+  pub judge-same : (e : Expr) (ws : List ℕ) (cs : List (Option ℕ)) (ts : List ℤ) (us vs : List Walk) → AllSame us vs → (ks : List KnownNumber) (c : Count)
       → seen view (judge (sight_of ws cs ts us) ks e c) ≡ seen view (judge (sight_of ws cs ts vs) ks e c)
   judge-same (literal p n) ws cs ts us vs h ks c = refl
   judge-same (counter p k) ws cs ts us vs h ks c = refl
@@ -121,7 +121,7 @@ mutual
       rw e (steps_same view_passed view (judge_all s ks xs n) (judge_all t ks xs n) _ _ (all-judged xs ws cs ts us vs h ks n) (λ a b q.
       rw (counts all_bare a b q) (h k p a.0 b.0 b.1 (looks all_bare a b q)))))
 
-  pub all-judged : (xs : Arguments) (ws : List ℕ) (cs : List (Option ℕ)) (ts : List ℤ) (us vs : List Walk) → AllSame us vs → (ks : List Kept) (c : Count)
+  pub all-judged : (xs : Arguments) (ws : List ℕ) (cs : List (Option ℕ)) (ts : List ℤ) (us vs : List Walk) → AllSame us vs → (ks : List KnownNumber) (c : Count)
       → seen view_passed (judge_all (sight_of ws cs ts us) ks xs c) ≡ seen view_passed (judge_all (sight_of ws cs ts vs) ks xs c)
   all-judged end ws cs ts us vs h ks c = refl
   all-judged (more x xs) ws cs ts us vs h ks c =

@@ -8,7 +8,7 @@ use Rattle.std.specs.Prelude.{Bool, Option, Some, None}
 use Rattle.vg_text.specs.declared.place.Place.{Place}
 use Rattle.vg_interval.specs.Judge.{constant, Sight, Count, Index, settled, unsettled, slice_at, element_at}
 use Rattle.vg_interval.specs.Views.{seen, kept_view}
-use Rattle.vg_interval.specs.declared.judged.Kept.TheVariants as in_memory
+use Rattle.vg_interval.specs.declared.judged.KnownNumber.TheVariants as in_memory
 use Rattle.vg_range.specs.Walk.{zeros}
 
 pub get_or_map : {A B : Type 0} (f : A → B) (xs : List A) (k : ℕ) (d : A)

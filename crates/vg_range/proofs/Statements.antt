@@ -17,8 +17,8 @@ use Rattle.vg_script.specs.Cells.{Cells, word_value, after, after_arm}
 use Rattle.vg_script.specs.Formed.{Formed, ScriptFormed}
 use Rattle.vg_interval.specs.declared.fault.RangeFault.{RangeFault}
 use Rattle.vg_interval.specs.Found.{Found, Operand, fixed, moving, operand, condition}
-use Rattle.vg_interval.specs.Judge.{Kept, Count, step, Sight, spot_of, judge}
-use Rattle.vg_range.specs.Walk.{Stand, at_count, Course, with_script, judged, constant_at, assign_at, join, in_turn, turns_at, Ways, no_ways, joined_with, with_way, is_empty, in_front, does_nothing, branch_of, closed, beginning, Arms, arms_in_front, arms_do_nothing, pick_of, with_arm, arms_of, way_taken, walk, walk_ways, arm_taken, all_arms}
+use Rattle.vg_interval.specs.Judge.{KnownNumber, Count, step, Sight, spot_of, judge}
+use Rattle.vg_range.specs.Walk.{WalkState, at_count, WalkContext, with_script, judged, constant_at, assign_at, join, in_turn, turns_at, Ways, no_ways, joined_with, with_way, is_empty, in_front, does_nothing, branch_of, closed, beginning, Arms, arms_in_front, arms_do_nothing, pick_of, with_arm, arms_of, way_taken, walk, walk_ways, arm_taken, all_arms}
 use Rattle.vg_interval.proofs.Intervals.{Fits}
 use Rattle.vg_interval.proofs.Words.{Tells, same-residue, small_residue}
 use Rattle.vg_interval.proofs.Covers.{cells, Covers, Holds, operand-ok, holds-fits, condition-tells}
@@ -85,22 +85,22 @@ branch-formed vs (w ∷ ws) t h p = elim (cases_Bool (does_nothing (w ∷ ws) t)
 ]
 
 -- what is known with other facts on number variables
-with_numbers : (s : Sight) (ks js : List Kept) (v : _) → Knows s ks v → AllKeep js v.state.numbers → Knows s js v
+with_numbers : (s : Sight) (ks js : List KnownNumber) (v : _) → Knows s ks v → AllKeep js v.state.numbers → Knows s js v
 with_numbers s ks js v h p = record { cells = h.cells; small = h.small; numbers = p; constants = h.constants; turns = h.turns; calls = h.calls }
 
 -- numbers that some way may leave
-abbrev JoinedSome : Option (List Kept) → ℕ → Type 0
+abbrev JoinedSome : Option (List KnownNumber) → ℕ → Type 0
 JoinedSome None n = Unit {0}
 JoinedSome (Some js) n = (zs : List ℤ) × AllKeep js zs × (length zs ≡ n)
 
 -- the ways found so far of an IF that begins in this state: none is taken, or one is that leads to another state
-abbrev Going : Course → Functions → State → Ways → Option State → Type 0
+abbrev Going : WalkContext → Functions → State → Ways → Option State → Type 0
 Going x fs s found None = AllOff found.scripts (cells s)
 Going x fs s found (Some t) =
     Taken found.scripts (cells s) (cells t)
-    × ((js : List Kept) × (found.joined ≡ Some js) × Knows x.sight js (seen fs x.sight.turns t)) × (length t.numbers ≡ length s.numbers)
+    × ((js : List KnownNumber) × (found.joined ≡ Some js) × Knows x.sight js (seen fs x.sight.turns t)) × (length t.numbers ≡ length s.numbers)
 
-record Gone (x : Course) (fs : Functions) (s : State) (found : Ways) (o : Option State) : Type 0 where
+record Gone (x : WalkContext) (fs : Functions) (s : State) (found : Ways) (o : Option State) : Type 0 where
   pub formed : WaysFormed (kept_widths x.sight.widths) found.scripts
   pub joined : JoinedSome found.joined (length s.numbers)
   pub going : Going x fs s found o
@@ -110,17 +110,17 @@ left_by None s = s
 left_by (Some t) s = t
 
 -- where an IF or a CASE begins, a script of its own begins too
-begins : (x : Course) (fs : Functions) (c : Cells) (w : Stand) (s : State) (n : Count) → Together x fs c w s → Together x fs (cells s) (beginning w n) s
+begins : (x : WalkContext) (fs : Functions) (c : Cells) (w : WalkState) (s : State) (n : Count) → Together x fs c w s → Together x fs (cells s) (beginning w n) s
 begins x fs c w s n h = record { knows = h.knows; same = refl; formed = tt }
 
-joined-new : (o : Option (List Kept)) (n : ℕ) (ks : List Kept) (zs : List ℤ) → JoinedSome o n → AllKeep ks zs → length zs ≡ n → AllKeep (joined_with o ks) zs
+joined-new : (o : Option (List KnownNumber)) (n : ℕ) (ks : List KnownNumber) (zs : List ℤ) → JoinedSome o n → AllKeep ks zs → length zs ≡ n → AllKeep (joined_with o ks) zs
 joined-new None n ks zs j p e = p
 joined-new (Some js) n ks zs j p e = join-right js ks j.0 zs (j.2 ∙ sym e) j.1 p
 
-joined-old : (js ks : List Kept) (ys zs : List ℤ) (o : Option (List Kept)) → o ≡ Some js → AllKeep js ys → AllKeep ks zs → length ys ≡ length zs → AllKeep (joined_with o ks) ys
+joined-old : (js ks : List KnownNumber) (ys zs : List ℤ) (o : Option (List KnownNumber)) → o ≡ Some js → AllKeep js ys → AllKeep ks zs → length ys ≡ length zs → AllKeep (joined_with o ks) ys
 joined-old js ks ys zs o e p q l = rw e (join-left js ks ys zs l p q)
 
-closes : (x : Course) (fs : Functions) (c : Cells) (w v : Stand) (s t : State) (found : Ways) (o : Option State) → x.is_kept ≡ true → Together x fs c w s
+closes : (x : WalkContext) (fs : Functions) (c : Cells) (w v : WalkState) (s t : State) (found : Ways) (o : Option State) → x.is_kept ≡ true → Together x fs c w s
     → Gone x fs s found o → Together x fs (cells s) v t → length t.numbers ≡ length s.numbers → Together x fs c (closed x w found v) (left_by o t)
 closes x fs c w v s t found None kept h g k e =
     scripted x fs c (at_count w v.count) (joined_with found.joined v.numbers) s t (branch_of found.scripts v.script) kept (counted x fs c w s v.count h)
@@ -141,17 +141,17 @@ abbrev next_left : Option State → Bool → State → Option State
 next_left None v t = if v then Some t else None
 next_left (Some u) v t = Some u
 
-abbrev more_ways : Word → Stand → Ways → Ways
+abbrev more_ways : Word → WalkState → Ways → Ways
 more_ways y u found = record { scripts = (y, u.script) ∷ found.scripts; joined = Some (joined_with found.joined u.numbers) }
 
-kept-way : (x : Course) (y : Word) (u : Stand) (found : Ways) → x.is_kept ≡ true → with_way x y u found ≡ more_ways y u found
+kept-way : (x : WalkContext) (y : Word) (u : WalkState) (found : Ways) → x.is_kept ≡ true → with_way x y u found ≡ more_ways y u found
 kept-way x y u found e = rw e refl
 
 told_one : (b : Bool) (n : ℕ) → n ≡ (if b then 1 else 0) → nat_eq n 1 ≡ b
 told_one true n e = rw e refl
 told_one false n e = rw e refl
 
-gone-more : (x : Course) (fs : Functions) (s t : State) (y : Word) (u : Stand) (found : Ways) (o : Option State) (v : Bool) → Gone x fs s found o
+gone-more : (x : WalkContext) (fs : Functions) (s t : State) (y : Word) (u : WalkState) (found : Ways) (o : Option State) (v : Bool) → Gone x fs s found o
     → Tells x.sight.widths (cells s) y v → Together x fs (cells s) u t → length t.numbers ≡ length s.numbers
     → Gone x fs s (more_ways y u found) (next_left o v t)
 gone-more x fs s t y u found o v g tells k e = record {
@@ -211,22 +211,22 @@ arms_in_front-formed : (vs : List ℕ) (ws : List (ℕ × Script)) (t : Script) 
 arms_in_front-formed vs [] t h p = p
 arms_in_front-formed vs (a ∷ ws) t h p = arms_in_front-formed vs ws (script.arm a.0 a.1 t) h.1 (h.0, p)
 
-abbrev Chosen : Course → Functions → State → Arms → ℕ → Option State → Type 0
+abbrev Chosen : WalkContext → Functions → State → Arms → ℕ → Option State → Type 0
 Chosen x fs s found v None = AllOther found.scripts v
 Chosen x fs s found v (Some t) = Matched found.scripts v (cells s) (cells t) × Knows x.sight found.joined (seen fs x.sight.turns t) × (length t.numbers ≡ length s.numbers)
 
-record Armed (x : Course) (fs : Functions) (s : State) (found : Arms) (v : ℕ) (o : Option State) : Type 0 where
+record Armed (x : WalkContext) (fs : Functions) (s : State) (found : Arms) (v : ℕ) (o : Option State) : Type 0 where
   pub formed : ArmsFormed (kept_widths x.sight.widths) found.scripts
   pub base : AllKeep found.joined s.numbers
   pub chosen : Chosen x fs s found v o
 
-abbrev more_arms : ℕ → Stand → Arms → Arms
+abbrev more_arms : ℕ → WalkState → Arms → Arms
 more_arms n u found = record { scripts = (n, u.script) ∷ found.scripts; joined = join found.joined u.numbers }
 
-kept-arm : (x : Course) (n : ℕ) (u : Stand) (found : Arms) → x.is_kept ≡ true → with_arm x n u found ≡ more_arms n u found
+kept-arm : (x : WalkContext) (n : ℕ) (u : WalkState) (found : Arms) → x.is_kept ≡ true → with_arm x n u found ≡ more_arms n u found
 kept-arm x n u found e = rw e refl
 
-armed-more : (x : Course) (fs : Functions) (s t : State) (n : ℕ) (u : Stand) (found : Arms) (v : ℕ) (o : Option State) → Armed x fs s found v o
+armed-more : (x : WalkContext) (fs : Functions) (s t : State) (n : ℕ) (u : WalkState) (found : Arms) (v : ℕ) (o : Option State) → Armed x fs s found v o
     → Together x fs (cells s) u t → length t.numbers ≡ length s.numbers → Armed x fs s (more_arms n u found) v (next_left o (nat_eq v n) t)
 armed-more x fs s t n u found v o g k e = record {
   formed = (k.formed, g.formed);
@@ -252,7 +252,7 @@ left-arm None true t r = refl
 left-arm None false t r = refl
 left-arm (Some u) b t r = refl
 
-picks : (x : Course) (fs : Functions) (c : Cells) (w : Stand) (s : State) (y : Word) (found : Arms) (n : Count) (o : Option State) → x.is_kept ≡ true
+picks : (x : WalkContext) (fs : Functions) (c : Cells) (w : WalkState) (s : State) (y : Word) (found : Arms) (n : Count) (o : Option State) → x.is_kept ≡ true
     → Together x fs c w s → (width_of y ≡ 128) × Formed y
     → Armed x fs s found (word_value (cells s) y) o
     → Together x fs c (with_script x (pick_of y found.scripts) (record { numbers = found.joined; count = n; script = w.script })) (left_by o s)
@@ -298,29 +298,29 @@ same_picked e = cc
 if_zero : (z : ℤ) (b : Bool) (r t : State) → int_eq z (pos 0) ≡ b → (if b then r else t) ≡ (if int_eq z (pos 0) then r else t)
 if_zero z b r t e = ap (λ v. if v then r else t) (sym e)
 
-no-more : (x : Course) (fs : Functions) → x.is_kept ≡ true → (c : Cells) (w v : Stand) (s : State) (found : Ways) (o : Option State) (n : Count)
+no-more : (x : WalkContext) (fs : Functions) → x.is_kept ≡ true → (c : Cells) (w v : WalkState) (s : State) (found : Ways) (o : Option State) (n : Count)
     → Together x fs c w s → Gone x fs s found o → ok_stand (closed x w found (beginning w n)) ≡ Ok v → Together x fs c v (left_by o s)
 no-more x fs kept c w v s found o n h g e =
     subst (λ y. Together x fs c y (left_by o s)) (same_stand e) (closes x fs c w (beginning w n) s s found o kept h g (begins x fs c w s n h) refl)
 
 -- What is to be shown of statements: that a walk goes with their run, also as the ways of an IF and as the arms of a CASE.
 record Sound (d : Code) : Type 0 where
-  pub walks : (x : Course) (fs : Functions) → x.is_kept ≡ true → Spares x.sight.constants d → GoesWith x fs (walk x d) (run fs x.sight.turns d)
-  pub ways : (x : Course) (fs : Functions) → x.is_kept ≡ true → Spares x.sight.constants d
-      → (c : Cells) (w v : Stand) (s : State) (found : Ways) (o : Option State) (n : Count) → Together x fs c w s → Gone x fs s found o
+  pub walks : (x : WalkContext) (fs : Functions) → x.is_kept ≡ true → Spares x.sight.constants d → GoesWith x fs (walk x d) (run fs x.sight.turns d)
+  pub ways : (x : WalkContext) (fs : Functions) → x.is_kept ≡ true → Spares x.sight.constants d
+      → (c : Cells) (w v : WalkState) (s : State) (found : Ways) (o : Option State) (n : Count) → Together x fs c w s → Gone x fs s found o
       → walk_ways x d w found n ≡ Ok v → Together x fs c v (left_by o (run_ways fs x.sight.turns d s))
-  pub one_arm : (x : Course) (fs : Functions) → x.is_kept ≡ true → Spares x.sight.constants d
-      → (c : Cells) (w v : Stand) (s : State) (z : ℤ) → Together x fs c w s → arm_taken x d w z ≡ Ok v → Together x fs c v (run_arm fs x.sight.turns z d s)
-  pub arms : (x : Course) (fs : Functions) → x.is_kept ≡ true → Spares x.sight.constants d
-      → (c : Cells) (w : Stand) (s : State) (found : Arms) (o : Option State) (n : Count) (z : ℤ) (r : Arms × Count) → Fits z → Together x fs c w s
+  pub one_arm : (x : WalkContext) (fs : Functions) → x.is_kept ≡ true → Spares x.sight.constants d
+      → (c : Cells) (w v : WalkState) (s : State) (z : ℤ) → Together x fs c w s → arm_taken x d w z ≡ Ok v → Together x fs c v (run_arm fs x.sight.turns z d s)
+  pub arms : (x : WalkContext) (fs : Functions) → x.is_kept ≡ true → Spares x.sight.constants d
+      → (c : Cells) (w : WalkState) (s : State) (found : Arms) (o : Option State) (n : Count) (z : ℤ) (r : Arms × Count) → Fits z → Together x fs c w s
       → Armed x fs s found (residue 128 z) o → all_arms x d w found n ≡ Ok r
       → (p : Option State) × Armed x fs s r.0 (residue 128 z) p × (left_by p s ≡ left_by o (run_arm fs x.sight.turns z d s))
 
 -- what is no way and no arm
-stays : (x : Course) (fs : Functions) (c : Cells) (w v : Stand) (s : State) → Together x fs c w s → ok_stand w ≡ Ok v → Together x fs c v s
+stays : (x : WalkContext) (fs : Functions) (c : Cells) (w v : WalkState) (s : State) → Together x fs c w s → ok_stand w ≡ Ok v → Together x fs c v s
 stays x fs c w v s h e = subst (λ y. Together x fs c y s) (same_stand e) h
 
-no-arms : (x : Course) (fs : Functions) (s : State) (found : Arms) (o : Option State) (n : Count) (v : ℕ) (r : Arms × Count) → Armed x fs s found v o
+no-arms : (x : WalkContext) (fs : Functions) (s : State) (found : Arms) (o : Option State) (n : Count) (v : ℕ) (r : Arms × Count) → Armed x fs s found v o
     → picked_ok (found, n) ≡ Ok r → (p : Option State) × Armed x fs s r.0 v p × (left_by p s ≡ left_by o s)
 no-arms x fs s found o n v r g e = (o, subst (λ a. Armed x fs s a.0 v o) (same_picked e) g, refl)
 
@@ -332,7 +332,7 @@ stop-sound = record {
   arms = λ x fs kept spares c w s found o n z r fits h g e. no-arms x fs s found o n (residue 128 z) r g e;
 }
 
-assign-walks : (p : Place) (t : Target) (a : Expr) (rest : Code) → Sound rest → (x : Course) (fs : Functions) → x.is_kept ≡ true
+assign-walks : (p : Place) (t : Target) (a : Expr) (rest : Code) → Sound rest → (x : WalkContext) (fs : Functions) → x.is_kept ≡ true
     → Spares x.sight.constants (assign p t a rest) → GoesWith x fs (walk x (assign p t a rest)) (run fs x.sight.turns (assign p t a rest))
 assign-walks p t a rest q x fs kept spares c w v s h e =
     let u = bind_ok (assign_at x p t a w) _ e in
@@ -347,7 +347,7 @@ assign-sound p t a rest q = record {
   arms = λ x fs kept spares c w s found o n z r fits h g e. no-arms x fs s found o n (residue 128 z) r g e;
 }
 
-skip-walks : (p : Place) (rest : Code) → Sound rest → (x : Course) (fs : Functions) → x.is_kept ≡ true
+skip-walks : (p : Place) (rest : Code) → Sound rest → (x : WalkContext) (fs : Functions) → x.is_kept ≡ true
     → Spares x.sight.constants (skip p rest) → GoesWith x fs (walk x (skip p rest)) (run fs x.sight.turns (skip p rest))
 skip-walks p rest q x fs kept spares c w v s h e =
     let n = bind_ok (step p w.count) _ e in
@@ -361,7 +361,7 @@ skip-sound p rest q = record {
   arms = λ x fs kept spares c w s found o n z r fits h g e. no-arms x fs s found o n (residue 128 z) r g e;
 }
 
-repeat-walks : (p : Place) (a b : Expr) (body rest : Code) → Sound body → Sound rest → (x : Course) (fs : Functions) → x.is_kept ≡ true
+repeat-walks : (p : Place) (a b : Expr) (body rest : Code) → Sound body → Sound rest → (x : WalkContext) (fs : Functions) → x.is_kept ≡ true
     → Spares x.sight.constants (repeat p a b body rest) → GoesWith x fs (walk x (repeat p a b body rest)) (run fs x.sight.turns (repeat p a b body rest))
 repeat-walks p a b body rest i q x fs kept spares c w v s h e =
     let first = bind_ok (constant_at x w a) _ e in
@@ -381,7 +381,7 @@ repeat-sound p a b body rest i q = record {
   arms = λ x fs kept spares c w s found o n z r fits h g e. no-arms x fs s found o n (residue 128 z) r g e;
 }
 
-choose-walks : (inner rest : Code) → Sound inner → Sound rest → (x : Course) (fs : Functions) → x.is_kept ≡ true
+choose-walks : (inner rest : Code) → Sound inner → Sound rest → (x : WalkContext) (fs : Functions) → x.is_kept ≡ true
     → Spares x.sight.constants (choose inner rest) → GoesWith x fs (walk x (choose inner rest)) (run fs x.sight.turns (choose inner rest))
 choose-walks inner rest i q x fs kept spares c w v s h e =
     let u = bind_ok (walk_ways x inner w no_ways w.count) _ e in
@@ -397,8 +397,8 @@ choose-sound inner rest i q = record {
 }
 
 -- a way by what is found of its condition
-way-sound : (a : Expr) (body more : Code) → Sound body → Sound more → (x : Course) (fs : Functions) → x.is_kept ≡ true → Spares x.sight.constants (way a body more)
-    → (c : Cells) (w v : Stand) (s : State) (found : Ways) (o : Option State) (f : Found) (n : Count) (q : Operand) → Together x fs c w s → Gone x fs s found o
+way-sound : (a : Expr) (body more : Code) → Sound body → Sound more → (x : WalkContext) (fs : Functions) → x.is_kept ≡ true → Spares x.sight.constants (way a body more)
+    → (c : Cells) (w v : WalkState) (s : State) (found : Ways) (o : Option State) (f : Found) (n : Count) (q : Operand) → Together x fs c w s → Gone x fs s found o
     → Covers x.sight.widths (cells s) f (value (seen fs x.sight.turns s) a) (bits_in (seen fs x.sight.turns s) a)
     → Holds x.sight.widths (cells s) q (value (seen fs x.sight.turns s) a)
     → way_taken q (walk x body (beginning w n)) (λ u. walk_ways x more w (with_way x (condition f q) u found) u.count) (walk_ways x more w found n) (closed x w found) ≡ Ok v
@@ -427,8 +427,8 @@ way-sound a body more i j x fs kept spares c w v s found o f n (moving m y) h g 
     let r = j.ways x fs kept spares.1 c w v s (more_ways (condition f (moving m y)) u.0 found) (next_left o (not (int_eq z (pos 0))) t) u.0.count h g' e' in
     subst (Together x fs c v) (left-next o (int_eq z (pos 0)) t (run_ways fs x.sight.turns more s)) r
 
-way-ways : (a : Expr) (body more : Code) → Sound body → Sound more → (x : Course) (fs : Functions) → x.is_kept ≡ true → Spares x.sight.constants (way a body more)
-    → (c : Cells) (w v : Stand) (s : State) (found : Ways) (o : Option State) (n : Count) → Together x fs c w s → Gone x fs s found o
+way-ways : (a : Expr) (body more : Code) → Sound body → Sound more → (x : WalkContext) (fs : Functions) → x.is_kept ≡ true → Spares x.sight.constants (way a body more)
+    → (c : Cells) (w v : WalkState) (s : State) (found : Ways) (o : Option State) (n : Count) → Together x fs c w s → Gone x fs s found o
     → walk_ways x (way a body more) w found n ≡ Ok v → Together x fs c v (left_by o (run_ways fs x.sight.turns (way a body more) s))
 way-ways a body more i j x fs kept spares c w v s found o n h g e =
     let sight = seen fs x.sight.turns s in
@@ -446,8 +446,8 @@ ways-sound a body more i j = record {
   arms = λ x fs kept spares c w s found o n z r fits h g e. no-arms x fs s found o n (residue 128 z) r g e;
 }
 
-last-ways : (body : Code) → Sound body → (x : Course) (fs : Functions) → x.is_kept ≡ true → Spares x.sight.constants (last body)
-    → (c : Cells) (w v : Stand) (s : State) (found : Ways) (o : Option State) (n : Count) → Together x fs c w s → Gone x fs s found o
+last-ways : (body : Code) → Sound body → (x : WalkContext) (fs : Functions) → x.is_kept ≡ true → Spares x.sight.constants (last body)
+    → (c : Cells) (w v : WalkState) (s : State) (found : Ways) (o : Option State) (n : Count) → Together x fs c w s → Gone x fs s found o
     → walk_ways x (last body) w found n ≡ Ok v → Together x fs c v (left_by o (run_ways fs x.sight.turns (last body) s))
 last-ways body i x fs kept spares c w v s found o n h g e =
     let u = bind_ok (walk x body (beginning w n)) _ e in
@@ -464,8 +464,8 @@ last-sound body i = record {
 }
 
 -- a CASE by what is found of its selector
-case-sound : (d : Code) → Sound d → (x : Course) (fs : Functions) → x.is_kept ≡ true → Spares x.sight.constants d
-    → (c : Cells) (w v : Stand) (s : State) (z : ℤ) (q : Operand) → Together x fs c w s → Holds x.sight.widths (cells s) q z
+case-sound : (d : Code) → Sound d → (x : WalkContext) (fs : Functions) → x.is_kept ≡ true → Spares x.sight.constants d
+    → (c : Cells) (w v : WalkState) (s : State) (z : ℤ) (q : Operand) → Together x fs c w s → Holds x.sight.widths (cells s) q z
     → arms_of x w q (arm_taken x d) (all_arms x d) ≡ Ok v → Together x fs c v (run_arm fs x.sight.turns z d s)
 case-sound d i x fs kept spares c w v s z (fixed y) h holds e = rw holds.0 (i.one_arm x fs kept spares c w v s y h e)
 case-sound d i x fs kept spares c w v s z (moving m y) h holds e =
@@ -480,7 +480,7 @@ case-sound d i x fs kept spares c w v s z (moving m y) h holds e =
     (subst (λ b. Together x fs c b (left_by r.0 s)) (same_stand found.2)
     (picks x fs c w s y found.0.0 found.0.1 r.0 kept h (st.wide, st.formed) g))
 
-pick-walks : (a : Expr) (inner rest : Code) → Sound inner → Sound rest → (x : Course) (fs : Functions) → x.is_kept ≡ true
+pick-walks : (a : Expr) (inner rest : Code) → Sound inner → Sound rest → (x : WalkContext) (fs : Functions) → x.is_kept ≡ true
     → Spares x.sight.constants (pick a inner rest) → GoesWith x fs (walk x (pick a inner rest)) (run fs x.sight.turns (pick a inner rest))
 pick-walks a inner rest i q x fs kept spares c w v s h e =
     let sight = seen fs x.sight.turns s in
@@ -500,16 +500,16 @@ pick-sound a inner rest i q = record {
   arms = λ x fs kept spares c w s found o n z r fits h g e. no-arms x fs s found o n (residue 128 z) r g e;
 }
 
-arm-one : (n : ℕ) (body more : Code) → Sound body → Sound more → (x : Course) (fs : Functions) → x.is_kept ≡ true → Spares x.sight.constants (arm n body more)
-    → (c : Cells) (w v : Stand) (s : State) (z : ℤ) → Together x fs c w s → arm_taken x (arm n body more) w z ≡ Ok v
+arm-one : (n : ℕ) (body more : Code) → Sound body → Sound more → (x : WalkContext) (fs : Functions) → x.is_kept ≡ true → Spares x.sight.constants (arm n body more)
+    → (c : Cells) (w v : WalkState) (s : State) (z : ℤ) → Together x fs c w s → arm_taken x (arm n body more) w z ≡ Ok v
     → Together x fs c v (run_arm fs x.sight.turns z (arm n body more) s)
 arm-one n body more i j x fs kept spares c w v s z h e = elim (cases_Bool (int_eq z (pos n))) [
   | inl t ↦ rw t (i.walks x fs kept spares.1 c w v s h (subst (λ b. (if b then walk x body w else arm_taken x more w z) ≡ Ok v) t e))
   | inr t ↦ rw t (j.one_arm x fs kept spares.2 c w v s z h (subst (λ b. (if b then walk x body w else arm_taken x more w z) ≡ Ok v) t e))
 ]
 
-arm-all : (m : ℕ) (body more : Code) → Sound body → Sound more → (x : Course) (fs : Functions) → x.is_kept ≡ true → Spares x.sight.constants (arm m body more)
-    → (c : Cells) (w : Stand) (s : State) (found : Arms) (o : Option State) (n : Count) (z : ℤ) (r : Arms × Count) → Fits z → Together x fs c w s
+arm-all : (m : ℕ) (body more : Code) → Sound body → Sound more → (x : WalkContext) (fs : Functions) → x.is_kept ≡ true → Spares x.sight.constants (arm m body more)
+    → (c : Cells) (w : WalkState) (s : State) (found : Arms) (o : Option State) (n : Count) (z : ℤ) (r : Arms × Count) → Fits z → Together x fs c w s
     → Armed x fs s found (residue 128 z) o → all_arms x (arm m body more) w found n ≡ Ok r
     → (p : Option State) × Armed x fs s r.0 (residue 128 z) p × (left_by p s ≡ left_by o (run_arm fs x.sight.turns z (arm m body more) s))
 arm-all m body more i j x fs kept spares c w s found o n z r fits h g e =
@@ -544,5 +544,5 @@ sound (last body) = last-sound body (sound body)
 sound (pick a inner rest) = pick-sound a inner rest (sound inner) (sound rest)
 sound (arm n body more) = arm-sound n body more (sound body) (sound more)
 
-pub walk-sound : (d : Code) (x : Course) (fs : Functions) → x.is_kept ≡ true → Spares x.sight.constants d → GoesWith x fs (walk x d) (run fs x.sight.turns d)
+pub walk-sound : (d : Code) (x : WalkContext) (fs : Functions) → x.is_kept ≡ true → Spares x.sight.constants d → GoesWith x fs (walk x d) (run fs x.sight.turns d)
 walk-sound d = (sound d).walks

@@ -9,7 +9,7 @@ use Rattle.vg_pseudo.specs.Value.{count}
 use Rattle.vg_interval.specs.declared.fault.RangeFault.{RangeFault}
 use Rattle.vg_interval.specs.Found.{operand}
 use Rattle.vg_interval.specs.Judge.{step, spot_of}
-use Rattle.vg_range.specs.Walk.{Course, Stand, at_count, walk, constant_at, turns_at, in_turn, judged, arms_of, arm_taken, all_arms}
+use Rattle.vg_range.specs.Walk.{WalkContext, WalkState, at_count, walk, constant_at, turns_at, in_turn, judged, arms_of, arm_taken, all_arms}
 use Rattle.vg_range.specs.Seen.{first_of, rest_code}
 
 pub again : {A B C : Type 0} (r : Result A RangeFault) (f : A → Result B RangeFault) (g : B → Result C RangeFault)
@@ -22,10 +22,10 @@ alike (Ok x) f g h = h x
 alike (Err e) f g h = refl
 
 -- the first statement, and then those after it
-abbrev pub stepped : Course → Code → Stand → Result Stand RangeFault
+abbrev pub stepped : WalkContext → Code → WalkState → Result WalkState RangeFault
 stepped x c w = option_map_or (λ r. first_of x c w >>= λ v. walk x r v) (rest_code c) (Ok w)
 
-walk_is : (x : Course) (c : Code) (w : Stand) → stepped x c w ≡ walk x c w
+walk_is : (x : WalkContext) (c : Code) (w : WalkState) → stepped x c w ≡ walk x c w
 walk_is x stop w = refl
 walk_is x (assign place t e rest) w = refl
 walk_is x (skip place rest) w = again (step place w.count) _ (walk x rest)
@@ -41,18 +41,18 @@ walk_is x (last body) w = refl
 walk_is x (arm n body arms) w = refl
 
 -- where there is no statement
-pub walk_ends : (x : Course) (c : Code) (w : Stand) → rest_code c ≡ None → walk x c w ≡ Ok w
+pub walk_ends : (x : WalkContext) (c : Code) (w : WalkState) → rest_code c ≡ None → walk x c w ≡ Ok w
 walk_ends x c w e = sym (walk_is x c w) ∙ ap (λ o. option_map_or (λ r. first_of x c w >>= λ v. walk x r v) o (Ok w)) e
 
 -- after the first statement
-pub walk_next : (x : Course) (c r : Code) (w v : Stand) → rest_code c ≡ Some r → first_of x c w ≡ Ok v → walk x r v ≡ walk x c w
+pub walk_next : (x : WalkContext) (c r : Code) (w v : WalkState) → rest_code c ≡ Some r → first_of x c w ≡ Ok v → walk x r v ≡ walk x c w
 walk_next x c r w v e h =
     sym (ap (λ o. o >>= λ u. walk x r u) h)
     ∙ sym (ap (λ o. option_map_or (λ q. first_of x c w >>= λ u. walk x q u) o (Ok w)) e)
     ∙ walk_is x c w
 
 -- the first statement has a fault
-pub walk_fails : (x : Course) (c r : Code) (w : Stand) (fault : Option RangeFault) → rest_code c ≡ Some r
+pub walk_fails : (x : WalkContext) (c r : Code) (w : WalkState) (fault : Option RangeFault) → rest_code c ≡ Some r
     → FailsBy fault (first_of x c w) → FailsBy fault (walk x c w)
 walk_fails x c r w fault e h =
     rw (sym (walk_is x c w), e) (fails_bind fault (first_of x c w) (walk x r) h)

@@ -9,8 +9,8 @@ use Rattle.vg_pseudo.specs.Resolved.{Code}
 use Rattle.vg_pseudo.specs.Value.{count}
 use Rattle.vg_pseudo.specs.Whole.{natural, negative}
 use Rattle.vg_interval.specs.Judge.{step}
-use Rattle.vg_range.specs.Met.{first_turn, how_many, turn_at, turns_left, turns_through}
-use Rattle.vg_range.specs.Walk.{Course, Stand, at_count, in_turn, turns_at, walk}
+use Rattle.vg_range.specs.Steps.{first_turn, how_many, turn_at, turns_left, turns_through}
+use Rattle.vg_range.specs.Walk.{WalkContext, WalkState, at_count, in_turn, turns_at, walk}
 use Rattle.vg_range.proofs.Stepping.{again}
 use borrow.Author.Differences.{up, down}
 
@@ -34,7 +34,7 @@ count_next z l n e = omega (arith, ints, e, count_is z l, count_is (z +ℤ pos 1
 more_than_none : {A : Type 0} (n : ℕ) (a b : A) → 0 < n → (if nat_lt 0 n then a else b) ≡ a
 more_than_none n a b h = ap (λ c. if c then a else b) (lt-ltb 0 n h)
 
-turns_by : (x : Course) (place : Place) (body : Code) (z l : ℤ) (w : Stand) (n : ℕ) → count z l ≡ n
+turns_by : (x : WalkContext) (place : Place) (body : Code) (z l : ℤ) (w : WalkState) (n : ℕ) → count z l ≡ n
     → turns_left x place body l (if nat_lt 0 n then Some z else None) w ≡ turns_at (λ y u. walk (in_turn x y) body u) place z n w
 turns_by x place body z l w zero e = refl
 turns_by x place body z l w (suc n) e =
@@ -43,12 +43,12 @@ turns_by x place body z l w (suc n) e =
     ∙ ap (λ k. step place w.count >>= λ c. walk (in_turn x z) body (at_count w c) >>= λ v. turns_at (λ y u. walk (in_turn x y) body u) place (z +ℤ pos 1) k v) (count_next z l n e)
 
 -- the turns from here to the last, by the first of them
-pub turns_are : (x : Course) (place : Place) (body : Code) (z l : ℤ) (w : Stand)
+pub turns_are : (x : WalkContext) (place : Place) (body : Code) (z l : ℤ) (w : WalkState)
     → turns_left x place body l (first_turn z l) w ≡ turns_through x place body z l w
 turns_are x place body z l w = turns_by x place body z l w (count z l) refl
 
 -- one turn more
-pub turns_next : (x : Course) (place : Place) (body : Code) (z l : ℤ) (w v : Stand) → turn_at x place body z w ≡ Ok v
+pub turns_next : (x : WalkContext) (place : Place) (body : Code) (z l : ℤ) (w v : WalkState) → turn_at x place body z w ≡ Ok v
     → turns_left x place body l (first_turn (z +ℤ pos 1) l) v ≡ turns_left x place body l (Some z) w
 turns_next x place body z l w v e =
     turns_are x place body (z +ℤ pos 1) l v

@@ -26,7 +26,7 @@ use Rattle.vg_range.specs.Acceptance.{checked, judged, judged_from, named}
 use Rattle.vg_range.specs.Immediates.{has_instance, IsByte}
 use Rattle.vg_range.specs.Meant.{HasImmediate, ScriptMeans}
 use Rattle.vg_range.specs.Unrolled.{whole_from, unrolled, is_memory, meant_by, IsGiven, MeansEntry, IsFormedEntry}
-use Rattle.vg_range.specs.Walk.{Stand, imm_constant, instance_at}
+use Rattle.vg_range.specs.Walk.{WalkState, imm_constant, instance_at}
 use Rattle.vg_names.specs.Written.{IsWritten, ResolvedAreProper}
 use Rattle.vg_range.proofs.Calls.{instances-mean}
 use Rattle.vg_range.proofs.Instances.{accepted-are-written}
@@ -73,7 +73,7 @@ accepts h o r e =
 -- ---- its instances
 
 judged_each : (n : ℕ) (r q : Resolved) (lo imm : ℕ) → judged_from r lo n ≡ Ok q → lo ≤ imm → imm < lo + n
-    → (w : Stand) × (instance_at false r (Some imm) ≡ Ok w)
+    → (w : WalkState) × (instance_at false r (Some imm) ≡ Ok w)
 unfolding judged_from
 judged_each zero r q lo imm e low high = absurd (omega (arith, low, high))
 judged_each (suc n) r q lo imm e low high =
@@ -91,7 +91,7 @@ both_true true false e = absurd (cc)
 both_true false b e = absurd (cc)
 
 instance_judged : (i : Option ImmRange) (imm : Option ℕ) (r q : Resolved) → judged i r ≡ Ok q → has_instance i imm ≡ true
-    → (w : Stand) × (instance_at false r imm ≡ Ok w)
+    → (w : WalkState) × (instance_at false r imm ≡ Ok w)
 instance_judged None None r q e h =
     let w = bind_ok (instance_at false r None) (λ w. Ok r) e in (w.0, w.1)
 instance_judged None (Some n) r q e h = absurd (cc)
@@ -103,14 +103,14 @@ instance_judged (Some i) (Some n) r q e h =
     judged_each ((i.hi - i.lo) + 1) r q i.lo n e low (omega (arith, low, high))
 
 pub instance_written : (h : Header) (o : Operation) (r : Resolved) (imm : Option ℕ) → checked h o ≡ Ok r → has_instance h.imm imm ≡ true
-    → (w : Stand) × (instance_at true r imm ≡ Ok w)
+    → (w : WalkState) × (instance_at true r imm ≡ Ok w)
 instance_written h o r imm e has =
     let w = instance_judged h.imm imm r r (accepts h o r e).judges has in
     let v = (accepted-are-written r imm).0.accepted w.0 w.1 in
     (v.0, v.1)
 
 -- where an instance is accepted only want of memory is left
-told_none : (fault : RangeFault) (w : Stand) (x : Result Stand RangeFault) → x ≡ Ok w → FailsBy (told fault) x → is_memory fault ≡ true
+told_none : (fault : RangeFault) (w : WalkState) (x : Result WalkState RangeFault) → x ≡ Ok w → FailsBy (told fault) x → is_memory fault ≡ true
 told_none (UnknownName p) w x e f = absurd (cc)
 told_none (IndexOutside p) w x e f = absurd (cc)
 told_none (DynamicIndex p) w x e f = absurd (cc)
@@ -125,7 +125,7 @@ pub only_memory : (h : Header) (o : Operation) (r : Resolved) (imm : Option ℕ)
 only_memory h o r imm fault e has f =
     let w = instance_written h o r imm e has in told_none fault w.0 (instance_at true r imm) w.1 f
 
-pub unrolled_is : (h : Header) (o : Operation) (r : Resolved) (imm : Option ℕ) (w : Stand) → checked h o ≡ Ok r → instance_at true r imm ≡ Ok w
+pub unrolled_is : (h : Header) (o : Operation) (r : Resolved) (imm : Option ℕ) (w : WalkState) → checked h o ≡ Ok r → instance_at true r imm ≡ Ok w
     → unrolled h o imm ≡ Ok (whole_from r w)
 unrolled_is h o r imm w e is = rw ((accepts h o r e).resolves, is) refl
 
@@ -226,13 +226,13 @@ has_immediate h o r imm given e has small is =
 
 -- ---- what an instance is
 
-entry_means : ResolvedAreProper → (h : Header) (o : Operation) (r : Resolved) (imm : Option ℕ) (w : Stand) → checked h o ≡ Ok r → has_instance h.imm imm ≡ true
+entry_means : ResolvedAreProper → (h : Header) (o : Operation) (r : Resolved) (imm : Option ℕ) (w : WalkState) → checked h o ≡ Ok r → has_instance h.imm imm ≡ true
     → IsByte imm → instance_at true r imm ≡ Ok w → IsWritten h o → (given : List ℕ) → IsGiven h imm given → ScriptMeans r w given
 entry_means proper h o r imm w e has small is written given says =
     let resolves = (accepts h o r e).resolves in
     instances-mean r (proper h o r written resolves) imm w is given (has_immediate h o r imm given resolves has small says)
 
-pub means_entry : ResolvedAreProper → (h : Header) (o : Operation) (r : Resolved) (imm : Option ℕ) (w : Stand) → checked h o ≡ Ok r → has_instance h.imm imm ≡ true
+pub means_entry : ResolvedAreProper → (h : Header) (o : Operation) (r : Resolved) (imm : Option ℕ) (w : WalkState) → checked h o ≡ Ok r → has_instance h.imm imm ≡ true
     → IsByte imm → instance_at true r imm ≡ Ok w → MeansEntry h o imm (whole_from r w)
 means_entry proper h o r imm w e has small is written given says =
     (entry_means proper h o r imm w e has small is written given says).leaves
@@ -251,7 +251,7 @@ some_is_given : (h : Header) (imm : Option ℕ) → IsGiven h imm (some_given h 
 some_is_given h None = tt
 some_is_given h (Some n) = at_last (length h.params) n
 
-pub formed_entry : ResolvedAreProper → (h : Header) (o : Operation) (r : Resolved) (imm : Option ℕ) (w : Stand) → checked h o ≡ Ok r → has_instance h.imm imm ≡ true
+pub formed_entry : ResolvedAreProper → (h : Header) (o : Operation) (r : Resolved) (imm : Option ℕ) (w : WalkState) → checked h o ≡ Ok r → has_instance h.imm imm ≡ true
     → IsByte imm → instance_at true r imm ≡ Ok w → IsFormedEntry h o (whole_from r w)
 formed_entry proper h o r imm w e has small is written =
     (entry_means proper h o r imm w e has small is written (some_given h imm) (some_is_given h imm)).formed
@@ -262,16 +262,16 @@ pub only_memory_there : (h : Header) (o : Operation) (r : Resolved) (imm : Optio
     → ∥ checked h o ≡ Ok r ∥₁ → has_instance h.imm imm ≡ true → FailsBy (told fault) (instance_at true r imm) → is_memory fault ≡ true
 only_memory_there h o r imm fault there has f = ∥∥₁_elim there (hlevel props) (λ e. only_memory h o r imm fault e has f)
 
-pub unrolled_there : (h : Header) (o : Operation) (r : Resolved) (imm : Option ℕ) (w : Stand) → ∥ checked h o ≡ Ok r ∥₁ → instance_at true r imm ≡ Ok w
+pub unrolled_there : (h : Header) (o : Operation) (r : Resolved) (imm : Option ℕ) (w : WalkState) → ∥ checked h o ≡ Ok r ∥₁ → instance_at true r imm ≡ Ok w
     → ∥ unrolled h o imm ≡ Ok (whole_from r w) ∥₁
 unrolled_there h o r imm w there is = ∥∥₁_map there (λ e. unrolled_is h o r imm w e is)
 
-pub means_there : ResolvedAreProper → (h : Header) (o : Operation) (r : Resolved) (imm : Option ℕ) (w : Stand) → ∥ checked h o ≡ Ok r ∥₁ → has_instance h.imm imm ≡ true
+pub means_there : ResolvedAreProper → (h : Header) (o : Operation) (r : Resolved) (imm : Option ℕ) (w : WalkState) → ∥ checked h o ≡ Ok r ∥₁ → has_instance h.imm imm ≡ true
     → IsByte imm → instance_at true r imm ≡ Ok w → MeansEntry h o imm (whole_from r w)
 means_there proper h o r imm w there has small is written given says =
     ∥∥₁_elim there (hlevel props) (λ e. means_entry proper h o r imm w e has small is written given says)
 
-pub formed_there : ResolvedAreProper → (h : Header) (o : Operation) (r : Resolved) (imm : Option ℕ) (w : Stand) → ∥ checked h o ≡ Ok r ∥₁ → has_instance h.imm imm ≡ true
+pub formed_there : ResolvedAreProper → (h : Header) (o : Operation) (r : Resolved) (imm : Option ℕ) (w : WalkState) → ∥ checked h o ≡ Ok r ∥₁ → has_instance h.imm imm ≡ true
     → IsByte imm → instance_at true r imm ≡ Ok w → IsFormedEntry h o (whole_from r w)
 formed_there proper h o r imm w there has small is written =
     ∥∥₁_elim there (script_formed_once r.body.widths w.script) (λ e. formed_entry proper h o r imm w e has small is written)

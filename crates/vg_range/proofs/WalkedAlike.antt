@@ -7,8 +7,8 @@ use Rattle.vg_pseudo.specs.Resolved.{Expr, Target, Code, stop, assign, skip, rep
 use Rattle.vg_pseudo.specs.Value.{count}
 use Rattle.vg_interval.specs.declared.fault.RangeFault.{RangeFault}
 use Rattle.vg_interval.specs.Found.{Operand, fixed, moving, operand, condition}
-use Rattle.vg_interval.specs.Judge.{Kept, Count, step, spot_of, judge}
-use Rattle.vg_range.specs.Walk.{Stand, at_count, Course, judged, constant_at, assign_at, in_turn, turns_at, Ways, no_ways, joined_with, with_way, branch_of, closed, beginning, Arms, pick_of, with_arm, arms_of, way_taken, walk, walk_ways, arm_taken, all_arms}
+use Rattle.vg_interval.specs.Judge.{KnownNumber, Count, step, spot_of, judge}
+use Rattle.vg_range.specs.Walk.{WalkState, at_count, WalkContext, judged, constant_at, assign_at, in_turn, turns_at, Ways, no_ways, joined_with, with_way, branch_of, closed, beginning, Arms, pick_of, with_arm, arms_of, way_taken, walk, walk_ways, arm_taken, all_arms}
 use Rattle.vg_range.proofs.Bare.{seen, steps_same, if-same, bare, bare_operand, operand-same, view}
 use Rattle.vg_range.proofs.Judged.{looks, counts}
 use Rattle.vg_range.proofs.Alike.{Alike, judge-alike, known_at, same_numbers, same_count, judged-alike, unscripted, WalksAlike, view_constant, known_ok, constant-alike, the_constant, its_stand, assign-alike, turns-alike, in_turn-alike}
@@ -16,18 +16,18 @@ use Rattle.vg_range.proofs.Alike.{Alike, judge-alike, known_at, same_numbers, sa
 -- ---- ways
 
 -- what is known after the last way
-closed-known : (x : Course) (w v : Stand) (found : Ways) → known_at (closed x w found v) ≡ (joined_with found.joined v.numbers, v.count)
+closed-known : (x : WalkContext) (w v : WalkState) (found : Ways) → known_at (closed x w found v) ≡ (joined_with found.joined v.numbers, v.count)
 closed-known x w v found =
     unscripted x (branch_of found.scripts v.script) (record { numbers = joined_with found.joined v.numbers; count = v.count; script = w.script })
 
-closed-alike : (x y : Course) (w v t u : Stand) (found other : Ways) → found.joined ≡ other.joined → known_at t ≡ known_at u
+closed-alike : (x y : WalkContext) (w v t u : WalkState) (found other : Ways) → found.joined ≡ other.joined → known_at t ≡ known_at u
     → known_at (closed x w found t) ≡ known_at (closed y v other u)
 closed-alike x y w v t u found other j k =
     closed-known x w t found ∙ rw (j, same_numbers t u k, same_count t u k) (sym (closed-known y v u other))
 
-way_taken-alike : (a b : Operand) (r q : Result Stand RangeFault) (f g : Stand → Result Stand RangeFault) (o p : Result Stand RangeFault) (c d : Stand → Stand)
+way_taken-alike : (a b : Operand) (r q : Result WalkState RangeFault) (f g : WalkState → Result WalkState RangeFault) (o p : Result WalkState RangeFault) (c d : WalkState → WalkState)
     → bare_operand a ≡ bare_operand b → seen known_at r ≡ seen known_at q → WalksAlike f g → seen known_at o ≡ seen known_at p
-    → ((w v : Stand) → known_at w ≡ known_at v → known_at (c w) ≡ known_at (d v))
+    → ((w v : WalkState) → known_at w ≡ known_at v → known_at (c w) ≡ known_at (d v))
     → seen known_at (way_taken a r f o c) ≡ seen known_at (way_taken b q g p d)
 way_taken-alike (fixed y) (fixed z) r q f g o p c d e body more others only =
     rw (fixed_same e) (if-same known_at (int_eq z (pos 0)) _ _ _ _ others
@@ -41,14 +41,14 @@ way_taken-alike (moving m y) (moving n z) r q f g o p c d e body more others onl
 
 -- ---- arms
 
-abbrev view_arms : Arms × Count → List Kept × Count
+abbrev view_arms : Arms × Count → List KnownNumber × Count
 view_arms p = (p.0.joined, p.1)
 
-abbrev behind_arms : Stand → Arms × Count → Stand
+abbrev behind_arms : WalkState → Arms × Count → WalkState
 behind_arms w s = record { numbers = s.0.joined; count = s.1; script = w.script }
 
-arms_of-alike : (x y : Course) (w v : Stand) (a b : Operand) (f g : Stand → ℤ → Result Stand RangeFault)
-    (all some : Stand → Arms → Count → Result (Arms × Count) RangeFault) → known_at w ≡ known_at v → bare_operand a ≡ bare_operand b
+arms_of-alike : (x y : WalkContext) (w v : WalkState) (a b : Operand) (f g : WalkState → ℤ → Result WalkState RangeFault)
+    (all some : WalkState → Arms → Count → Result (Arms × Count) RangeFault) → known_at w ≡ known_at v → bare_operand a ≡ bare_operand b
     → ((z : ℤ) → seen known_at (f w z) ≡ seen known_at (g v z))
     → ((found other : Arms) (n : Count) → found.joined ≡ other.joined → seen view_arms (all w found n) ≡ seen view_arms (some v other n))
     → seen known_at (arms_of x w a f all) ≡ seen known_at (arms_of y v b g some)
@@ -69,22 +69,22 @@ arms_of-alike x y w v (moving m i) (moving n j) f g all some k e one each =
 
 -- What is to be shown of statements: that they are walked alike, also as the ways of an IF and as the arms of a CASE.
 record Same (d : Code) : Type 0 where
-  pub walks : (x y : Course) → Alike x y → WalksAlike (walk x d) (walk y d)
-  pub ways : (x y : Course) → Alike x y → (w v : Stand) (found other : Ways) (n : Count) → known_at w ≡ known_at v → found.joined ≡ other.joined
+  pub walks : (x y : WalkContext) → Alike x y → WalksAlike (walk x d) (walk y d)
+  pub ways : (x y : WalkContext) → Alike x y → (w v : WalkState) (found other : Ways) (n : Count) → known_at w ≡ known_at v → found.joined ≡ other.joined
       → seen known_at (walk_ways x d w found n) ≡ seen known_at (walk_ways y d v other n)
-  pub one_arm : (x y : Course) → Alike x y → (w v : Stand) (z : ℤ) → known_at w ≡ known_at v
+  pub one_arm : (x y : WalkContext) → Alike x y → (w v : WalkState) (z : ℤ) → known_at w ≡ known_at v
       → seen known_at (arm_taken x d w z) ≡ seen known_at (arm_taken y d v z)
-  pub arms : (x y : Course) → Alike x y → (w v : Stand) (found other : Arms) (n : Count) → known_at w ≡ known_at v → found.joined ≡ other.joined
+  pub arms : (x y : WalkContext) → Alike x y → (w v : WalkState) (found other : Arms) (n : Count) → known_at w ≡ known_at v → found.joined ≡ other.joined
       → seen view_arms (all_arms x d w found n) ≡ seen view_arms (all_arms y d v other n)
 
-abbrev went : Stand → Result Stand RangeFault
+abbrev went : WalkState → Result WalkState RangeFault
 went w = Ok w
 
 abbrev picked : Arms × Count → Result (Arms × Count) RangeFault
 picked p = Ok p
 
 -- what is no way and no arm
-no-ways : (x y : Course) (w v : Stand) (found other : Ways) (n : Count) → known_at w ≡ known_at v → found.joined ≡ other.joined
+no-ways : (x y : WalkContext) (w v : WalkState) (found other : Ways) (n : Count) → known_at w ≡ known_at v → found.joined ≡ other.joined
     → seen known_at (went (closed x w found (beginning w n))) ≡ seen known_at (went (closed y v other (beginning v n)))
 no-ways x y w v found other n k j =
     ap known_ok (closed-alike x y w v (beginning w n) (beginning v n) found other j (ap (λ ks. (ks, n)) (same_numbers w v k)))
@@ -108,7 +108,7 @@ assign-same p t a rest q = record {
   arms = λ x y h w v found other n k j. no-arms found other n j;
 }
 
-skip-walks : (p : Place) (rest : Code) → Same rest → (x y : Course) → Alike x y → WalksAlike (walk x (skip p rest)) (walk y (skip p rest))
+skip-walks : (p : Place) (rest : Code) → Same rest → (x y : WalkContext) → Alike x y → WalksAlike (walk x (skip p rest)) (walk y (skip p rest))
 skip-walks p rest q x y h w v k =
     rw (same_count w v k) (steps_same (λ n. n) known_at (step p v.count) (step p v.count) _ _ refl (λ m n e.
     rw e (q.walks x y h (at_count w n) (at_count v n) (ap (λ ks. (ks, n)) (same_numbers w v k)))))
@@ -121,7 +121,7 @@ skip-same p rest q = record {
   arms = λ x y h w v found other n k j. no-arms found other n j;
 }
 
-repeat-walks : (p : Place) (a b : Expr) (body rest : Code) → Same body → Same rest → (x y : Course) → Alike x y
+repeat-walks : (p : Place) (a b : Expr) (body rest : Code) → Same body → Same rest → (x y : WalkContext) → Alike x y
     → WalksAlike (walk x (repeat p a b body rest)) (walk y (repeat p a b body rest))
 repeat-walks p a b body rest i q x y h w v k =
     steps_same view_constant known_at (constant_at x w a) (constant_at y v a) _ _ (constant-alike x y h w v k a) (λ f g e.
@@ -142,7 +142,7 @@ repeat-same p a b body rest i q = record {
   arms = λ x y h w v found other n k j. no-arms found other n j;
 }
 
-choose-walks : (inner rest : Code) → Same inner → Same rest → (x y : Course) → Alike x y → WalksAlike (walk x (choose inner rest)) (walk y (choose inner rest))
+choose-walks : (inner rest : Code) → Same inner → Same rest → (x y : WalkContext) → Alike x y → WalksAlike (walk x (choose inner rest)) (walk y (choose inner rest))
 choose-walks inner rest i q x y h w v k =
     steps_same known_at known_at (walk_ways x inner w no_ways w.count) (walk_ways y inner v no_ways v.count) _ _
     (ap (λ c. seen known_at (walk_ways x inner w no_ways c)) (same_count w v k) ∙ i.ways x y h w v no_ways no_ways v.count k refl) (q.walks x y h)
@@ -155,10 +155,10 @@ choose-same inner rest i q = record {
   arms = λ x y h w v found other n k j. no-arms found other n j;
 }
 
-begin-alike : (w v : Stand) (n : Count) → known_at w ≡ known_at v → known_at (beginning w n) ≡ known_at (beginning v n)
+begin-alike : (w v : WalkState) (n : Count) → known_at w ≡ known_at v → known_at (beginning w n) ≡ known_at (beginning v n)
 begin-alike w v n k = ap (λ ks. (ks, n)) (same_numbers w v k)
 
-way-ways : (a : Expr) (body more : Code) → Same body → Same more → (x y : Course) → Alike x y → (w v : Stand) (found other : Ways) (n : Count)
+way-ways : (a : Expr) (body more : Code) → Same body → Same more → (x y : WalkContext) → Alike x y → (w v : WalkState) (found other : Ways) (n : Count)
     → known_at w ≡ known_at v → found.joined ≡ other.joined
     → seen known_at (walk_ways x (way a body more) w found n) ≡ seen known_at (walk_ways y (way a body more) v other n)
 way-ways a body more i q x y h w v found other n k j =
@@ -191,7 +191,7 @@ last-same body i = record {
   arms = λ x y h w v found other n k j. no-arms found other n j;
 }
 
-pick-walks : (a : Expr) (inner rest : Code) → Same inner → Same rest → (x y : Course) → Alike x y → WalksAlike (walk x (pick a inner rest)) (walk y (pick a inner rest))
+pick-walks : (a : Expr) (inner rest : Code) → Same inner → Same rest → (x y : WalkContext) → Alike x y → WalksAlike (walk x (pick a inner rest)) (walk y (pick a inner rest))
 pick-walks a inner rest i q x y h w v k =
     steps_same view known_at (judged x w a) (judged y v a) _ _ (judged-alike x y h w v k a) (λ f g e.
     steps_same bare_operand known_at (operand (spot_of a) f.0) (operand (spot_of a) g.0) _ _ (operand-same (spot_of a) f.0 g.0 (looks bare f g e)) (λ l m o.
@@ -232,5 +232,5 @@ same (last body) = last-same body (same body)
 same (pick a inner rest) = pick-same a inner rest (same inner) (same rest)
 same (arm n body more) = arm-same n body more (same body) (same more)
 
-pub walk-alike : (d : Code) (x y : Course) → Alike x y → WalksAlike (walk x d) (walk y d)
+pub walk-alike : (d : Code) (x y : WalkContext) → Alike x y → WalksAlike (walk x d) (walk y d)
 walk-alike d = (same d).walks

@@ -22,8 +22,8 @@ use Rattle.vg_script.specs.Formed.{ScriptFormed}
 use Rattle.vg_interval.specs.declared.fault.RangeFault.{RangeFault}
 use Rattle.vg_interval.specs.Interval.{hull}
 use Rattle.vg_interval.specs.Found.{Found, Operand, fixed, moving, word_of, operand}
-use Rattle.vg_interval.specs.Judge.{Kept, constant, varying, Count, step, Index, settled, unsettled, index_of, bits_between, bits_of_element, spot_of}
-use Rattle.vg_range.specs.Walk.{Stand, at_count, behind, Course, with_script, judged, constant_index, constant_at, Goal, goal, goal_at, stored, kept_of, target_number, assign_at, kept_span, join_kept, join, in_turn, turns_at, Ways, no_ways, joined_with, with_way, is_empty, in_front, does_nothing, branch_of, closed, beginning, Arms, arms_in_front, arms_do_nothing, pick_of, with_arm, arms_of, way_taken, walk, walk_ways, arm_taken, all_arms}
+use Rattle.vg_interval.specs.Judge.{KnownNumber, constant, varying, Count, step, Index, settled, unsettled, index_of, bits_between, bits_of_element, spot_of}
+use Rattle.vg_range.specs.Walk.{WalkState, at_count, behind, WalkContext, with_script, judged, constant_index, constant_at, Goal, goal, goal_at, stored, kept_of, target_number, assign_at, kept_span, join_kept, join, in_turn, turns_at, Ways, no_ways, joined_with, with_way, is_empty, in_front, does_nothing, branch_of, closed, beginning, Arms, arms_in_front, arms_do_nothing, pick_of, with_arm, arms_of, way_taken, walk, walk_ways, arm_taken, all_arms}
 use Rattle.vg_range.specs.Walk as walking
 use Rattle.vg_interval.proofs.Intervals.{In, Fits, EndsFit, hull-left, hull-right, hull_fits, le_self}
 use Rattle.vg_interval.proofs.Covers.{cells, Covers, Holds, operand-ok, holds-stands}
@@ -99,26 +99,26 @@ kept-inside ws r n h = subst (λ k. n ≤ k) (sym (kept-at ws r)) h
 
 -- A walk that keeps scripts and a run stand together: what is known covers the state, and the script has led from these
 -- cells to those of the state.
-pub record Together (x : Course) (fs : Functions) (c : Cells) (w : Stand) (s : State) : Type 0 where
+pub record Together (x : WalkContext) (fs : Functions) (c : Cells) (w : WalkState) (s : State) : Type 0 where
   pub knows : Knows x.sight w.numbers (seen fs x.sight.turns s)
   pub same : after w.script c ≡ cells s
   pub formed : ScriptFormed (kept_widths x.sight.widths) w.script
 
 -- a walk goes with a run, wherever both begin
-abbrev pub GoesWith : Course → Functions → (Stand → Result Stand RangeFault) → (State → State) → Type 0
-GoesWith x fs f g = (c : Cells) (w v : Stand) (s : State) → Together x fs c w s → f w ≡ Ok v → Together x fs c v (g s)
+abbrev pub GoesWith : WalkContext → Functions → (WalkState → Result WalkState RangeFault) → (State → State) → Type 0
+GoesWith x fs f g = (c : Cells) (w v : WalkState) (s : State) → Together x fs c w s → f w ≡ Ok v → Together x fs c v (g s)
 
-abbrev pub ok_stand : Stand → Result Stand RangeFault
+abbrev pub ok_stand : WalkState → Result WalkState RangeFault
 ok_stand w = Ok w
 
-pub same_stand : {a b : Stand} → ok_stand a ≡ ok_stand b → a ≡ b
+pub same_stand : {a b : WalkState} → ok_stand a ≡ ok_stand b → a ≡ b
 same_stand e = cc
 
-pub counted : (x : Course) (fs : Functions) (c : Cells) (w : Stand) (s : State) (n : Count) → Together x fs c w s → Together x fs c (at_count w n) s
+pub counted : (x : WalkContext) (fs : Functions) (c : Cells) (w : WalkState) (s : State) (n : Count) → Together x fs c w s → Together x fs c (at_count w n) s
 counted x fs c w s n h = record { knows = h.knows; same = h.same; formed = h.formed }
 
 -- a script more
-pub scripted : (x : Course) (fs : Functions) (c : Cells) (w : Stand) (ks : List Kept) (s u : State) (t : Script) → x.is_kept ≡ true → Together x fs c w s
+pub scripted : (x : WalkContext) (fs : Functions) (c : Cells) (w : WalkState) (ks : List KnownNumber) (s u : State) (t : Script) → x.is_kept ≡ true → Together x fs c w s
     → Knows x.sight ks (seen fs x.sight.turns u) → after t (cells s) ≡ cells u → ScriptFormed (kept_widths x.sight.widths) t
     → Together x fs c (with_script x t (record { numbers = ks; count = w.count; script = w.script })) u
 scripted x fs c w ks s u t kept h knows same formed = rw kept (record {
@@ -134,7 +134,7 @@ constant-is ws c place (settled k) y z e h = h ∙ cc
 constant-is ws c place (unsettled a) y z e h = absurd (cc)
 
 abbrev pub Constant : Type 0
-Constant = ℤ × Stand
+Constant = ℤ × WalkState
 
 abbrev pub constant_ok : Constant → Result Constant RangeFault
 constant_ok a = Ok a
@@ -142,12 +142,12 @@ constant_ok a = Ok a
 pub same_constant : {a b : Constant} → constant_ok a ≡ constant_ok b → a ≡ b
 same_constant e = cc
 
--- a constant index: its value, and the stand with another count
-pub record IsConstant (x : Course) (fs : Functions) (c : Cells) (w : Stand) (s : State) (e : Expr) (a : ℤ × Stand) : Type 0 where
+-- a constant index: its value, and the state with another count
+pub record IsConstant (x : WalkContext) (fs : Functions) (c : Cells) (w : WalkState) (s : State) (e : Expr) (a : ℤ × WalkState) : Type 0 where
   pub value : value (seen fs x.sight.turns s) e ≡ a.0
   pub stands : Together x fs c a.1 s
 
-pub constant_at-is : (x : Course) (fs : Functions) (c : Cells) (w : Stand) (s : State) (e : Expr) (a : Constant) → Together x fs c w s
+pub constant_at-is : (x : WalkContext) (fs : Functions) (c : Cells) (w : WalkState) (s : State) (e : Expr) (a : Constant) → Together x fs c w s
     → constant_at x w e ≡ Ok a → IsConstant x fs c w s e a
 constant_at-is x fs c w s e a h p =
     let sight = seen fs x.sight.turns s in
@@ -160,7 +160,7 @@ constant_at-is x fs c w s e a h p =
     (record { value = constant-is x.sight.widths (cells s) (spot_of e).outer i.0 z.0 (value sight e) z.1 index; stands = counted x fs c w s f.0.1 h })
 
 abbrev pub Goals : Type 0
-Goals = Option Goal × Stand
+Goals = Option Goal × WalkState
 
 abbrev pub goal_ok : Goals → Result Goals RangeFault
 goal_ok a = Ok a
@@ -169,17 +169,17 @@ pub same_goal : {a b : Goals} → goal_ok a ≡ goal_ok b → a ≡ b
 same_goal e = cc
 
 -- the bits that a target names
-pub record IsGoal (x : Course) (fs : Functions) (s : State) (t : Target) (g : Goal) : Type 0 where
+pub record IsGoal (x : WalkContext) (fs : Functions) (s : State) (t : Target) (g : Goal) : Type 0 where
   pub inside : g.bits.low + g.bits.width ≤ min 512 (get_or x.sight.widths g.register 0)
   pub some : 0 < g.bits.width
   pub spared : TargetSpares x.sight.constants t → get_or x.sight.constants g.register None ≡ None
   pub writes : (z : ℤ) → assigned (seen fs x.sight.turns s) t z ≡ written g.register g.bits.low g.bits.width z s
 
-abbrev pub IsAimed : Course → Functions → State → Target → Option Goal → Type 0
+abbrev pub IsAimed : WalkContext → Functions → State → Target → Option Goal → Type 0
 IsAimed x fs s t (Some g) = IsGoal x fs s t g
 IsAimed x fs s t None = (k : ℕ) × (t ≡ number k)
 
-pub goal_at-is : (x : Course) (fs : Functions) (c : Cells) (place : Place) (w : Stand) (s : State) (t : Target) (a : Goals) → Together x fs c w s
+pub goal_at-is : (x : WalkContext) (fs : Functions) (c : Cells) (place : Place) (w : WalkState) (s : State) (t : Target) (a : Goals) → Together x fs c w s
     → goal_at x place w t ≡ Ok a → Together x fs c a.1 s × IsAimed x fs s t a.0
 goal_at-is x fs c place w s (bits r h l) a k e =
     let high = bind_ok (constant_at x w h) _ e in
@@ -234,7 +234,7 @@ goal_at-is x fs c place w s (number k) a h e =
 
 -- ---- assignments
 
-pub keeps-set : (ks : List Kept) (zs : List ℤ) (k : ℕ) (r : Kept) (z : ℤ) → AllKeep ks zs → Keeps r z → AllKeep (set ks k r) (set zs k z)
+pub keeps-set : (ks : List KnownNumber) (zs : List ℤ) (k : ℕ) (r : KnownNumber) (z : ℤ) → AllKeep ks zs → Keeps r z → AllKeep (set ks k r) (set zs k z)
 keeps-set [] [] k r z h p = tt
 keeps-set [] (y ∷ zs) k r z h p = absurd h
 keeps-set (q ∷ ks) [] k r z h p = absurd h
@@ -249,7 +249,7 @@ pub some_none : (n : ℕ) → Some n ≡ None → ⊥
 some_none n e = absurd (cc)
 
 -- what is known after a write inside of a register that is not constant
-pub written-knows : (x : Course) (fs : Functions) (ks : List Kept) (s : State) (r low width : ℕ) (z : ℤ) → Knows x.sight ks (seen fs x.sight.turns s)
+pub written-knows : (x : WalkContext) (fs : Functions) (ks : List KnownNumber) (s : State) (r low width : ℕ) (z : ℤ) → Knows x.sight ks (seen fs x.sight.turns s)
     → low + width ≤ min 512 (get_or x.sight.widths r 0) → get_or x.sight.constants r None ≡ None
     → Knows x.sight ks (seen fs x.sight.turns (written r low width z s))
 written-knows x fs ks s r low width z h inside spared = record {
@@ -271,7 +271,7 @@ cells_of rs vs = record { registers = rs; variables = vs }
 abbrev pub record_numbers : State → ℕ → ℤ → State
 record_numbers s k z = record { registers = s.registers; numbers = set s.numbers k z }
 
-pub number-knows : (x : Course) (fs : Functions) (ks : List Kept) (s : State) (k : ℕ) (r : Kept) (z : ℤ) → Knows x.sight ks (seen fs x.sight.turns s) → Keeps r z
+pub number-knows : (x : WalkContext) (fs : Functions) (ks : List KnownNumber) (s : State) (k : ℕ) (r : KnownNumber) (z : ℤ) → Knows x.sight ks (seen fs x.sight.turns s) → Keeps r z
     → Knows x.sight (set ks k r) (seen fs x.sight.turns (record { registers = s.registers; numbers = set s.numbers k z }))
 number-knows x fs ks s k r z h p = record {
   cells = record { kept = h.cells.kept; bits = h.cells.bits };
@@ -292,7 +292,7 @@ pub assigned-number : (fs : Functions) (ts : List ℤ) (s : State) (t : Target) 
     → (assigned (seen fs ts s) t z ≡ record { registers = s.registers; numbers = set s.numbers k z }) × (target_number t ≡ k)
 assigned-number fs ts s t k z e = rw e (refl, refl)
 
-pub assign-goes : (x : Course) (fs : Functions) (place : Place) (t : Target) (e : Expr) → x.is_kept ≡ true → TargetSpares x.sight.constants t
+pub assign-goes : (x : WalkContext) (fs : Functions) (place : Place) (t : Target) (e : Expr) → x.is_kept ≡ true → TargetSpares x.sight.constants t
     → GoesWith x fs (assign_at x place t e) (λ s. assigned (seen fs x.sight.turns s) t (value (seen fs x.sight.turns s) e))
 assign-goes x fs place t e kept spares c w v s h p =
     let sight = seen fs x.sight.turns s in
@@ -303,7 +303,7 @@ assign-goes x fs place t e kept spares c w v s h p =
     let covers = judge-covers e x.sight g.0.1.numbers sight g.0.1.count f.0.1 f.0.0 a.0.knows f.1 in
     aimed g.0.0 g.0.1 f.0.0 f.0.1 a.0 a.1 covers f.2
   where
-    aimed : (o : Option Goal) (u : Stand) (f : Found) (m : Count) → Together x fs c u s → IsAimed x fs s t o
+    aimed : (o : Option Goal) (u : WalkState) (f : Found) (m : Count) → Together x fs c u s → IsAimed x fs s t o
         → Covers x.sight.widths (cells s) f (value (seen fs x.sight.turns s) e) (bits_in (seen fs x.sight.turns s) e)
         → walking.assigned x (spot_of e) t o f (at_count u m) ≡ Ok v
         → Together x fs c v (assigned (seen fs x.sight.turns s) t (value (seen fs x.sight.turns s) e))
@@ -331,7 +331,7 @@ assign-goes x fs place t e kept spares c w v s h p =
 
 -- ---- FOR
 
-pub in_turn-together : (x : Course) (fs : Functions) (c : Cells) (w : Stand) (s : State) (z : ℤ) → Together x fs c w s → Together (in_turn x z) fs c w s
+pub in_turn-together : (x : WalkContext) (fs : Functions) (c : Cells) (w : WalkState) (s : State) (z : ℤ) → Together x fs c w s → Together (in_turn x z) fs c w s
 in_turn-together x fs c w s z h = record {
   knows = record {
     cells = h.knows.cells;
@@ -345,7 +345,7 @@ in_turn-together x fs c w s z h = record {
   formed = h.formed;
 }
 
-pub out_turn-together : (x : Course) (fs : Functions) (c : Cells) (w : Stand) (s : State) (z : ℤ) → Together (in_turn x z) fs c w s → Together x fs c w s
+pub out_turn-together : (x : WalkContext) (fs : Functions) (c : Cells) (w : WalkState) (s : State) (z : ℤ) → Together (in_turn x z) fs c w s → Together x fs c w s
 out_turn-together x fs c w s z h = record {
   knows = record {
     cells = h.knows.cells;
@@ -359,7 +359,7 @@ out_turn-together x fs c w s z h = record {
   formed = h.formed;
 }
 
-pub turns-go : (x : Course) (fs : Functions) (place : Place) (f : ℤ → Stand → Result Stand RangeFault) (g : ℤ → State → State)
+pub turns-go : (x : WalkContext) (fs : Functions) (place : Place) (f : ℤ → WalkState → Result WalkState RangeFault) (g : ℤ → State → State)
     → ((z : ℤ) → GoesWith (in_turn x z) fs (f z) (g z)) → (n : ℕ) (z : ℤ) → GoesWith x fs (turns_at f place z n) (turned g z n)
 turns-go x fs place f g each zero z c w v s h e = subst (λ y. Together x fs c y s) (same_stand e) h
 turns-go x fs place f g each (suc n) z c w v s h e =
@@ -370,24 +370,24 @@ turns-go x fs place f g each (suc n) z c w v s h e =
 
 -- ---- what is known after one of several ways
 
-pub keeps-span : (k : Kept) (z : ℤ) → Keeps k z → In (kept_span k) z × EndsFit (kept_span k)
+pub keeps-span : (k : KnownNumber) (z : ℤ) → Keeps k z → In (kept_span k) z × EndsFit (kept_span k)
 keeps-span (constant y) z h =
     (rw h.0 (record { above = le_self y; below = le_self y }), let f = subst Fits h.0 h.1 in record { first = f; last = f })
 keeps-span (varying i) z h = h
 
-pub hull-keeps-left : (a b : Kept) (y z : ℤ) → Keeps a y → Keeps b z → Keeps (varying (hull (kept_span a) (kept_span b))) y
+pub hull-keeps-left : (a b : KnownNumber) (y z : ℤ) → Keeps a y → Keeps b z → Keeps (varying (hull (kept_span a) (kept_span b))) y
 hull-keeps-left a b y z p q =
     let m = keeps-span a y p in
     let n = keeps-span b z q in
     (hull-left (kept_span a) (kept_span b) y m.0, hull_fits (kept_span a) (kept_span b) m.1 n.1)
 
-pub hull-keeps-right : (a b : Kept) (y z : ℤ) → Keeps a y → Keeps b z → Keeps (varying (hull (kept_span a) (kept_span b))) z
+pub hull-keeps-right : (a b : KnownNumber) (y z : ℤ) → Keeps a y → Keeps b z → Keeps (varying (hull (kept_span a) (kept_span b))) z
 hull-keeps-right a b y z p q =
     let m = keeps-span a y p in
     let n = keeps-span b z q in
     (hull-right (kept_span a) (kept_span b) z n.0, hull_fits (kept_span a) (kept_span b) m.1 n.1)
 
-pub join_kept-left : (a b : Kept) (y z : ℤ) → Keeps a y → Keeps b z → Keeps (join_kept a b) y
+pub join_kept-left : (a b : KnownNumber) (y z : ℤ) → Keeps a y → Keeps b z → Keeps (join_kept a b) y
 join_kept-left (constant u) (constant v) y z p q = elim (cases_Bool (int_eq u v)) [
   | inl t ↦ rw t p
   | inr t ↦ rw t (hull-keeps-left (constant u) (constant v) y z p q)
@@ -395,7 +395,7 @@ join_kept-left (constant u) (constant v) y z p q = elim (cases_Bool (int_eq u v)
 join_kept-left (constant u) (varying j) y z p q = hull-keeps-left (constant u) (varying j) y z p q
 join_kept-left (varying i) b y z p q = hull-keeps-left (varying i) b y z p q
 
-pub join_kept-right : (a b : Kept) (y z : ℤ) → Keeps a y → Keeps b z → Keeps (join_kept a b) z
+pub join_kept-right : (a b : KnownNumber) (y z : ℤ) → Keeps a y → Keeps b z → Keeps (join_kept a b) z
 join_kept-right (constant u) (constant v) y z p q = elim (cases_Bool (int_eq u v)) [
   | inl t ↦ rw t (q.0 ∙ sym ((Decides-int_eq u v).0 t), q.1)
   | inr t ↦ rw t (hull-keeps-right (constant u) (constant v) y z p q)
@@ -403,7 +403,7 @@ join_kept-right (constant u) (constant v) y z p q = elim (cases_Bool (int_eq u v
 join_kept-right (constant u) (varying j) y z p q = hull-keeps-right (constant u) (varying j) y z p q
 join_kept-right (varying i) b y z p q = hull-keeps-right (varying i) b y z p q
 
-pub join-left : (ks js : List Kept) (ys zs : List ℤ) → length ys ≡ length zs → AllKeep ks ys → AllKeep js zs → AllKeep (join ks js) ys
+pub join-left : (ks js : List KnownNumber) (ys zs : List ℤ) → length ys ≡ length zs → AllKeep ks ys → AllKeep js zs → AllKeep (join ks js) ys
 join-left [] js [] zs e p q = tt
 join-left [] js (y ∷ ys) zs e p q = absurd p
 join-left (k ∷ ks) js [] zs e p q = absurd p
@@ -412,7 +412,7 @@ join-left (k ∷ ks) [] (y ∷ ys) (z ∷ zs) e p q = absurd q
 join-left (k ∷ ks) (j ∷ js) (y ∷ ys) [] e p q = absurd q
 join-left (k ∷ ks) (j ∷ js) (y ∷ ys) (z ∷ zs) e p q = (join_kept-left k j y z p.0 q.0, join-left ks js ys zs (omega (arith, e)) p.1 q.1)
 
-pub join-right : (ks js : List Kept) (ys zs : List ℤ) → length ys ≡ length zs → AllKeep ks ys → AllKeep js zs → AllKeep (join ks js) zs
+pub join-right : (ks js : List KnownNumber) (ys zs : List ℤ) → length ys ≡ length zs → AllKeep ks ys → AllKeep js zs → AllKeep (join ks js) zs
 join-right [] [] [] [] e p q = tt
 join-right [] (j ∷ js) [] [] e p q = absurd q
 join-right [] js [] (z ∷ zs) e p q = absurd (omega (arith, e))

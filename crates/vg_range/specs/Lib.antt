@@ -4,7 +4,7 @@ pub mod Estimates
 pub mod Immediates
 pub mod Kept
 pub mod Meant
-pub mod Met
+pub mod Steps
 pub mod Nodes
 pub mod Seen
 pub mod Unrolled

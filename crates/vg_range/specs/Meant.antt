@@ -7,7 +7,7 @@ use Rattle.vg_pseudo.specs.Instance.{meaning}
 use Rattle.vg_script.specs.Cells.{Cells, entered, after}
 use Rattle.vg_script.specs.Formed.{ScriptFormed}
 use Rattle.vg_names.specs.Proper.{IsProper}
-use Rattle.vg_range.specs.Walk.{Stand, imm_constant, instance_at}
+use Rattle.vg_range.specs.Walk.{WalkState, imm_constant, instance_at}
 
 -- the cells of an instance as it begins, where its parameters and after them the immediate have
 -- these numbers
@@ -24,12 +24,12 @@ HasImmediate r imm given =
     → num (get_or (first_cells r given).registers k []) ≡ n
 
 -- what the script of an instance does, and that it is formed
-pub record ScriptMeans (r : Resolved) (w : Stand) (given : List ℕ) : Type 0 where
+pub record ScriptMeans (r : Resolved) (w : WalkState) (given : List ℕ) : Type 0 where
   pub formed : ScriptFormed r.body.widths w.script
   pub leaves : get_or (after w.script (first_cells r given)).registers r.result [] ≡ meaning r given
 
 -- In an accepted instance, for all numbers of the parameters.
 abbrev pub InstancesMean : Type 0
 InstancesMean =
-    (r : Resolved) → IsProper r → (imm : Option ℕ) (w : Stand) → instance_at true r imm ≡ Ok w
+    (r : Resolved) → IsProper r → (imm : Option ℕ) (w : WalkState) → instance_at true r imm ≡ Ok w
     → (given : List ℕ) → HasImmediate r imm given → ScriptMeans r w given

@@ -17,16 +17,16 @@ use Rattle.vg_script.specs.Views.{number_of, script_of, word_of}
 use Rattle.vg_names.specs.Views.{function_view}
 use Rattle.vg_interval.specs.declared.fault.RangeFault.{RangeFault}
 use Rattle.vg_interval.specs.Found.{Found, Operand, operand, plain, Passed, computed, passed, answered}
-use Rattle.vg_interval.specs.Judge.{Sight, Kept, Count, Index, Judges, branch, judge, spot_of, step, bits_of_element, index_of, slice_at, element_at, unary_at, binary_at}
+use Rattle.vg_interval.specs.Judge.{Sight, KnownNumber, Count, Index, Judges, branch, judge, spot_of, step, bits_of_element, index_of, slice_at, element_at, unary_at, binary_at}
 use Rattle.vg_interval.specs.Views.{Condition, always, tested, condition_at, either, bits_view, count_view, kept_view}
-use Rattle.vg_range.specs.Walk.{Course, Goal, Stand, walks_from, at_count, judged, constant_at, turns_at, in_turn, walk, walk_ways, no_ways, arms_of, arm_taken, all_arms, assign_at, goal, width_in, zeros, constant_passed, given_of}
-use Rattle.vg_range.specs.declared.course.Course as seeing
-use Rattle.vg_range.specs.declared.stand.Stand as standing
+use Rattle.vg_range.specs.Walk.{WalkContext, Goal, WalkState, walks_from, at_count, judged, constant_at, turns_at, in_turn, walk, walk_ways, no_ways, arms_of, arm_taken, all_arms, assign_at, goal, width_in, zeros, constant_passed, given_of}
+use Rattle.vg_range.specs.declared.walk_context.WalkContext as seeing
+use Rattle.vg_range.specs.declared.walk_state.WalkState as standing
 use Rattle.vg_range.specs.declared.goal.Goal as goals
 use Rattle.vg_range.specs.declared.decision.Decision as deciding
 use Rattle.vg_range.specs.declared.decision.Decision.TheVariants as d
 
-abbrev pub sight_view : seeing.Course → Sight
+abbrev pub sight_view : seeing.WalkContext → Sight
 sight_view x = record {
   widths = x.widths.now;
   constants = x.constants.now;
@@ -34,11 +34,11 @@ sight_view x = record {
   walks = walks_from x.is_kept [] (map function_view x.functions.now);
 }
 
-abbrev pub course_view : seeing.Course → Course
-course_view x = record { sight = sight_view x; is_kept = x.is_kept }
+abbrev pub context_view : seeing.WalkContext → WalkContext
+context_view x = record { sight = sight_view x; is_kept = x.is_kept }
 
-abbrev pub stand_view : standing.Stand → Stand
-stand_view w = record {
+abbrev pub state_view : standing.WalkState → WalkState
+state_view w = record {
   numbers = map kept_view w.numbers.items;
   count = count_view w.count;
   script = script_of w.script;
@@ -51,7 +51,7 @@ goal_view g = record { register = g.register; bits = bits_view g.bits }
 abbrev pub leaf : Found → Count → Result (Found × Count) RangeFault
 leaf f c = Ok (f, c)
 
-abbrev pub argument_of : Sight → List Kept → Expr → Count → Result (Passed × Count) RangeFault
+abbrev pub argument_of : Sight → List KnownNumber → Expr → Count → Result (Passed × Count) RangeFault
 argument_of s ks x c = do
   f ← judge s ks x c
   p ← passed (spot_of x) f.0
@@ -69,7 +69,8 @@ either_of y s first t second c = do
   Ok (either y a.0 b.0, b.1)
 
 -- what is left of the uses of expressions, after the last expression in them: here it is known
-abbrev pub slice_behind : Sight → Spot → Bool → ℕ → Option ℕ → Index → Spot → Found → Count → Result (Found × Count) RangeFault
+abbrev pub slice_behind : Sight → Spot → Bool → ℕ → Option ℕ → Index → Spot → Found → Count →
+    Result (Found × Count) RangeFault
 slice_behind s p is_signed r n high t g c =
     index_of t g >>= λ low. slice_at s p.inner is_signed r n high low c
 
@@ -108,15 +109,17 @@ by_condition s first t second (always z) c =
     plain_of (if int_eq z (pos 0) then branch t second c else branch s first c)
 by_condition s first t second (tested y) c = either_of y s first t second c
 
-abbrev pub chosen_by : Result (Condition × Count) RangeFault → Spot → Judges → Spot → Judges → Result (Found × Count) RangeFault
+abbrev pub chosen_by : Result (Condition × Count) RangeFault → Spot → Judges → Spot → Judges →
+    Result (Found × Count) RangeFault
 chosen_by judged s first t second = judged >>= λ d. by_condition s first t second d.0 d.1
 
 -- these arguments, and those that are still to be judged after them
-abbrev pub behind_passed : List Passed → Result (List Passed × Count) RangeFault → Result (List Passed × Count) RangeFault
+abbrev pub behind_passed : List Passed → Result (List Passed × Count) RangeFault →
+    Result (List Passed × Count) RangeFault
 behind_passed done r = r >>= λ g. Ok (done ++ g.0, g.1)
 
 -- another number in a number variable
-abbrev pub number_set : Stand → ℕ → Kept → Stand
+abbrev pub number_set : WalkState → ℕ → KnownNumber → WalkState
 number_set w k n = record { numbers = set w.numbers k n; count = w.count; script = w.script }
 
 -- what stands after the first statement
@@ -128,26 +131,26 @@ rest_code (choose ways rest) = Some rest
 rest_code (pick e arms rest) = Some rest
 rest_code c = None
 
-abbrev pub repeat_at : Course → Place → Expr → Expr → Code → Stand → Result Stand RangeFault
+abbrev pub repeat_at : WalkContext → Place → Expr → Expr → Code → WalkState → Result WalkState RangeFault
 repeat_at x place a b body w = do
   first ← constant_at x w a
   final ← constant_at x first.1 b
   turns_at (λ z u. walk (in_turn x z) body u) place first.0 (count first.0 final.0) final.1
 
-abbrev pub pick_at : Course → Expr → Code → Stand → Result Stand RangeFault
+abbrev pub pick_at : WalkContext → Expr → Code → WalkState → Result WalkState RangeFault
 pick_at x e arms w = do
   f ← judged x w e
   a ← operand (spot_of e) f.0
   arms_of x (at_count w f.1) a (arm_taken x arms) (all_arms x arms)
 
-abbrev pub choose_at : Course → Code → Stand → Result Stand RangeFault
+abbrev pub choose_at : WalkContext → Code → WalkState → Result WalkState RangeFault
 choose_at x ways w = walk_ways x ways w no_ways w.count
 
-abbrev pub skip_at : Place → Stand → Result Stand RangeFault
+abbrev pub skip_at : Place → WalkState → Result WalkState RangeFault
 skip_at place w = step place w.count >>= λ c. Ok (at_count w c)
 
 -- the first statement alone
-abbrev pub first_of : Course → Code → Stand → Result Stand RangeFault
+abbrev pub first_of : WalkContext → Code → WalkState → Result WalkState RangeFault
 first_of x (assign place t e rest) w = assign_at x place t e w
 first_of x (skip place rest) w = skip_at place w
 first_of x (repeat place a b body rest) w = repeat_at x place a b body w
@@ -155,12 +158,12 @@ first_of x (choose ways rest) w = choose_at x ways w
 first_of x (pick e arms rest) w = pick_at x e arms w
 first_of x c w = Ok w
 
-abbrev pub whole_goal : Course → Place → ℕ → ℕ → Result Goal RangeFault
+abbrev pub whole_goal : WalkContext → Place → ℕ → ℕ → Result Goal RangeFault
 whole_goal x place r width =
     bits_of_element place (width_in x r) width (pos 0) >>= λ b. Ok (goal r b)
 
 -- where a body of so many number variables begins
-abbrev pub begun_with : ℕ → Count → Stand
+abbrev pub begun_with : ℕ → Count → WalkState
 begun_with n c = record { numbers = zeros n; count = c; script = stop }
 
 -- the number of the first argument where it is constant, cut to a width

@@ -18,10 +18,10 @@ use Rattle.vg_range.specs.declared.checked.Checked.{Checked}
 use Rattle.vg_range.specs.Acceptance.{named}
 use Rattle.vg_range.specs.Checks.{header_in, operation_in}
 use Rattle.vg_range.specs.Immediates.{has_instance}
-use Rattle.vg_range.specs.Walk.{Stand, instance_at}
+use Rattle.vg_range.specs.Walk.{WalkState, instance_at}
 
 -- an operation whose walk ends here, written out
-abbrev pub whole_from : Resolved → Stand → Whole
+abbrev pub whole_from : Resolved → WalkState → Whole
 whole_from r w = record {
   widths = r.body.widths;
   parameters = r.body.parameters;

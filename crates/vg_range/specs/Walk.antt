@@ -17,15 +17,15 @@ use Rattle.vg_interval.specs.Interval.{between, hull}
 use Rattle.vg_interval.specs.Words as words
 use Rattle.vg_interval.specs.Found.{Found, known, read, handed, bit, within, wide, loose, Operand, fixed, moving, word_of, slice_word, handed_word, operand, condition, Passed, computed, answered}
 use Rattle.vg_interval.specs.Found as found
-use Rattle.vg_interval.specs.Judge.{Kept, constant, varying, Count, step, Walk, Sight, Bits, bits_between, bits_of_element, Index, settled, unsettled, index_of, spot_of, judge}
+use Rattle.vg_interval.specs.Judge.{KnownNumber, constant, varying, Count, step, Walk, Sight, Bits, bits_between, bits_of_element, Index, settled, unsettled, index_of, spot_of, judge}
 
 -- Where a walk stands: what is known of the number variables, the counts, and the script so far.
-pub record Stand : Type 0 where
-  pub numbers : List Kept
+pub record WalkState : Type 0 where
+  pub numbers : List KnownNumber
   pub count : Count
   pub script : Script
 
-abbrev pub at_count : Stand → Count → Stand
+abbrev pub at_count : WalkState → Count → WalkState
 at_count w c = record { numbers = w.numbers; count = c; script = w.script }
 
 abbrev pub is_empty : Script → Bool
@@ -37,11 +37,11 @@ abbrev pub behind : Script → Script → Script
 behind s t = if is_empty t then s else if is_empty s then t else script.both s t
 
 -- what a body sees: also whether scripts are kept, or left empty where the instance is only judged
-pub record Course : Type 0 where
+pub record WalkContext : Type 0 where
   pub sight : Sight
   pub is_kept : Bool
 
-abbrev pub with_script : Course → Script → Stand → Stand
+abbrev pub with_script : WalkContext → Script → WalkState → WalkState
 with_script x s w =
     if x.is_kept then record {
       numbers =
@@ -50,7 +50,7 @@ with_script x s w =
       script = behind w.script s;
     } else w
 
-abbrev pub judged : Course → Stand → Expr → Result (Found × Count) RangeFault
+abbrev pub judged : WalkContext → WalkState → Expr → Result (Found × Count) RangeFault
 judged x w e = judge x.sight w.numbers e w.count
 
 -- a bound or an index of a target, which has to be constant
@@ -58,7 +58,7 @@ abbrev pub constant_index : Place → Index → Result ℤ RangeFault
 constant_index place (settled z) = Ok z
 constant_index place (unsettled a) = Err (DynamicIndex place)
 
-abbrev pub constant_at : Course → Stand → Expr → Result (ℤ × Stand) RangeFault
+abbrev pub constant_at : WalkContext → WalkState → Expr → Result (ℤ × WalkState) RangeFault
 constant_at x w e = do
   f ← judged x w e
   i ← index_of (spot_of e) f.0
@@ -74,11 +74,11 @@ abbrev pub goal : ℕ → Bits → Goal
 goal r b = record { register = r; bits = b }
 
 -- how many bits of a register an assignment can write: 512 are kept
-abbrev pub width_in : Course → ℕ → ℕ
+abbrev pub width_in : WalkContext → ℕ → ℕ
 width_in x r = min 512 (get_or x.sight.widths r 0)
 
 -- the target at this place; None is a number variable
-abbrev pub goal_at : Course → Place → Stand → Target → Result (Option Goal × Stand) RangeFault
+abbrev pub goal_at : WalkContext → Place → WalkState → Target → Result (Option Goal × WalkState) RangeFault
 goal_at x place w (bits r h l) = do
   high ← constant_at x w h
   low ← constant_at x high.1 l
@@ -114,7 +114,7 @@ stored s g (within i y) = put_word s.outer g y
 stored s g (wide y) = put_word s.outer g y
 stored s g (loose y) = Err (TooWide s.inner)
 
-abbrev pub kept_of : Operand → Kept
+abbrev pub kept_of : Operand → KnownNumber
 kept_of (fixed z) = constant z
 kept_of (moving i y) = varying i
 
@@ -123,7 +123,7 @@ target_number (number k) = k
 target_number t = 0
 
 -- an assignment of what its right side gives
-abbrev pub assigned : Course → Spot → Target → Option Goal → Found → Stand → Result Stand RangeFault
+abbrev pub assigned : WalkContext → Spot → Target → Option Goal → Found → WalkState → Result WalkState RangeFault
 assigned x s t (Some g) f w = do
   made ← stored s g f
   Ok (with_script x made w)
@@ -137,29 +137,29 @@ assigned x s t None f w = do
         script = w.script;
       }))
 
-abbrev pub assign_at : Course → Place → Target → Expr → Stand → Result Stand RangeFault
+abbrev pub assign_at : WalkContext → Place → Target → Expr → WalkState → Result WalkState RangeFault
 assign_at x place t e w = do
   c ← step place w.count
   g ← goal_at x place (at_count w c) t
   f ← judged x g.1 e
   assigned x (spot_of e) t g.0 f.0 (at_count g.1 f.1)
 
-abbrev pub kept_span : Kept → Span
+abbrev pub kept_span : KnownNumber → Span
 kept_span (constant z) = between z z
 kept_span (varying i) = i
 
-abbrev pub join_kept : Kept → Kept → Kept
+abbrev pub join_kept : KnownNumber → KnownNumber → KnownNumber
 join_kept (constant y) (constant z) =
     if int_eq y z then constant y else varying (hull (between y y) (between z z))
 join_kept a b = varying (hull (kept_span a) (kept_span b))
 
 -- what is known where either way was taken
-abbrev pub join : List Kept → List Kept → List Kept
+abbrev pub join : List KnownNumber → List KnownNumber → List KnownNumber
 join (a ∷ as') (b ∷ bs) = join_kept a b ∷ join as' bs
 join as' bs = []
 
 -- a body in a turn of a FOR
-abbrev pub in_turn : Course → ℤ → Course
+abbrev pub in_turn : WalkContext → ℤ → WalkContext
 in_turn x z = record {
   sight = record {
     widths = x.sight.widths;
@@ -171,8 +171,8 @@ in_turn x z = record {
 }
 
 -- so many turns, upwards from this number, each of which is a step
-abbrev pub turns_at : (ℤ → Stand → Result Stand RangeFault) → Place → ℤ → ℕ → Stand
-    → Result Stand RangeFault
+abbrev pub turns_at : (ℤ → WalkState → Result WalkState RangeFault) → Place → ℤ → ℕ → WalkState
+    → Result WalkState RangeFault
 turns_at body place z zero w = Ok w
 turns_at body place z (suc n) w = do
   c ← step place w.count
@@ -183,17 +183,17 @@ turns_at body place z (suc n) w = do
 -- known after any of them.
 pub record Ways : Type 0 where
   pub scripts : List (Word × Script)
-  pub joined : Option (List Kept)
+  pub joined : Option (List KnownNumber)
 
 abbrev pub no_ways : Ways
 no_ways = record { scripts = []; joined = None }
 
-abbrev pub joined_with : Option (List Kept) → List Kept → List Kept
+abbrev pub joined_with : Option (List KnownNumber) → List KnownNumber → List KnownNumber
 joined_with None ks = ks
 joined_with (Some js) ks = join js ks
 
 -- one way more
-abbrev pub with_way : Course → Word → Stand → Ways → Ways
+abbrev pub with_way : WalkContext → Word → WalkState → Ways → Ways
 with_way x condition w ways = record {
   scripts = if x.is_kept then (condition, w.script) ∷ ways.scripts else [];
   joined = Some (joined_with ways.joined w.numbers);
@@ -215,7 +215,7 @@ branch_of ws s =
     if does_nothing ws s then script.stop else script.branch (in_front ws (script.last s))
 
 -- the last way is taken where no other is
-abbrev pub closed : Course → Stand → Ways → Stand → Stand
+abbrev pub closed : WalkContext → WalkState → Ways → WalkState → WalkState
 closed x w ways v =
     with_script x (branch_of ways.scripts v.script) (record {
       numbers = joined_with ways.joined v.numbers;
@@ -224,13 +224,13 @@ closed x w ways v =
     })
 
 -- where an IF or a CASE begins, with an empty script and these counts
-abbrev pub beginning : Stand → Count → Stand
+abbrev pub beginning : WalkState → Count → WalkState
 beginning w c = record { numbers = w.numbers; count = c; script = script.stop }
 
 -- Arms that may be taken, the last first, and what is known after any of them or none.
 pub record Arms : Type 0 where
   pub scripts : List (ℕ × Script)
-  pub joined : List Kept
+  pub joined : List KnownNumber
 
 abbrev pub arms_in_front : List (ℕ × Script) → Script → Script
 arms_in_front [] s = s
@@ -244,7 +244,7 @@ abbrev pub pick_of : Word → List (ℕ × Script) → Script
 pick_of y arms =
     if arms_do_nothing arms then script.stop else script.pick y (arms_in_front arms script.stop)
 
-abbrev pub with_arm : Course → ℕ → Stand → Arms → Arms
+abbrev pub with_arm : WalkContext → ℕ → WalkState → Arms → Arms
 with_arm x n w arms = record {
   scripts = if x.is_kept then (n, w.script) ∷ arms.scripts else [];
   joined = join arms.joined w.numbers;
@@ -252,8 +252,8 @@ with_arm x n w arms = record {
 
 -- A CASE, by how one arm is taken and by how all are looked at: a constant selector chooses one,
 -- else all are looked at.
-abbrev pub arms_of : Course → Stand → Operand → (Stand → ℤ → Result Stand RangeFault)
-    → (Stand → Arms → Count → Result (Arms × Count) RangeFault) → Result Stand RangeFault
+abbrev pub arms_of : WalkContext → WalkState → Operand → (WalkState → ℤ → Result WalkState RangeFault)
+    → (WalkState → Arms → Count → Result (Arms × Count) RangeFault) → Result WalkState RangeFault
 arms_of x w (fixed z) one all = one w z
 arms_of x w (moving i y) one all = do
   found ← all w (record { scripts = []; joined = w.numbers }) w.count
@@ -262,14 +262,14 @@ arms_of x w (moving i y) one all = do
 
 -- A way, by how its body goes, what is looked at after a body that may be taken, what else there
 -- is, and what is left after a body that is the last.
-abbrev pub way_taken : Operand → Result Stand RangeFault → (Stand → Result Stand RangeFault)
-    → Result Stand RangeFault → (Stand → Stand) → Result Stand RangeFault
+abbrev pub way_taken : Operand → Result WalkState RangeFault → (WalkState → Result WalkState RangeFault)
+    → Result WalkState RangeFault → (WalkState → WalkState) → Result WalkState RangeFault
 way_taken (fixed z) body more others only =
     if int_eq z (pos 0) then others else (body >>= λ u. Ok (only u))
 way_taken (moving i y) body more others only = body >>= more
 
 abbrev mutual
-  pub walk : Course → Code → Stand → Result Stand RangeFault
+  pub walk : WalkContext → Code → WalkState → Result WalkState RangeFault
   walk x stop w = Ok w
   walk x (assign place t e rest) w = do
     v ← assign_at x place t e w
@@ -295,7 +295,7 @@ abbrev mutual
   walk x (arm n body arms) w = Ok w
 
   -- the ways of an IF that begins here, after those found so far, with the counts after them
-  pub walk_ways : Course → Code → Stand → Ways → Count → Result Stand RangeFault
+  pub walk_ways : WalkContext → Code → WalkState → Ways → Count → Result WalkState RangeFault
   walk_ways x (way c body more) w found n = do
     f ← judge x.sight w.numbers c n
     a ← operand (spot_of c) f.0
@@ -308,13 +308,13 @@ abbrev mutual
   walk_ways x _ w found n = Ok (closed x w found (beginning w n))
 
   -- the first arm of this number
-  pub arm_taken : Course → Code → Stand → ℤ → Result Stand RangeFault
+  pub arm_taken : WalkContext → Code → WalkState → ℤ → Result WalkState RangeFault
   arm_taken x (arm n body more) w z =
       if int_eq z (pos n) then walk x body w else arm_taken x more w z
   arm_taken x _ w z = Ok w
 
   -- all arms of a CASE that begins here, after those found so far
-  pub all_arms : Course → Code → Stand → Arms → Count → Result (Arms × Count) RangeFault
+  pub all_arms : WalkContext → Code → WalkState → Arms → Count → Result (Arms × Count) RangeFault
   all_arms x (arm n body more) w found c = do
     v ← walk x body (beginning w c)
     all_arms x more w (with_arm x n v found) v.count
@@ -339,17 +339,17 @@ given_of (computed y ∷ rest) = script.word y (given_of rest)
 given_of (found.bits r l w ∷ rest) = script.moved r l w (given_of rest)
 
 -- so many number variables as a body begins
-abbrev pub zeros : ℕ → List Kept
+abbrev pub zeros : ℕ → List KnownNumber
 zeros zero = []
 zeros (suc n) = constant (pos 0) ∷ zeros n
 
-abbrev pub course_of : Bool → List Walk → List ℕ → List (Option ℕ) → Course
-course_of is_kept walks widths constants = record {
+abbrev pub context_of : Bool → List Walk → List ℕ → List (Option ℕ) → WalkContext
+context_of is_kept walks widths constants = record {
   sight = record { widths = widths; constants = constants; turns = []; walks = walks };
   is_kept = is_kept;
 }
 
-abbrev pub begun : Body → Count → Stand
+abbrev pub begun : Body → Count → WalkState
 begun b c = record { numbers = zeros b.numbers; count = c; script = script.stop }
 
 -- a call of a DEFINE, where those before it are walked like this
@@ -357,7 +357,7 @@ abbrev pub called : Bool → List Walk → Function → Walk
 called is_kept walks f at given c =
     let ps = take f.body.parameters given in
     let kept = kept_widths f.body.widths in
-    let x = course_of is_kept walks f.body.widths (constants_of kept ps) in do
+    let x = context_of is_kept walks f.body.widths (constants_of kept ps) in do
       w ← walk x f.body.code (begun f.body c)
       g ← judged x w f.answer
       a ← answered (spot_of f.answer) (frame kept f.body.numbers
@@ -377,8 +377,8 @@ imm_constant (suc zero) imm (w ∷ ws) = imm ∷ imm_constant zero None ws
 imm_constant (suc (suc k)) imm (w ∷ ws) = None ∷ imm_constant (suc k) imm ws
 
 -- an instance, for an immediate where the entry has one
-abbrev pub instance_at : Bool → Resolved → Option ℕ → Result Stand RangeFault
+abbrev pub instance_at : Bool → Resolved → Option ℕ → Result WalkState RangeFault
 instance_at is_kept r imm =
-    walk (course_of is_kept (walks_from is_kept [] r.functions) r.body.widths
+    walk (context_of is_kept (walks_from is_kept [] r.functions) r.body.widths
     (imm_constant r.result imm r.body.widths))
     r.body.code (begun r.body (record { steps = 0; is_dynamic = false }))

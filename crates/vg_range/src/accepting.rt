@@ -49,7 +49,8 @@ fn judged_from(alloc: Global, resolved: &Resolved, range: &ImmRange) -> Result<(
 /// All instances of an entry, or the first fault of one.
 #[inline(never)]
 fn judged(alloc: Global, imm: &Option<ImmRange>, resolved: &Resolved) -> Result<(), RangeFault>
-    ensures { Gives (λ u. resolved_of resolved.now) result (judged imm.now (resolved_of resolved.now)) }
+    ensures { Gives (λ u. resolved_of resolved.now) result (judged imm.now (resolved_of
+        resolved.now)) }
 {
     match imm {
         None => {

@@ -8,16 +8,16 @@ ghost use Rattle.vg_interval.specs.Views.{count_view};
 ghost use Rattle.vg_names.specs.Views.{code_view};
 ghost use Rattle.vg_script.specs.Script.{stop};
 ghost use Rattle.vg_script.specs.Views.{script_of, word_of};
-ghost use Rattle.vg_range.specs.Met.{arm_of, arm_view, arms_view, no_arms, picked_by};
-ghost use Rattle.vg_range.specs.Seen.{course_view, stand_view};
+ghost use Rattle.vg_range.specs.Steps.{arm_of, arm_view, arms_view, no_arms, picked_by};
+ghost use Rattle.vg_range.specs.Seen.{context_view, state_view};
 ghost use Rattle.vg_range.specs.Walk.{arms_do_nothing, arms_in_front, is_empty, pick_of, with_arm};
 ghost use Rattle.vg_range.specs.Weight.{code_weight};
 
-use crate::course::Course;
 use crate::joining::join;
-use crate::stand::{Stand, is_empty, with_script};
+use crate::walk_context::WalkContext;
+use crate::walk_state::{WalkState, is_empty, with_script};
 use std::alloc::{AllocError, Global};
-use vg_interval::{Count, Kept};
+use vg_interval::{Count, KnownNumber};
 use vg_names::Code;
 use vg_script::{Script, Word, make_arm, make_pick};
 
@@ -33,16 +33,16 @@ pub struct ArmTaken {
 #[derive(Drop)]
 pub struct Arms {
     pub scripts: Vec<ArmTaken>,
-    pub joined: Vec<Kept>,
+    pub joined: Vec<KnownNumber>,
 }
 
 /// The arms of a CASE before the first: none is found yet, and this is known. Fails for want of
 /// memory alone.
 #[inline(never)]
-pub fn no_arms(alloc: Global, stand: &Stand) -> Result<Box<Arms>, AllocError>
-    ensures { IfOk result (λ a. arms_view a.value ≡ no_arms (stand_view stand.now)) }
+pub fn no_arms(alloc: Global, state: &WalkState) -> Result<Box<Arms>, AllocError>
+    ensures { IfOk result (λ a. arms_view a.value ≡ no_arms (state_view state.now)) }
 {
-    let joined = stand.numbers.clone()?;
+    let joined = state.numbers.clone()?;
     let arms = Arms {
         scripts: Vec::new(alloc),
         joined,
@@ -53,25 +53,25 @@ pub fn no_arms(alloc: Global, stand: &Stand) -> Result<Box<Arms>, AllocError>
 #[tactic(auto, using(crate::proofs::Lists::view_last))]
 fn with_arm(
     alloc: Global,
-    course: &Course,
+    context: &WalkContext,
     number: u128,
-    stand: Box<Stand>,
+    state: Box<WalkState>,
     found: Arms,
 ) -> Result<Arms, AllocError>
     ensures { IfOk result (λ a. arms_view a ≡
-        with_arm (course_view course.now) number (stand_view stand.value) (arms_view found)) }
+        with_arm (context_view context.now) number (state_view state.value) (arms_view found)) }
 {
-    let Stand {
+    let WalkState {
         numbers,
         count: _,
         script: body,
-    } = Box::into_inner(stand);
+    } = Box::into_inner(state);
     let Arms {
         mut scripts,
         joined,
     } = found;
     let joined = join(alloc, joined.as_slice(), numbers.as_slice())?;
-    if course.is_kept {
+    if context.is_kept {
         scripts.push(ArmTaken { number, body })?;
         Ok(Arms { scripts, joined })
     } else {
@@ -81,25 +81,26 @@ fn with_arm(
 }
 
 /// The arms found so far and one of this number that may be taken, which leaves the walk at
-/// `stand`. Fails for want of memory alone.
+/// `state`. Fails for want of memory alone.
 #[inline(never)]
 pub fn one_arm_more(
     alloc: Global,
-    course: &Course,
+    context: &WalkContext,
     number: u128,
-    stand: Box<Stand>,
+    state: Box<WalkState>,
     found: Box<Arms>,
 ) -> Result<Box<Arms>, AllocError>
-    ensures { IfOk result (λ a. arms_view a.value ≡
-        with_arm (course_view course.now) number (stand_view stand.value) (arms_view found.value)) }
+    ensures { IfOk result (λ a. arms_view a.value ≡ with_arm (context_view context.now) number
+        (state_view state.value) (arms_view found.value)) }
 {
-    let arms = with_arm(alloc, course, number, stand, Box::into_inner(found))?;
+    let arms = with_arm(alloc, context, number, state, Box::into_inner(found))?;
     Ok(Box::new(alloc, arms)?)
 }
 
 #[tactic(auto, using(crate::proofs::Lists::view_last))]
 fn arms_in_front(alloc: Global, mut arms: Vec<ArmTaken>) -> Result<Script, AllocError>
-    ensures { IfOk result (λ s. script_of s ≡ arms_in_front (reverse (map arm_view arms.items)) stop) }
+    ensures { IfOk result (λ s. script_of s ≡ arms_in_front (reverse (map arm_view arms.items))
+        stop) }
 {
     let mut script = Script::Stop;
     'arms: while let Some(arm) = arms.pop() {
@@ -121,7 +122,8 @@ fn arms_do_nothing(arms: &[ArmTaken]) -> bool
 }
 
 fn pick_of(alloc: Global, selector: Word, arms: Vec<ArmTaken>) -> Result<Script, AllocError>
-    ensures { IfOk result (λ s. script_of s ≡ pick_of (word_of selector) (reverse (map arm_view arms.items))) }
+    ensures { IfOk result (λ s. script_of s ≡ pick_of (word_of selector) (reverse (map arm_view
+        arms.items))) }
 {
     if arms_do_nothing(arms.as_slice()) {
         Ok(Script::Stop)
@@ -135,31 +137,31 @@ fn pick_of(alloc: Global, selector: Word, arms: Vec<ArmTaken>) -> Result<Script,
 #[inline(never)]
 pub fn picked_by(
     alloc: Global,
-    course: &Course,
+    context: &WalkContext,
     selector: Box<Word>,
-    stand: Box<Stand>,
+    state: Box<WalkState>,
     found: Box<Arms>,
     count: Count,
-) -> Result<Box<Stand>, AllocError>
-    ensures { IfOk result (λ w. stand_view w.value ≡
-        picked_by (course_view course.now) (word_of selector.value) (stand_view stand.value) (arms_view found.value) (count_view count)) }
+) -> Result<Box<WalkState>, AllocError>
+    ensures { IfOk result (λ w. state_view w.value ≡ picked_by (context_view context.now) (word_of
+        selector.value) (state_view state.value) (arms_view found.value) (count_view count)) }
 {
-    let Stand {
+    let WalkState {
         numbers: _,
         count: _,
         script,
-    } = Box::into_inner(stand);
+    } = Box::into_inner(state);
     let Arms { scripts, joined } = Box::into_inner(found);
     let pick = pick_of(alloc, Box::into_inner(selector), scripts)?;
-    let stand = Box::new(
+    let state = Box::new(
         alloc,
-        Stand {
+        WalkState {
             numbers: joined,
             count,
             script,
         },
     )?;
-    with_script(alloc, course, pick, stand)
+    with_script(alloc, context, pick, state)
 }
 
 fn is_number(number: i128, arm: u128) -> bool
@@ -171,7 +173,8 @@ fn is_number(number: i128, arm: u128) -> bool
 /// The body of the first arm of this number.
 pub fn arm_of(number: i128, arms: &Code) -> Option<&Code>
     ensures is { option_map (λ c. code_view c.now) result ≡ arm_of number (code_view arms.now) }
-    ensures inside { IfSome result (λ c. code_weight (code_view c.now) < code_weight (code_view arms.now)) }
+    ensures inside { IfSome result (λ c. code_weight (code_view c.now) < code_weight (code_view
+        arms.now)) }
 {
     let mut left = arms;
     'arms: while let Code::Arm {

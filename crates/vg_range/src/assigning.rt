@@ -5,15 +5,15 @@ ghost use Rattle.std.specs.Option.{option_map};
 ghost use Rattle.vg_interval.specs.Views.{Gives, found_view, kept_view};
 ghost use Rattle.vg_names.specs.Views.{target_view};
 ghost use Rattle.vg_pseudo.specs.Resolved.{number};
-ghost use Rattle.vg_range.specs.Seen.{course_view, goal_view, number_set, stand_view};
+ghost use Rattle.vg_range.specs.Seen.{context_view, goal_view, number_set, state_view};
 ghost use Rattle.vg_range.specs.Walk.{assigned, target_number};
 
-use crate::course::Course;
 use crate::goal::{Goal, kept_of, stored};
-use crate::stand::{Stand, with_script};
+use crate::walk_context::WalkContext;
+use crate::walk_state::{WalkState, with_script};
 use std::alloc::{AllocError, Global};
 use vg_interval::operands::operand;
-use vg_interval::{Found, Kept, RangeFault};
+use vg_interval::{Found, KnownNumber, RangeFault};
 use vg_names::Target;
 use vg_pseudo::Spot;
 use vg_script::make_give;
@@ -28,28 +28,29 @@ pub fn target_number(target: &Target) -> usize
     }
 }
 
-/// The stand where this is known of a number variable. Fails for want of memory alone.
+/// The state where this is known of a number variable. Fails for want of memory alone.
 #[inline(never)]
 #[tactic(auto, using(crate::proofs::Lists::view_set, crate::proofs::Lists::view_set_past))]
 pub fn with_number(
     alloc: Global,
-    stand: Box<Stand>,
+    state: Box<WalkState>,
     variable: usize,
-    kept: Kept,
-) -> Result<Box<Stand>, AllocError>
-    ensures { IfOk result (λ w. stand_view w.value ≡ number_set (stand_view stand.value) variable (kept_view kept)) }
+    kept: KnownNumber,
+) -> Result<Box<WalkState>, AllocError>
+    ensures { IfOk result (λ w. state_view w.value ≡ number_set (state_view state.value) variable
+        (kept_view kept)) }
 {
-    let Stand {
+    let WalkState {
         mut numbers,
         count,
         script,
-    } = Box::into_inner(stand);
+    } = Box::into_inner(state);
     if variable < numbers.len() {
         numbers[variable] = kept;
     }
     Ok(Box::new(
         alloc,
-        Stand {
+        WalkState {
             numbers,
             count,
             script,
@@ -60,19 +61,19 @@ pub fn with_number(
 #[inline(never)]
 fn number_assigned(
     alloc: Global,
-    course: &Course,
+    context: &WalkContext,
     spot: Spot,
     variable: usize,
     found: Found,
-    stand: Box<Stand>,
-) -> Result<Box<Stand>, RangeFault>
-    ensures { Gives (λ w. stand_view w.value) result
-        (assigned (course_view course.now) spot (number variable) None (found_view found) (stand_view stand.value)) }
+    state: Box<WalkState>,
+) -> Result<Box<WalkState>, RangeFault>
+    ensures { Gives (λ w. state_view w.value) result (assigned (context_view context.now) spot
+        (number variable) None (found_view found) (state_view state.value)) }
 {
     let operand = operand(alloc, spot, found)?;
-    let stand = with_number(alloc, stand, variable, kept_of(&operand))?;
+    let state = with_number(alloc, state, variable, kept_of(&operand))?;
     let script = make_give(alloc, variable, operand.into_word())?;
-    Ok(with_script(alloc, course, script, stand)?)
+    Ok(with_script(alloc, context, script, state)?)
 }
 
 /// An assignment of what its right side gives, at its spot, to the bits that are its goal, or to a
@@ -80,21 +81,22 @@ fn number_assigned(
 #[inline(never)]
 pub fn assigned(
     alloc: Global,
-    course: &Course,
+    context: &WalkContext,
     spot: Spot,
     target: &Target,
     goal: Option<Goal>,
     found: Found,
-    stand: Box<Stand>,
-) -> Result<Box<Stand>, RangeFault>
-    ensures { Gives (λ w. stand_view w.value) result
-        (assigned (course_view course.now) spot (target_view target.now) (option_map goal_view goal) (found_view found) (stand_view stand.value)) }
+    state: Box<WalkState>,
+) -> Result<Box<WalkState>, RangeFault>
+    ensures { Gives (λ w. state_view w.value) result (assigned (context_view context.now) spot
+        (target_view target.now) (option_map goal_view goal) (found_view found) (state_view
+        state.value)) }
 {
     match goal {
         Some(goal) => {
             let script = stored(alloc, spot, goal, found)?;
-            Ok(with_script(alloc, course, script, stand)?)
+            Ok(with_script(alloc, context, script, state)?)
         }
-        None => number_assigned(alloc, course, spot, target_number(target), found, stand),
+        None => number_assigned(alloc, context, spot, target_number(target), found, state),
     }
 }

@@ -2,32 +2,32 @@
 
 ghost use Rattle.std.specs.Prelude.{◌≡◌, ◌∷◌, IfOk, map};
 ghost use Rattle.vg_interval.specs.Views.{count_view, kept_view};
-ghost use Rattle.vg_range.specs.Seen.{begun_with, stand_view};
+ghost use Rattle.vg_range.specs.Seen.{begun_with, state_view};
 ghost use Rattle.vg_range.specs.Walk.{beginning, zeros};
 
-use crate::stand::Stand;
+use crate::walk_state::WalkState;
 use std::alloc::{AllocError, Global};
-use vg_interval::{Count, Kept};
+use vg_interval::{Count, KnownNumber};
 use vg_script::{Script, WholeNumber};
 
 /// So many number variables as a body begins: each is 0.
 #[tactic(auto, using(crate::proofs::Lists::zeros_are))]
-fn zeros(alloc: Global, numbers: usize) -> Result<Vec<Kept>, AllocError>
+fn zeros(alloc: Global, numbers: usize) -> Result<Vec<KnownNumber>, AllocError>
     ensures { IfOk result (λ ks. map kept_view ks.items ≡ zeros numbers) }
 {
-    Ok(vec![in alloc; Kept::Constant(0); numbers]?)
+    Ok(vec![in alloc; KnownNumber::Constant(0); numbers]?)
 }
 
 /// Where a body of so many number variables begins, with these counts.
 #[inline(never)]
-pub fn begun(alloc: Global, numbers: usize, count: Count) -> Result<Box<Stand>, AllocError>
-    ensures { IfOk result (λ w. stand_view w.value ≡ begun_with numbers (count_view count)) }
+pub fn begun(alloc: Global, numbers: usize, count: Count) -> Result<Box<WalkState>, AllocError>
+    ensures { IfOk result (λ w. state_view w.value ≡ begun_with numbers (count_view count)) }
 {
     let numbers = zeros(alloc, numbers)?;
     let script = Script::Stop;
     Ok(Box::new(
         alloc,
-        Stand {
+        WalkState {
             numbers,
             count,
             script,
@@ -37,14 +37,19 @@ pub fn begun(alloc: Global, numbers: usize, count: Count) -> Result<Box<Stand>, 
 
 /// Where a way of an IF or an arm of a CASE begins, with an empty script and these counts.
 #[inline(never)]
-pub fn beginning(alloc: Global, stand: &Stand, count: Count) -> Result<Box<Stand>, AllocError>
-    ensures { IfOk result (λ w. stand_view w.value ≡ beginning (stand_view stand.now) (count_view count)) }
+pub fn beginning(
+    alloc: Global,
+    state: &WalkState,
+    count: Count,
+) -> Result<Box<WalkState>, AllocError>
+    ensures { IfOk result (λ w. state_view w.value ≡ beginning (state_view state.now) (count_view
+        count)) }
 {
-    let numbers = stand.numbers.clone()?;
+    let numbers = state.numbers.clone()?;
     let script = Script::Stop;
     Ok(Box::new(
         alloc,
-        Stand {
+        WalkState {
             numbers,
             count,
             script,

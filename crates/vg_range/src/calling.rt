@@ -11,11 +11,11 @@ ghost use Rattle.vg_range.specs.Walk.{called, walks_from};
 
 use crate::beginning::begun;
 use crate::code_walk::walk;
-use crate::course::{Course, MOST_KEPT, boxed, is_constant};
 use crate::frames::{constants_of, given_of};
 use crate::judging::judge;
 use crate::spots::spot_of;
-use crate::stand::Stand;
+use crate::walk_context::{MOST_KEPT, WalkContext, boxed, is_constant};
+use crate::walk_state::WalkState;
 use std::alloc::{AllocError, Global};
 use std::cell::Cell;
 use vg_base::Items;
@@ -48,8 +48,9 @@ fn answered_by(
     count: Count,
 ) -> Result<(Box<Found>, Count), RangeFault>
     requires { widths ≡ kept_widths (function_view function.now).body.widths }
-    ensures { Gives (λ f. (found_view f.0.value, count_view f.1)) result
-        (answered_by (function_view function.now) (map passed_view given.items) (script_of script) (found_view found.value) (count_view count)) }
+    ensures { Gives (λ f. (found_view f.0.value, count_view f.1)) result (answered_by (function_view
+        function.now) (map passed_view given.items) (script_of script) (found_view found.value)
+        (count_view count)) }
 {
     let given = given_of(alloc, given)?;
     let frame = Frame {
@@ -84,15 +85,16 @@ pub fn called(
     given: Vec<Passed>,
     count: Count,
 ) -> Result<(Box<Found>, Count), RangeFault>
-    ensures { Gives (λ f. (found_view f.0.value, count_view f.1)) result
-        (called is_kept (walks_from is_kept [] (map function_view functions.now)) (function_view function.now) spot (map passed_view given.items) (count_view count)) }
+    ensures { Gives (λ f. (found_view f.0.value, count_view f.1)) result (called is_kept (walks_from
+        is_kept [] (map function_view functions.now)) (function_view function.now) spot (map
+        passed_view given.items) (count_view count)) }
 {
     let before = written.get();
     let mut given = given;
     given.truncate(function.body.parameters);
     let kept = kept_widths(alloc, function.body.widths.as_slice())?;
     let constants = constants_of(alloc, kept.as_slice(), given.as_slice())?;
-    let course = Course {
+    let context = WalkContext {
         widths: function.body.widths.as_slice(),
         constants: constants.as_slice(),
         turns: &[],
@@ -101,14 +103,14 @@ pub fn called(
         written,
     };
     let first = begun(alloc, function.body.numbers, count)?;
-    let stand = walk(alloc, &course, &function.body.code, first)?;
-    let numbers = stand.numbers.as_slice();
-    let (found, count) = judge(alloc, &course, numbers, &function.answer, stand.count)?;
-    let Stand {
+    let state = walk(alloc, &context, &function.body.code, first)?;
+    let numbers = state.numbers.as_slice();
+    let (found, count) = judge(alloc, &context, numbers, &function.answer, state.count)?;
+    let WalkState {
         numbers: _,
         count: _,
         script,
-    } = Box::into_inner(stand);
+    } = Box::into_inner(state);
     let (found, count) = answered_by(alloc, function, kept, given, script, found, count)?;
     keep_call(written, before, &found);
     Ok((found, count))
@@ -127,8 +129,9 @@ pub fn called_at(
     given: Vec<Passed>,
     count: Count,
 ) -> Result<(Box<Found>, Count), RangeFault>
-    ensures { Gives (λ f. (found_view f.0.value, count_view f.1)) result
-        (get_or (walks_from is_kept [] (map function_view functions.now)) number no_walk spot (map passed_view given.items) (count_view count)) }
+    ensures { Gives (λ f. (found_view f.0.value, count_view f.1)) result (get_or (walks_from is_kept
+        [] (map function_view functions.now)) number no_walk spot (map passed_view given.items)
+        (count_view count)) }
 {
     if number < functions.len() {
         let function = &functions[number];

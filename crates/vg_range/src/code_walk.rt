@@ -8,14 +8,13 @@ ghost use Rattle.vg_names.specs.Views.{code_view, expr_of, target_view};
 ghost use Rattle.vg_pseudo.specs.Resolved as node;
 ghost use Rattle.vg_script.specs.Views.{number_of, word_of};
 ghost use Rattle.vg_range.specs.Estimates.{decided_at, way_behind};
-ghost use Rattle.vg_range.specs.Met.{arms_found, arms_picked, arms_view, first_arm, first_way, last_at, met_view, picked, rest_arms, selector_view, rest_ways, turn_at, turns_through, ways_view};
-ghost use Rattle.vg_range.specs.Seen.{choose_at, course_view, first_of, goal_view, pick_at, repeat_at, rest_code, sight_view, skip_at, stand_view, whole_goal};
+ghost use Rattle.vg_range.specs.Steps.{arms_found, arms_picked, arms_view, first_arm, first_way, last_at, way_step_view, picked, rest_arms, selector_view, rest_ways, turn_at, turns_through, ways_view};
+ghost use Rattle.vg_range.specs.Seen.{choose_at, context_view, first_of, goal_view, pick_at, repeat_at, rest_code, sight_view, skip_at, state_view, whole_goal};
 ghost use Rattle.vg_range.specs.Walk.{assign_at, beginning, constant_at, goal_at, walk};
 ghost use Rattle.vg_range.specs.Weight.{code_weight};
 
 use crate::arms::{Arms, arm_of, no_arms, one_arm_more, picked_by};
 use crate::beginning::{beginning, turns_within};
-use crate::course::{Course, width_in};
 use crate::decision::Decision;
 use crate::estimating::decided;
 use crate::giving::{given, given_unwritten};
@@ -23,10 +22,11 @@ use crate::goal::{Goal, constant_index};
 use crate::judging::judge;
 use crate::selector::Selector;
 use crate::spots::spot_of;
-use crate::stand::{Stand, at_count};
 use crate::turns::{first_turn, next_turn};
 use crate::uses::selector_in;
-use crate::ways::{Met, Ways, closed, no_ways, one_way_more};
+use crate::walk_context::{WalkContext, width_in};
+use crate::walk_state::{WalkState, at_count};
+use crate::ways::{WayStep, Ways, closed, no_ways, one_way_more};
 use std::alloc::Global;
 use vg_interval::slices::{bits_between, bits_of_element, index_of};
 use vg_interval::{Count, RangeFault};
@@ -34,22 +34,22 @@ use vg_names::{Code, ResolvedExpr, Target};
 use vg_script::{WholeNumber, Word};
 use vg_text::Place;
 
-/// An expression that has to be constant, and the stand after it. DynamicIndex where it is not.
+/// An expression that has to be constant, and the state after it. DynamicIndex where it is not.
 #[inline(never)]
 #[cycle(judging)]
 fn settled(
     alloc: Global,
-    course: &Course,
-    stand: Box<Stand>,
+    context: &WalkContext,
+    state: Box<WalkState>,
     expr: &ResolvedExpr,
-) -> Result<(WholeNumber, Box<Stand>), RangeFault>
-    ensures { Gives (λ z. (number_of z.0, stand_view z.1.value)) result
-        (constant_at (course_view course.now) (stand_view stand.value) (expr_of expr.now)) }
+) -> Result<(WholeNumber, Box<WalkState>), RangeFault>
+    ensures { Gives (λ z. (number_of z.0, state_view z.1.value)) result
+        (constant_at (context_view context.now) (state_view state.value) (expr_of expr.now)) }
 {
-    let (found, count) = judge(alloc, course, stand.numbers.as_slice(), expr, stand.count)?;
+    let (found, count) = judge(alloc, context, state.numbers.as_slice(), expr, state.count)?;
     let index = index_of(alloc, spot_of(expr), Box::into_inner(found))?;
     let number = constant_index(spot_of(expr).outer, index)?;
-    Ok((number, at_count(stand, count)))
+    Ok((number, at_count(state, count)))
 }
 
 /// The target `name[high:low]`
@@ -57,20 +57,21 @@ fn settled(
 #[cycle(judging)]
 fn bits_goal(
     alloc: Global,
-    course: &Course,
+    context: &WalkContext,
     place: Place,
-    stand: Box<Stand>,
+    state: Box<WalkState>,
     register: usize,
     high: &ResolvedExpr,
     low: &ResolvedExpr,
-) -> Result<(Option<Goal>, Box<Stand>), RangeFault>
-    ensures { Gives (λ g. (option_map goal_view g.0, stand_view g.1.value)) result
-        (goal_at (course_view course.now) place (stand_view stand.value) (node.bits register (expr_of high.now) (expr_of low.now))) }
+) -> Result<(Option<Goal>, Box<WalkState>), RangeFault>
+    ensures { Gives (λ g. (option_map goal_view g.0, state_view g.1.value)) result (goal_at
+        (context_view context.now) place (state_view state.value) (node.bits register (expr_of
+        high.now) (expr_of low.now))) }
 {
-    let (last, stand) = settled(alloc, course, stand, high)?;
-    let (first, stand) = settled(alloc, course, stand, low)?;
-    let bits = bits_between(place, width_in(course, register), last, first)?;
-    Ok((Some(Goal { register, bits }), stand))
+    let (last, state) = settled(alloc, context, state, high)?;
+    let (first, state) = settled(alloc, context, state, low)?;
+    let bits = bits_between(place, width_in(context, register), last, first)?;
+    Ok((Some(Goal { register, bits }), state))
 }
 
 /// An element as a target.
@@ -78,32 +79,33 @@ fn bits_goal(
 #[cycle(judging)]
 fn lane_goal(
     alloc: Global,
-    course: &Course,
+    context: &WalkContext,
     place: Place,
-    stand: Box<Stand>,
+    state: Box<WalkState>,
     register: usize,
     size: u32,
     index: &ResolvedExpr,
-) -> Result<(Option<Goal>, Box<Stand>), RangeFault>
-    ensures { Gives (λ g. (option_map goal_view g.0, stand_view g.1.value)) result
-        (goal_at (course_view course.now) place (stand_view stand.value) (node.lane register size (expr_of index.now))) }
+) -> Result<(Option<Goal>, Box<WalkState>), RangeFault>
+    ensures { Gives (λ g. (option_map goal_view g.0, state_view g.1.value)) result (goal_at
+        (context_view context.now) place (state_view state.value) (node.lane register size (expr_of
+        index.now))) }
 {
-    let (index, stand) = settled(alloc, course, stand, index)?;
-    let all = width_in(course, register);
+    let (index, state) = settled(alloc, context, state, index)?;
+    let all = width_in(context, register);
     let bits = bits_of_element(place, all, size as u128, index)?;
-    Ok((Some(Goal { register, bits }), stand))
+    Ok((Some(Goal { register, bits }), state))
 }
 
 #[inline(never)]
 fn whole_goal(
-    course: &Course,
+    context: &WalkContext,
     place: Place,
     register: usize,
     size: u128,
 ) -> Result<Goal, RangeFault>
-    ensures { Gives goal_view result (whole_goal (course_view course.now) place register size) }
+    ensures { Gives goal_view result (whole_goal (context_view context.now) place register size) }
 {
-    let all = width_in(course, register);
+    let all = width_in(context, register);
     let bits = bits_of_element(place, all, size, WholeNumber::Natural(0))?;
     Ok(Goal { register, bits })
 }
@@ -113,30 +115,30 @@ fn whole_goal(
 #[cycle(judging)]
 fn goal_at(
     alloc: Global,
-    course: &Course,
+    context: &WalkContext,
     place: Place,
-    stand: Box<Stand>,
+    state: Box<WalkState>,
     target: &Target,
-) -> Result<(Option<Goal>, Box<Stand>), RangeFault>
-    ensures { Gives (λ g. (option_map goal_view g.0, stand_view g.1.value)) result
-        (goal_at (course_view course.now) place (stand_view stand.value) (target_view target.now)) }
+) -> Result<(Option<Goal>, Box<WalkState>), RangeFault>
+    ensures { Gives (λ g. (option_map goal_view g.0, state_view g.1.value)) result (goal_at
+        (context_view context.now) place (state_view state.value) (target_view target.now)) }
 {
     match target {
         Target::Bits {
             register,
             high,
             low,
-        } => bits_goal(alloc, course, place, stand, *register, high, low),
+        } => bits_goal(alloc, context, place, state, *register, high, low),
         Target::Lane {
             register,
             size,
             index,
-        } => lane_goal(alloc, course, place, stand, *register, *size, index),
+        } => lane_goal(alloc, context, place, state, *register, *size, index),
         Target::Whole { register, size } => {
-            let goal = whole_goal(course, place, *register, *size)?;
-            Ok((Some(goal), stand))
+            let goal = whole_goal(context, place, *register, *size)?;
+            Ok((Some(goal), state))
         }
-        Target::Number { variable: _ } => Ok((None, stand)),
+        Target::Number { variable: _ } => Ok((None, state)),
     }
 }
 
@@ -145,36 +147,37 @@ fn goal_at(
 #[cycle(judging)]
 fn assign_at(
     alloc: Global,
-    course: &Course,
+    context: &WalkContext,
     place: Place,
     target: &Target,
     value: &ResolvedExpr,
-    stand: Box<Stand>,
-) -> Result<Box<Stand>, RangeFault>
-    ensures { Gives (λ w. stand_view w.value) result
-        (assign_at (course_view course.now) place (target_view target.now) (expr_of value.now) (stand_view stand.value)) }
+    state: Box<WalkState>,
+) -> Result<Box<WalkState>, RangeFault>
+    ensures { Gives (λ w. state_view w.value) result (assign_at (context_view context.now) place
+        (target_view target.now) (expr_of value.now) (state_view state.value)) }
 {
-    let count = stand.count.step(place)?;
-    let (goal, stand) = goal_at(alloc, course, place, at_count(stand, count), target)?;
-    if course.is_kept {
-        given(alloc, course, target, goal, value, stand)
+    let count = state.count.step(place)?;
+    let (goal, state) = goal_at(alloc, context, place, at_count(state, count), target)?;
+    if context.is_kept {
+        given(alloc, context, target, goal, value, state)
     } else {
-        given_unwritten(alloc, course, target, goal, value, stand)
+        given_unwritten(alloc, context, target, goal, value, state)
     }
 }
 
 #[inline(never)]
-fn skip_at(place: Place, stand: Box<Stand>) -> Result<Box<Stand>, RangeFault>
-    ensures { Gives (λ w. stand_view w.value) result (skip_at place (stand_view stand.value)) }
+fn skip_at(place: Place, state: Box<WalkState>) -> Result<Box<WalkState>, RangeFault>
+    ensures { Gives (λ w. state_view w.value) result (skip_at place (state_view state.value)) }
 {
-    let count = stand.count.step(place)?;
-    Ok(at_count(stand, count))
+    let count = state.count.step(place)?;
+    Ok(at_count(state, count))
 }
 
 /// What stands after the first of these statements; none where there is no statement.
 fn behind_first(code: &Code) -> Option<&Code>
     ensures is { option_map (λ c. code_view c.now) result ≡ rest_code (code_view code.now) }
-    ensures inside { IfSome result (λ c. code_weight (code_view c.now) < code_weight (code_view code.now)) }
+    ensures inside { IfSome result (λ c. code_weight (code_view c.now) < code_weight (code_view
+        code.now)) }
 {
     match code {
         Code::Assign { rest, .. } => Some(rest),
@@ -191,26 +194,26 @@ fn behind_first(code: &Code) -> Option<&Code>
 #[cycle(judging)]
 fn turn_at(
     alloc: Global,
-    course: &Course,
+    context: &WalkContext,
     place: Place,
     body: &Code,
     turn: WholeNumber,
-    stand: Box<Stand>,
-) -> Result<Box<Stand>, RangeFault>
-    ensures { Gives (λ w. stand_view w.value) result
-        (turn_at (course_view course.now) place (code_view body.now) (number_of turn) (stand_view stand.value)) }
+    state: Box<WalkState>,
+) -> Result<Box<WalkState>, RangeFault>
+    ensures { Gives (λ w. state_view w.value) result (turn_at (context_view context.now) place
+        (code_view body.now) (number_of turn) (state_view state.value)) }
 {
-    let count = stand.count.step(place)?;
-    let turns = turns_within(alloc, turn, course.turns)?;
-    let inner = Course {
-        widths: course.widths,
-        constants: course.constants,
+    let count = state.count.step(place)?;
+    let turns = turns_within(alloc, turn, context.turns)?;
+    let inner = WalkContext {
+        widths: context.widths,
+        constants: context.constants,
         turns: turns.as_slice(),
-        functions: course.functions,
-        is_kept: course.is_kept,
-        written: course.written,
+        functions: context.functions,
+        is_kept: context.is_kept,
+        written: context.written,
     };
-    walk(alloc, &inner, body, at_count(stand, count))
+    walk(alloc, &inner, body, at_count(state, count))
 }
 
 /// The turns of a FOR from the first to the last, in a loop.
@@ -218,23 +221,23 @@ fn turn_at(
 #[cycle(judging)]
 fn turns_through(
     alloc: Global,
-    course: &Course,
+    context: &WalkContext,
     place: Place,
     body: &Code,
     first: WholeNumber,
     last: WholeNumber,
-    stand: Box<Stand>,
-) -> Result<Box<Stand>, RangeFault>
-    ensures { Gives (λ w. stand_view w.value) result
-        (turns_through (course_view course.now) place (code_view body.now) (number_of first) (number_of last) (stand_view stand.value)) }
+    state: Box<WalkState>,
+) -> Result<Box<WalkState>, RangeFault>
+    ensures { Gives (λ w. state_view w.value) result (turns_through (context_view context.now) place
+        (code_view body.now) (number_of first) (number_of last) (state_view state.value)) }
 {
     let mut left = first_turn(first, last);
-    let mut stand = stand;
+    let mut state = state;
     'turns: loop {
         match left {
-            None => return Ok(stand),
+            None => return Ok(state),
             Some(turn) => {
-                stand = turn_at(alloc, course, place, body, turn, stand)?;
+                state = turn_at(alloc, context, place, body, turn, state)?;
                 left = next_turn(turn, last);
             }
         }
@@ -246,19 +249,19 @@ fn turns_through(
 #[cycle(judging)]
 fn repeat_at(
     alloc: Global,
-    course: &Course,
+    context: &WalkContext,
     place: Place,
     first: &ResolvedExpr,
     last: &ResolvedExpr,
     body: &Code,
-    stand: Box<Stand>,
-) -> Result<Box<Stand>, RangeFault>
-    ensures { Gives (λ w. stand_view w.value) result
-        (repeat_at (course_view course.now) place (expr_of first.now) (expr_of last.now) (code_view body.now) (stand_view stand.value)) }
+    state: Box<WalkState>,
+) -> Result<Box<WalkState>, RangeFault>
+    ensures { Gives (λ w. state_view w.value) result (repeat_at (context_view context.now) place
+        (expr_of first.now) (expr_of last.now) (code_view body.now) (state_view state.value)) }
 {
-    let (one, stand) = settled(alloc, course, stand, first)?;
-    let (other, stand) = settled(alloc, course, stand, last)?;
-    turns_through(alloc, course, place, body, one, other, stand)
+    let (one, state) = settled(alloc, context, state, first)?;
+    let (other, state) = settled(alloc, context, state, last)?;
+    turns_through(alloc, context, place, body, one, other, state)
 }
 
 /// What a way or an arm that begins here does.
@@ -266,16 +269,16 @@ fn repeat_at(
 #[cycle(judging)]
 fn walk_apart(
     alloc: Global,
-    course: &Course,
-    stand: &Stand,
+    context: &WalkContext,
+    state: &WalkState,
     body: &Code,
     count: Count,
-) -> Result<Box<Stand>, RangeFault>
-    ensures { Gives (λ w. stand_view w.value) result
-        (walk (course_view course.now) (code_view body.now) (beginning (stand_view stand.now) (count_view count))) }
+) -> Result<Box<WalkState>, RangeFault>
+    ensures { Gives (λ w. state_view w.value) result (walk (context_view context.now) (code_view
+        body.now) (beginning (state_view state.now) (count_view count))) }
 {
-    let begun = beginning(alloc, stand, count)?;
-    walk(alloc, course, body, begun)
+    let begun = beginning(alloc, state, count)?;
+    walk(alloc, context, body, begun)
 }
 
 /// A way by its condition and its body.
@@ -283,32 +286,33 @@ fn walk_apart(
 #[cycle(judging)]
 fn way_at(
     alloc: Global,
-    course: &Course,
-    stand: &Stand,
+    context: &WalkContext,
+    state: &WalkState,
     condition: &ResolvedExpr,
     body: &Code,
     found: Box<Ways>,
     count: Count,
-) -> Result<Met, RangeFault>
-    ensures { Gives met_view result
-        (way_behind (course_view course.now) (code_view body.now) (stand_view stand.now) (ways_view found.value)
-        (decided_at course.now.is_kept (spot_of (expr_of condition.now)) (judge (sight_view course.now) (map kept_view stand.now.numbers.items) (expr_of condition.now) (count_view count)))) }
+) -> Result<WayStep, RangeFault>
+    ensures { Gives way_step_view result (way_behind (context_view context.now) (code_view body.now)
+        (state_view state.now) (ways_view found.value) (decided_at context.now.is_kept (spot_of
+        (expr_of condition.now)) (judge (sight_view context.now) (map kept_view
+        state.now.numbers.items) (expr_of condition.now) (count_view count)))) }
 {
-    let (condition, count) = decided(alloc, course, stand.numbers.as_slice(), condition, count)?;
+    let (condition, count) = decided(alloc, context, state.numbers.as_slice(), condition, count)?;
     match Box::into_inner(condition) {
         Decision::Always(z) => {
             if z == 0 {
-                Ok(Met::Further { found, count })
+                Ok(WayStep::Further { found, count })
             } else {
-                let last = walk_apart(alloc, course, stand, body, count)?;
-                Ok(Met::Final { found, last })
+                let last = walk_apart(alloc, context, state, body, count)?;
+                Ok(WayStep::Final { found, last })
             }
         }
         Decision::Tested { word } => {
-            let taken = walk_apart(alloc, course, stand, body, count)?;
+            let taken = walk_apart(alloc, context, state, body, count)?;
             let count = taken.count;
-            let found = one_way_more(alloc, course, word, taken, found)?;
-            Ok(Met::Further { found, count })
+            let found = one_way_more(alloc, context, word, taken, found)?;
+            Ok(WayStep::Further { found, count })
         }
     }
 }
@@ -318,17 +322,17 @@ fn way_at(
 #[cycle(judging)]
 fn last_at(
     alloc: Global,
-    course: &Course,
-    stand: &Stand,
+    context: &WalkContext,
+    state: &WalkState,
     code: &Code,
     count: Count,
-) -> Result<Box<Stand>, RangeFault>
-    ensures { Gives (λ w. stand_view w.value) result
-        (last_at (course_view course.now) (code_view code.now) (stand_view stand.now) (count_view count)) }
+) -> Result<Box<WalkState>, RangeFault>
+    ensures { Gives (λ w. state_view w.value) result (last_at (context_view context.now) (code_view
+        code.now) (state_view state.now) (count_view count)) }
 {
     match code {
-        Code::Last { body } => walk_apart(alloc, course, stand, body, count),
-        _ => Ok(beginning(alloc, stand, count)?),
+        Code::Last { body } => walk_apart(alloc, context, state, body, count),
+        _ => Ok(beginning(alloc, state, count)?),
     }
 }
 
@@ -337,24 +341,24 @@ fn last_at(
 #[cycle(judging)]
 fn first_way(
     alloc: Global,
-    course: &Course,
-    stand: &Stand,
+    context: &WalkContext,
+    state: &WalkState,
     code: &Code,
     found: Box<Ways>,
     count: Count,
-) -> Result<Met, RangeFault>
-    ensures { Gives met_view result
-        (first_way (course_view course.now) (code_view code.now) (stand_view stand.now) (ways_view found.value) (count_view count)) }
+) -> Result<WayStep, RangeFault>
+    ensures { Gives way_step_view result (first_way (context_view context.now) (code_view code.now)
+        (state_view state.now) (ways_view found.value) (count_view count)) }
 {
     match code {
         Code::Way {
             condition,
             body,
             ways: _,
-        } => way_at(alloc, course, stand, condition, body, found, count),
+        } => way_at(alloc, context, state, condition, body, found, count),
         _ => {
-            let last = last_at(alloc, course, stand, code, count)?;
-            Ok(Met::Final { found, last })
+            let last = last_at(alloc, context, state, code, count)?;
+            Ok(WayStep::Final { found, last })
         }
     }
 }
@@ -362,7 +366,8 @@ fn first_way(
 /// The ways after the first of these; none where there is no way.
 fn behind_way(code: &Code) -> Option<&Code>
     ensures is { option_map (λ c. code_view c.now) result ≡ rest_ways (code_view code.now) }
-    ensures inside { IfSome result (λ c. code_weight (code_view c.now) < code_weight (code_view code.now)) }
+    ensures inside { IfSome result (λ c. code_weight (code_view c.now) < code_weight (code_view
+        code.now)) }
 {
     match code {
         Code::Way { ways, .. } => Some(ways),
@@ -375,26 +380,27 @@ fn behind_way(code: &Code) -> Option<&Code>
 #[cycle(judging)]
 fn choose_at(
     alloc: Global,
-    course: &Course,
+    context: &WalkContext,
     ways: &Code,
-    stand: Box<Stand>,
-) -> Result<Box<Stand>, RangeFault>
-    ensures { Gives (λ w. stand_view w.value) result (choose_at (course_view course.now) (code_view ways.now) (stand_view stand.value)) }
+    state: Box<WalkState>,
+) -> Result<Box<WalkState>, RangeFault>
+    ensures { Gives (λ w. state_view w.value) result (choose_at (context_view context.now)
+        (code_view ways.now) (state_view state.value)) }
 {
     let mut found = no_ways(alloc)?;
-    let mut count = stand.count;
+    let mut count = state.count;
     let mut left = ways;
     'ways: loop {
         match behind_way(left) {
             None => {
-                let last = last_at(alloc, course, &stand, left, count)?;
-                return Ok(closed(alloc, course, stand, found, last)?);
+                let last = last_at(alloc, context, &state, left, count)?;
+                return Ok(closed(alloc, context, state, found, last)?);
             }
-            Some(others) => match first_way(alloc, course, &stand, left, found, count)? {
-                Met::Final { found: all, last } => {
-                    return Ok(closed(alloc, course, stand, all, last)?);
+            Some(others) => match first_way(alloc, context, &state, left, found, count)? {
+                WayStep::Final { found: all, last } => {
+                    return Ok(closed(alloc, context, state, all, last)?);
                 }
-                Met::Further {
+                WayStep::Further {
                     found: more,
                     count: behind,
                 } => {
@@ -412,14 +418,15 @@ fn choose_at(
 #[cycle(judging)]
 fn first_arm(
     alloc: Global,
-    course: &Course,
-    stand: &Stand,
+    context: &WalkContext,
+    state: &WalkState,
     code: &Code,
     found: Box<Arms>,
     count: Count,
 ) -> Result<(Box<Arms>, Count), RangeFault>
-    ensures { Gives (λ g. (arms_view g.0.value, count_view g.1)) result
-        (first_arm (course_view course.now) (code_view code.now) (stand_view stand.now) (arms_view found.value) (count_view count)) }
+    ensures { Gives (λ g. (arms_view g.0.value, count_view g.1)) result (first_arm (context_view
+        context.now) (code_view code.now) (state_view state.now) (arms_view found.value) (count_view
+        count)) }
 {
     match code {
         Code::Arm {
@@ -427,9 +434,9 @@ fn first_arm(
             body,
             arms: _,
         } => {
-            let taken = walk_apart(alloc, course, stand, body, count)?;
+            let taken = walk_apart(alloc, context, state, body, count)?;
             let count = taken.count;
-            let found = one_arm_more(alloc, course, *number, taken, found)?;
+            let found = one_arm_more(alloc, context, *number, taken, found)?;
             Ok((found, count))
         }
         _ => Ok((found, count)),
@@ -439,7 +446,8 @@ fn first_arm(
 /// The arms after the first of these; none where there is no arm.
 fn behind_arm(code: &Code) -> Option<&Code>
     ensures is { option_map (λ c. code_view c.now) result ≡ rest_arms (code_view code.now) }
-    ensures inside { IfSome result (λ c. code_weight (code_view c.now) < code_weight (code_view code.now)) }
+    ensures inside { IfSome result (λ c. code_weight (code_view c.now) < code_weight (code_view
+        code.now)) }
 {
     match code {
         Code::Arm { arms, .. } => Some(arms),
@@ -452,21 +460,21 @@ fn behind_arm(code: &Code) -> Option<&Code>
 #[cycle(judging)]
 fn arms_found(
     alloc: Global,
-    course: &Course,
+    context: &WalkContext,
     arms: &Code,
-    stand: &Stand,
+    state: &WalkState,
 ) -> Result<(Box<Arms>, Count), RangeFault>
     ensures { Gives (λ g. (arms_view g.0.value, count_view g.1)) result
-        (arms_found (course_view course.now) (code_view arms.now) (stand_view stand.now)) }
+        (arms_found (context_view context.now) (code_view arms.now) (state_view state.now)) }
 {
-    let mut found = no_arms(alloc, stand)?;
-    let mut count = stand.count;
+    let mut found = no_arms(alloc, state)?;
+    let mut count = state.count;
     let mut left = arms;
     'arms: loop {
         match behind_arm(left) {
             None => return Ok((found, count)),
             Some(others) => {
-                let (more, behind) = first_arm(alloc, course, stand, left, found, count)?;
+                let (more, behind) = first_arm(alloc, context, state, left, found, count)?;
                 found = more;
                 count = behind;
                 left = others;
@@ -480,16 +488,16 @@ fn arms_found(
 #[cycle(judging)]
 fn arms_picked(
     alloc: Global,
-    course: &Course,
+    context: &WalkContext,
     arms: &Code,
     selector: Box<Word>,
-    stand: Box<Stand>,
-) -> Result<Box<Stand>, RangeFault>
-    ensures { Gives (λ w. stand_view w.value) result
-        (arms_picked (course_view course.now) (code_view arms.now) (word_of selector.value) (stand_view stand.value)) }
+    state: Box<WalkState>,
+) -> Result<Box<WalkState>, RangeFault>
+    ensures { Gives (λ w. state_view w.value) result (arms_picked (context_view context.now)
+        (code_view arms.now) (word_of selector.value) (state_view state.value)) }
 {
-    let (found, count) = arms_found(alloc, course, arms, &stand)?;
-    Ok(picked_by(alloc, course, selector, stand, found, count)?)
+    let (found, count) = arms_found(alloc, context, arms, &state)?;
+    Ok(picked_by(alloc, context, selector, state, found, count)?)
 }
 
 /// A CASE by its selector: a constant takes one arm, else all are looked at.
@@ -497,20 +505,20 @@ fn arms_picked(
 #[cycle(judging)]
 fn picked(
     alloc: Global,
-    course: &Course,
+    context: &WalkContext,
     arms: &Code,
-    stand: Box<Stand>,
+    state: Box<WalkState>,
     selector: Selector,
-) -> Result<Box<Stand>, RangeFault>
-    ensures { Gives (λ w. stand_view w.value) result
-        (picked (course_view course.now) (code_view arms.now) (stand_view stand.value) (selector_view selector)) }
+) -> Result<Box<WalkState>, RangeFault>
+    ensures { Gives (λ w. state_view w.value) result (picked (context_view context.now) (code_view
+        arms.now) (state_view state.value) (selector_view selector)) }
 {
     match selector {
         Selector::Fixed(number) => match arm_of(number, arms) {
-            Some(body) => walk(alloc, course, body, stand),
-            None => Ok(stand),
+            Some(body) => walk(alloc, context, body, state),
+            None => Ok(state),
         },
-        Selector::Moving { span: _, word } => arms_picked(alloc, course, arms, word, stand),
+        Selector::Moving { span: _, word } => arms_picked(alloc, context, arms, word, state),
     }
 }
 
@@ -519,24 +527,24 @@ fn picked(
 #[cycle(judging)]
 fn pick_at(
     alloc: Global,
-    course: &Course,
+    context: &WalkContext,
     selector: &ResolvedExpr,
     arms: &Code,
-    stand: Box<Stand>,
-) -> Result<Box<Stand>, RangeFault>
-    ensures { Gives (λ w. stand_view w.value) result
-        (pick_at (course_view course.now) (expr_of selector.now) (code_view arms.now) (stand_view stand.value)) }
+    state: Box<WalkState>,
+) -> Result<Box<WalkState>, RangeFault>
+    ensures { Gives (λ w. state_view w.value) result (pick_at (context_view context.now) (expr_of
+        selector.now) (code_view arms.now) (state_view state.value)) }
 {
     let (found, count) = judge(
         alloc,
-        course,
-        stand.numbers.as_slice(),
+        context,
+        state.numbers.as_slice(),
         selector,
-        stand.count,
+        state.count,
     )?;
     let selector = selector_in(alloc, selector, found)?;
-    let stand = at_count(stand, count);
-    picked(alloc, course, arms, stand, Box::into_inner(selector))
+    let state = at_count(state, count);
+    picked(alloc, context, arms, state, Box::into_inner(selector))
 }
 
 /// The first of these statements alone.
@@ -544,11 +552,12 @@ fn pick_at(
 #[cycle(judging)]
 fn first_of(
     alloc: Global,
-    course: &Course,
+    context: &WalkContext,
     code: &Code,
-    stand: Box<Stand>,
-) -> Result<Box<Stand>, RangeFault>
-    ensures { Gives (λ w. stand_view w.value) result (first_of (course_view course.now) (code_view code.now) (stand_view stand.value)) }
+    state: Box<WalkState>,
+) -> Result<Box<WalkState>, RangeFault>
+    ensures { Gives (λ w. state_view w.value) result (first_of (context_view context.now) (code_view
+        code.now) (state_view state.value)) }
 {
     match code {
         Code::Assign {
@@ -556,22 +565,22 @@ fn first_of(
             target,
             value,
             rest: _,
-        } => assign_at(alloc, course, *place, target, value, stand),
-        Code::Skip { place, rest: _ } => skip_at(*place, stand),
+        } => assign_at(alloc, context, *place, target, value, state),
+        Code::Skip { place, rest: _ } => skip_at(*place, state),
         Code::Repeat {
             place,
             first,
             last,
             body,
             rest: _,
-        } => repeat_at(alloc, course, *place, first, last, body, stand),
-        Code::Choose { ways, rest: _ } => choose_at(alloc, course, ways, stand),
+        } => repeat_at(alloc, context, *place, first, last, body, state),
+        Code::Choose { ways, rest: _ } => choose_at(alloc, context, ways, state),
         Code::Pick {
             selector,
             arms,
             rest: _,
-        } => pick_at(alloc, course, selector, arms, stand),
-        _ => Ok(stand),
+        } => pick_at(alloc, context, selector, arms, state),
+        _ => Ok(state),
     }
 }
 
@@ -580,19 +589,20 @@ fn first_of(
 #[cycle(judging)]
 pub fn walk(
     alloc: Global,
-    course: &Course,
+    context: &WalkContext,
     code: &Code,
-    stand: Box<Stand>,
-) -> Result<Box<Stand>, RangeFault>
-    ensures { Gives (λ w. stand_view w.value) result (walk (course_view course.now) (code_view code.now) (stand_view stand.value)) }
+    state: Box<WalkState>,
+) -> Result<Box<WalkState>, RangeFault>
+    ensures { Gives (λ w. state_view w.value) result (walk (context_view context.now) (code_view
+        code.now) (state_view state.value)) }
 {
-    let mut stand = stand;
+    let mut state = state;
     let mut left = code;
     'statements: loop {
         match behind_first(left) {
-            None => return Ok(stand),
+            None => return Ok(state),
             Some(rest) => {
-                stand = first_of(alloc, course, left, stand)?;
+                state = first_of(alloc, context, left, state)?;
                 left = rest;
             }
         }

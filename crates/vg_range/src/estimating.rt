@@ -9,15 +9,15 @@ ghost use Rattle.vg_pseudo.specs.Resolved as node;
 ghost use Rattle.vg_range.specs.Estimates.{decided_at, estimate_of, joined_estimate};
 ghost use Rattle.vg_range.specs.Seen.{decision_view, sight_view};
 
-use crate::course::Course;
 use crate::decision::Decision;
 use crate::estimates::{condition_by, kept_found, kept_joined};
 use crate::judging::{judge, slice_of, tested};
 use crate::spots::spot_of;
+use crate::walk_context::WalkContext;
 use std::alloc::Global;
 use vg_interval::binary_uses::is_shift;
 use vg_interval::moving::slice_at;
-use vg_interval::{Count, Index, Kept, RangeFault};
+use vg_interval::{Count, Index, KnownNumber, RangeFault};
 use vg_names::ResolvedExpr;
 use vg_pseudo::{BinaryOp, Spot};
 use vg_script::WholeNumber;
@@ -27,13 +27,14 @@ use vg_script::WholeNumber;
 #[cycle(judging)]
 pub fn estimate(
     alloc: Global,
-    course: &Course,
-    numbers: &[Kept],
+    context: &WalkContext,
+    numbers: &[KnownNumber],
     expr: &ResolvedExpr,
     count: Count,
-) -> Result<(Kept, Count), RangeFault>
-    ensures { Gives (λ k. (kept_view k.0, count_view k.1)) result
-        (estimate_of (spot_of (expr_of expr.now)) (judge (sight_view course.now) (map kept_view numbers.now) (expr_of expr.now) (count_view count))) }
+) -> Result<(KnownNumber, Count), RangeFault>
+    ensures { Gives (λ k. (kept_view k.0, count_view k.1)) result (estimate_of (spot_of (expr_of
+        expr.now)) (judge (sight_view context.now) (map kept_view numbers.now) (expr_of expr.now)
+        (count_view count))) }
 {
     match expr {
         ResolvedExpr::Slice {
@@ -44,7 +45,7 @@ pub fn estimate(
             high,
             low,
         } => slice(
-            alloc, course, numbers, spot, *is_signed, *register, spread, high, low, count,
+            alloc, context, numbers, spot, *is_signed, *register, spread, high, low, count,
         ),
         ResolvedExpr::Binary {
             spot,
@@ -53,12 +54,12 @@ pub fn estimate(
             right,
         } => {
             if is_shift(*op) {
-                judged(alloc, course, numbers, expr, count)
+                judged(alloc, context, numbers, expr, count)
             } else {
-                joined(alloc, course, numbers, spot, *op, left, right, count)
+                joined(alloc, context, numbers, spot, *op, left, right, count)
             }
         }
-        _ => judged(alloc, course, numbers, expr, count),
+        _ => judged(alloc, context, numbers, expr, count),
     }
 }
 
@@ -67,15 +68,16 @@ pub fn estimate(
 #[cycle(judging)]
 fn judged(
     alloc: Global,
-    course: &Course,
-    numbers: &[Kept],
+    context: &WalkContext,
+    numbers: &[KnownNumber],
     expr: &ResolvedExpr,
     count: Count,
-) -> Result<(Kept, Count), RangeFault>
-    ensures { Gives (λ k. (kept_view k.0, count_view k.1)) result
-        (estimate_of (spot_of (expr_of expr.now)) (judge (sight_view course.now) (map kept_view numbers.now) (expr_of expr.now) (count_view count))) }
+) -> Result<(KnownNumber, Count), RangeFault>
+    ensures { Gives (λ k. (kept_view k.0, count_view k.1)) result (estimate_of (spot_of (expr_of
+        expr.now)) (judge (sight_view context.now) (map kept_view numbers.now) (expr_of expr.now)
+        (count_view count))) }
 {
-    let (found, count) = judge(alloc, course, numbers, expr, count)?;
+    let (found, count) = judge(alloc, context, numbers, expr, count)?;
     let kept = kept_found(spot_of(expr), &found)?;
     Ok((kept, count))
 }
@@ -85,7 +87,7 @@ fn judged(
 #[tactic(auto, using(crate::proofs::Lists::seen_slice))]
 fn slice_at_numbers(
     alloc: Global,
-    course: &Course,
+    context: &WalkContext,
     spot: &Spot,
     is_signed: bool,
     register: usize,
@@ -93,14 +95,15 @@ fn slice_at_numbers(
     high: u128,
     low: u128,
     count: Count,
-) -> Result<(Kept, Count), RangeFault>
-    ensures { Gives (λ k. (kept_view k.0, count_view k.1)) result
-        (estimate_of spot.now (slice_at (sight_view course.now) spot.now.inner is_signed register spread.now (settled (pos high)) (settled (pos low)) (count_view count))) }
+) -> Result<(KnownNumber, Count), RangeFault>
+    ensures { Gives (λ k. (kept_view k.0, count_view k.1)) result (estimate_of spot.now (slice_at
+        (sight_view context.now) spot.now.inner is_signed register spread.now (settled (pos high))
+        (settled (pos low)) (count_view count))) }
 {
     let (found, count) = slice_at(
         alloc,
-        course.widths,
-        course.constants,
+        context.widths,
+        context.constants,
         spot.inner,
         is_signed,
         register,
@@ -118,8 +121,8 @@ fn slice_at_numbers(
 #[cycle(judging)]
 fn slice(
     alloc: Global,
-    course: &Course,
-    numbers: &[Kept],
+    context: &WalkContext,
+    numbers: &[KnownNumber],
     spot: &Spot,
     is_signed: bool,
     register: usize,
@@ -127,10 +130,10 @@ fn slice(
     high: &ResolvedExpr,
     low: &ResolvedExpr,
     count: Count,
-) -> Result<(Kept, Count), RangeFault>
-    ensures { Gives (λ k. (kept_view k.0, count_view k.1)) result
-        (estimate_of spot.now (judge (sight_view course.now) (map kept_view numbers.now)
-        (node.slice spot.now is_signed register spread.now (expr_of high.now) (expr_of low.now)) (count_view count))) }
+) -> Result<(KnownNumber, Count), RangeFault>
+    ensures { Gives (λ k. (kept_view k.0, count_view k.1)) result (estimate_of spot.now (judge
+        (sight_view context.now) (map kept_view numbers.now) (node.slice spot.now is_signed register
+        spread.now (expr_of high.now) (expr_of low.now)) (count_view count))) }
 {
     match (high, low) {
         (
@@ -143,11 +146,11 @@ fn slice(
                 value: first,
             },
         ) => slice_at_numbers(
-            alloc, course, spot, is_signed, register, spread, *last, *first, count,
+            alloc, context, spot, is_signed, register, spread, *last, *first, count,
         ),
         _ => {
             let (found, count) = slice_of(
-                alloc, course, numbers, spot, is_signed, register, spread, high, low, count,
+                alloc, context, numbers, spot, is_signed, register, spread, high, low, count,
             )?;
             let kept = kept_found(*spot, &found)?;
             Ok((kept, count))
@@ -160,19 +163,20 @@ fn slice(
 #[cycle(judging)]
 fn joined(
     alloc: Global,
-    course: &Course,
-    numbers: &[Kept],
+    context: &WalkContext,
+    numbers: &[KnownNumber],
     spot: &Spot,
     op: BinaryOp,
     left: &ResolvedExpr,
     right: &ResolvedExpr,
     count: Count,
-) -> Result<(Kept, Count), RangeFault>
-    ensures { Gives (λ k. (kept_view k.0, count_view k.1)) result
-        (joined_estimate (sight_view course.now) (map kept_view numbers.now) spot.now op (expr_of left.now) (expr_of right.now) (count_view count)) }
+) -> Result<(KnownNumber, Count), RangeFault>
+    ensures { Gives (λ k. (kept_view k.0, count_view k.1)) result (joined_estimate (sight_view
+        context.now) (map kept_view numbers.now) spot.now op (expr_of left.now) (expr_of right.now)
+        (count_view count)) }
 {
-    let (first, count) = estimate(alloc, course, numbers, left, count)?;
-    let (second, count) = estimate(alloc, course, numbers, right, count)?;
+    let (first, count) = estimate(alloc, context, numbers, left, count)?;
+    let (second, count) = estimate(alloc, context, numbers, right, count)?;
     let kept = kept_joined(*spot, op, first, second)?;
     Ok((kept, count))
 }
@@ -182,18 +186,19 @@ fn joined(
 #[cycle(judging)]
 pub fn decided(
     alloc: Global,
-    course: &Course,
-    numbers: &[Kept],
+    context: &WalkContext,
+    numbers: &[KnownNumber],
     expr: &ResolvedExpr,
     count: Count,
 ) -> Result<(Box<Decision>, Count), RangeFault>
-    ensures { Gives (λ d. (decision_view d.0.value, count_view d.1)) result
-        (decided_at course.now.is_kept (spot_of (expr_of expr.now)) (judge (sight_view course.now) (map kept_view numbers.now) (expr_of expr.now) (count_view count))) }
+    ensures { Gives (λ d. (decision_view d.0.value, count_view d.1)) result (decided_at
+        context.now.is_kept (spot_of (expr_of expr.now)) (judge (sight_view context.now) (map
+        kept_view numbers.now) (expr_of expr.now) (count_view count))) }
 {
-    if course.is_kept {
-        tested(alloc, course, numbers, expr, count)
+    if context.is_kept {
+        tested(alloc, context, numbers, expr, count)
     } else {
-        let (kept, count) = estimate(alloc, course, numbers, expr, count)?;
+        let (kept, count) = estimate(alloc, context, numbers, expr, count)?;
         let condition = condition_by(alloc, kept)?;
         Ok((condition, count))
     }

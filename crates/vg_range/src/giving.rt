@@ -5,16 +5,16 @@ ghost use Rattle.std.specs.Option.{option_map};
 ghost use Rattle.vg_interval.specs.Views.{Gives};
 ghost use Rattle.vg_names.specs.Views.{expr_of, target_view};
 ghost use Rattle.vg_range.specs.Estimates.{estimate_filled, estimate_set, given_at};
-ghost use Rattle.vg_range.specs.Seen.{course_view, goal_view, stand_view};
+ghost use Rattle.vg_range.specs.Seen.{context_view, goal_view, state_view};
 
 use crate::assigning::{assigned, target_number, with_number};
-use crate::course::Course;
 use crate::estimates::{filled, is_joined};
 use crate::estimating::estimate;
 use crate::goal::Goal;
 use crate::judging::judge;
 use crate::spots::spot_of;
-use crate::stand::{Stand, at_count};
+use crate::walk_context::WalkContext;
+use crate::walk_state::{WalkState, at_count};
 use std::alloc::Global;
 use vg_interval::RangeFault;
 use vg_names::{ResolvedExpr, Target};
@@ -24,25 +24,26 @@ use vg_names::{ResolvedExpr, Target};
 #[cycle(judging)]
 pub fn given(
     alloc: Global,
-    course: &Course,
+    context: &WalkContext,
     target: &Target,
     goal: Option<Goal>,
     value: &ResolvedExpr,
-    stand: Box<Stand>,
-) -> Result<Box<Stand>, RangeFault>
-    ensures { Gives (λ w. stand_view w.value) result
-        (given_at (course_view course.now) (target_view target.now) (option_map goal_view goal) (expr_of value.now) (stand_view stand.value)) }
+    state: Box<WalkState>,
+) -> Result<Box<WalkState>, RangeFault>
+    ensures { Gives (λ w. state_view w.value) result (given_at (context_view context.now)
+        (target_view target.now) (option_map goal_view goal) (expr_of value.now) (state_view
+        state.value)) }
 {
-    let (found, count) = judge(alloc, course, stand.numbers.as_slice(), value, stand.count)?;
-    let stand = at_count(stand, count);
+    let (found, count) = judge(alloc, context, state.numbers.as_slice(), value, state.count)?;
+    let state = at_count(state, count);
     assigned(
         alloc,
-        course,
+        context,
         spot_of(value),
         target,
         goal,
         Box::into_inner(found),
-        stand,
+        state,
     )
 }
 
@@ -51,17 +52,17 @@ pub fn given(
 #[cycle(judging)]
 fn number_given(
     alloc: Global,
-    course: &Course,
+    context: &WalkContext,
     variable: usize,
     value: &ResolvedExpr,
-    stand: Box<Stand>,
-) -> Result<Box<Stand>, RangeFault>
-    ensures { Gives (λ w. stand_view w.value) result
-        (estimate_set (course_view course.now) variable (expr_of value.now) (stand_view stand.value)) }
+    state: Box<WalkState>,
+) -> Result<Box<WalkState>, RangeFault>
+    ensures { Gives (λ w. state_view w.value) result (estimate_set (context_view context.now)
+        variable (expr_of value.now) (state_view state.value)) }
 {
-    let (kept, count) = estimate(alloc, course, stand.numbers.as_slice(), value, stand.count)?;
-    let stand = at_count(stand, count);
-    Ok(with_number(alloc, stand, variable, kept)?)
+    let (kept, count) = estimate(alloc, context, state.numbers.as_slice(), value, state.count)?;
+    let state = at_count(state, count);
+    Ok(with_number(alloc, state, variable, kept)?)
 }
 
 /// What an operator that is no shift gives bits, where no script is kept.
@@ -69,16 +70,16 @@ fn number_given(
 #[cycle(judging)]
 fn bits_given(
     alloc: Global,
-    course: &Course,
+    context: &WalkContext,
     goal: Goal,
     value: &ResolvedExpr,
-    stand: Box<Stand>,
-) -> Result<Box<Stand>, RangeFault>
-    ensures { Gives (λ w. stand_view w.value) result
-        (estimate_filled (course_view course.now) (goal_view goal) (expr_of value.now) (stand_view stand.value)) }
+    state: Box<WalkState>,
+) -> Result<Box<WalkState>, RangeFault>
+    ensures { Gives (λ w. state_view w.value) result (estimate_filled (context_view context.now)
+        (goal_view goal) (expr_of value.now) (state_view state.value)) }
 {
-    let (kept, count) = estimate(alloc, course, stand.numbers.as_slice(), value, stand.count)?;
-    filled(spot_of(value).outer, goal, kept, at_count(stand, count))
+    let (kept, count) = estimate(alloc, context, state.numbers.as_slice(), value, state.count)?;
+    filled(spot_of(value).outer, goal, kept, at_count(state, count))
 }
 
 /// The same as what is given with a script, where none is kept.
@@ -86,23 +87,24 @@ fn bits_given(
 #[cycle(judging)]
 pub fn given_unwritten(
     alloc: Global,
-    course: &Course,
+    context: &WalkContext,
     target: &Target,
     goal: Option<Goal>,
     value: &ResolvedExpr,
-    stand: Box<Stand>,
-) -> Result<Box<Stand>, RangeFault>
-    requires { course.now.is_kept ≡ false }
-    ensures { Gives (λ w. stand_view w.value) result
-        (given_at (course_view course.now) (target_view target.now) (option_map goal_view goal) (expr_of value.now) (stand_view stand.value)) }
+    state: Box<WalkState>,
+) -> Result<Box<WalkState>, RangeFault>
+    requires { context.now.is_kept ≡ false }
+    ensures { Gives (λ w. state_view w.value) result (given_at (context_view context.now)
+        (target_view target.now) (option_map goal_view goal) (expr_of value.now) (state_view
+        state.value)) }
 {
     match goal {
-        None => number_given(alloc, course, target_number(target), value, stand),
+        None => number_given(alloc, context, target_number(target), value, state),
         Some(goal) => {
             if is_joined(value) {
-                bits_given(alloc, course, goal, value, stand)
+                bits_given(alloc, context, goal, value, state)
             } else {
-                given(alloc, course, target, Some(goal), value, stand)
+                given(alloc, context, target, Some(goal), value, state)
             }
         }
     }

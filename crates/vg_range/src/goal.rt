@@ -13,7 +13,7 @@ use std::alloc::Global;
 use vg_interval::operands::{handed_word, slice_word};
 use vg_interval::whole_numbers::slice_number;
 use vg_interval::word_builders::extended;
-use vg_interval::{Bits, Found, Index, Kept, Operand, RangeFault};
+use vg_interval::{Bits, Found, Index, KnownNumber, Operand, RangeFault};
 use vg_pseudo::Spot;
 use vg_script::{Frame, Low, Script, WholeNumber, Word, make_copy_from, make_put};
 use vg_text::Place;
@@ -63,7 +63,8 @@ fn put_slice(
     width: u128,
 ) -> Result<Script, RangeFault>
     requires { width < goal.bits.width }
-    ensures { Gives script_of result (put_word place (goal_view goal) (slice_word is_signed register (low_of low) width)) }
+    ensures { Gives script_of result (put_word place (goal_view goal) (slice_word is_signed register
+        (low_of low) width)) }
 {
     if 128 < goal.bits.width {
         return Err(RangeFault::TooWide { place });
@@ -81,21 +82,24 @@ fn put_handed(
     low: Low,
     width: u128,
 ) -> Result<Script, RangeFault>
-    ensures { Gives script_of result (put_word place (goal_view goal) (handed_word (frame_of frame) register (low_of low) width)) }
+    ensures { Gives script_of result (put_word place (goal_view goal) (handed_word (frame_of frame)
+        register (low_of low) width)) }
 {
     let word = handed_word(alloc, frame, register, low, width)?;
     put_word(alloc, place, goal, word)
 }
 
 fn put_bit(alloc: Global, place: Place, goal: Goal, word: Word) -> Result<Script, RangeFault>
-    ensures { Gives script_of result (put_word place (goal_view goal) (extended false 1 (word_of word))) }
+    ensures { Gives script_of result (put_word place (goal_view goal) (extended false 1 (word_of
+        word))) }
 {
     let word = extended(alloc, false, 1, word)?;
     put_word(alloc, place, goal, word)
 }
 
 fn fill(goal: Goal, number: WholeNumber) -> Script
-    ensures { script_of result ≡ fill goal.register goal.bits.low goal.bits.width (number_of number) }
+    ensures { script_of result ≡ fill goal.register goal.bits.low goal.bits.width (number_of
+        number) }
 {
     Script::Fill {
         register: goal.register,
@@ -165,11 +169,11 @@ pub fn stored(alloc: Global, spot: Spot, goal: Goal, found: Found) -> Result<Scr
 }
 
 /// What a number variable keeps of an operand.
-pub fn kept_of(operand: &Operand) -> Kept
+pub fn kept_of(operand: &Operand) -> KnownNumber
     ensures { kept_view result ≡ kept_of (operand_view operand.now) }
 {
     match operand {
-        Operand::Fixed(number) => Kept::Constant(*number),
-        Operand::Moving { span, .. } => Kept::Varying(*span),
+        Operand::Fixed(number) => KnownNumber::Constant(*number),
+        Operand::Moving { span, .. } => KnownNumber::Varying(*span),
     }
 }

@@ -4,13 +4,13 @@ ghost use Rattle.std.specs.Prelude.{◌≡◌, IfOk};
 ghost use Rattle.vg_interval.specs.Views.{Gives};
 ghost use Rattle.vg_names.specs.Views.{resolved_of};
 ghost use Rattle.vg_range.specs.Immediates.{first_imm};
-ghost use Rattle.vg_range.specs.Seen.{stand_view};
+ghost use Rattle.vg_range.specs.Seen.{state_view};
 ghost use Rattle.vg_range.specs.Walk.{imm_constant, instance_at};
 
 use crate::beginning::begun;
 use crate::code_walk::walk;
-use crate::course::Course;
-use crate::stand::Stand;
+use crate::walk_context::WalkContext;
+use crate::walk_state::WalkState;
 use std::alloc::{AllocError, Global};
 use std::cell::Cell;
 use vg_interval::{Count, RangeFault};
@@ -54,13 +54,14 @@ pub fn instance_at(
     is_kept: bool,
     resolved: &Resolved,
     imm: Option<u128>,
-) -> Result<Box<Stand>, RangeFault>
-    ensures { Gives (λ w. stand_view w.value) result (instance_at is_kept (resolved_of resolved.now) imm) }
+) -> Result<Box<WalkState>, RangeFault>
+    ensures { Gives (λ w. state_view w.value) result (instance_at is_kept (resolved_of resolved.now)
+        imm) }
 {
     let body = &resolved.body;
     let constants = imm_constant(alloc, resolved.result, imm, body.widths.as_slice())?;
     let written = Cell::new(0);
-    let course = Course {
+    let context = WalkContext {
         widths: body.widths.as_slice(),
         constants: &constants,
         turns: &[],
@@ -72,6 +73,6 @@ pub fn instance_at(
         steps: 0,
         is_dynamic: false,
     };
-    let stand = begun(alloc, body.numbers, count)?;
-    walk(alloc, &course, &body.code, stand)
+    let state = begun(alloc, body.numbers, count)?;
+    walk(alloc, &context, &body.code, state)
 }

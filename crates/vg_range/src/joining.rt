@@ -6,39 +6,47 @@ ghost use Rattle.vg_range.specs.Walk.{join, join_kept, kept_span};
 
 use std::alloc::{AllocError, Global};
 use vg_interval::spans::{between, hull};
-use vg_interval::{Kept, Span};
+use vg_interval::{KnownNumber, Span};
 
-fn kept_span(kept: Kept) -> Span
+fn kept_span(kept: KnownNumber) -> Span
     ensures { result ≡ kept_span (kept_view kept) }
 {
     match kept {
-        Kept::Constant(z) => between(z, z),
-        Kept::Varying(span) => span,
+        KnownNumber::Constant(z) => between(z, z),
+        KnownNumber::Varying(span) => span,
     }
 }
 
 /// What is known of a number variable where one of two things is known of it: a constant where both
 /// are the same constant, else the least interval that holds both.
-pub fn join_kept(first: Kept, second: Kept) -> Kept
+pub fn join_kept(first: KnownNumber, second: KnownNumber) -> KnownNumber
     ensures { kept_view result ≡ join_kept (kept_view first) (kept_view second) }
 {
     match (first, second) {
-        (Kept::Constant(y), Kept::Constant(z)) => {
+        (KnownNumber::Constant(y), KnownNumber::Constant(z)) => {
             if y == z {
-                Kept::Constant(y)
+                KnownNumber::Constant(y)
             } else {
-                Kept::Varying(hull(between(y, y), between(z, z)))
+                KnownNumber::Varying(hull(between(y, y), between(z, z)))
             }
         }
-        (Kept::Constant(y), Kept::Varying(span)) => Kept::Varying(hull(between(y, y), span)),
-        (Kept::Varying(span), second) => Kept::Varying(hull(span, kept_span(second))),
+        (KnownNumber::Constant(y), KnownNumber::Varying(span)) => KnownNumber::Varying(hull(
+            between(y, y),
+            span,
+        )),
+        (KnownNumber::Varying(span), second) => KnownNumber::Varying(hull(span, kept_span(second))),
     }
 }
 
 /// What is known where either way was taken, number variable by number variable. Fails for want of
 /// memory alone.
-pub fn join(alloc: Global, first: &[Kept], second: &[Kept]) -> Result<Vec<Kept>, AllocError>
-    ensures { IfOk result (λ ks. map kept_view ks.items ≡ join (map kept_view first.now) (map kept_view second.now)) }
+pub fn join(
+    alloc: Global,
+    first: &[KnownNumber],
+    second: &[KnownNumber],
+) -> Result<Vec<KnownNumber>, AllocError>
+    ensures { IfOk result (λ ks. map kept_view ks.items ≡ join (map kept_view first.now) (map
+        kept_view second.now)) }
 {
     let mut joined = Vec::new(alloc);
     let mut one = first;

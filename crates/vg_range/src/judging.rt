@@ -11,17 +11,17 @@ ghost use Rattle.vg_range.specs.Seen.{argument_of, chosen_by, decision_view, eit
 ghost use Rattle.vg_range.specs.Walk.{walks_from};
 
 use crate::calling::called_at;
-use crate::course::{Course, boxed, written};
 use crate::decision::Decision;
 use crate::uses::{
     binary_behind, condition_in, either_behind, element_at_number, element_behind, give, index_in,
     operand_of, passed_in, plain_behind, slice_at_numbers, slice_behind, turn_of, unary_behind,
     variable_of,
 };
+use crate::walk_context::{WalkContext, boxed, written};
 use std::alloc::Global;
 use vg_interval::moving::{constant_at, width_at};
 use vg_interval::slices::{bits_of_element, slice_found};
-use vg_interval::{Count, Found, Kept, Passed, RangeFault};
+use vg_interval::{Count, Found, KnownNumber, Passed, RangeFault};
 use vg_names::{Function, ResolvedArguments, ResolvedExpr};
 use vg_pseudo::{BinaryOp, Spot, UnaryOp};
 use vg_script::{WholeNumber, Word};
@@ -31,17 +31,17 @@ use vg_script::{WholeNumber, Word};
 #[cycle(judging)]
 pub fn judge(
     alloc: Global,
-    course: &Course,
-    numbers: &[Kept],
+    context: &WalkContext,
+    numbers: &[KnownNumber],
     expr: &ResolvedExpr,
     count: Count,
 ) -> Result<(Box<Found>, Count), RangeFault>
-    ensures { Gives (λ f. (found_view f.0.value, count_view f.1)) result
-        (judge (sight_view course.now) (map kept_view numbers.now) (expr_of expr.now) (count_view count)) }
+    ensures { Gives (λ f. (found_view f.0.value, count_view f.1)) result (judge (sight_view
+        context.now) (map kept_view numbers.now) (expr_of expr.now) (count_view count)) }
 {
     match expr {
         ResolvedExpr::Literal { spot: _, value } => literal(alloc, *value, count),
-        ResolvedExpr::Counter { spot: _, turn } => turn_of(alloc, course, *turn, count),
+        ResolvedExpr::Counter { spot: _, turn } => turn_of(alloc, context, *turn, count),
         ResolvedExpr::Variable {
             spot: _,
             variable: number,
@@ -54,7 +54,7 @@ pub fn judge(
             high,
             low,
         } => slice_of(
-            alloc, course, numbers, spot, *is_signed, *register, spread, high, low, count,
+            alloc, context, numbers, spot, *is_signed, *register, spread, high, low, count,
         ),
         ResolvedExpr::Element {
             spot,
@@ -63,40 +63,41 @@ pub fn judge(
             size,
             index,
         } => element_of(
-            alloc, course, numbers, spot, *is_signed, *register, *size, index, count,
+            alloc, context, numbers, spot, *is_signed, *register, *size, index, count,
         ),
         ResolvedExpr::Front {
             spot,
             is_signed,
             register,
             size,
-        } => front(alloc, course, spot, *is_signed, *register, *size, count),
+        } => front(alloc, context, spot, *is_signed, *register, *size, count),
         ResolvedExpr::Unary { spot, op, operand } => {
-            unary(alloc, course, numbers, spot, *op, operand, count)
+            unary(alloc, context, numbers, spot, *op, operand, count)
         }
         ResolvedExpr::Binary {
             spot,
             op,
             left,
             right,
-        } => binary(alloc, course, numbers, spot, *op, left, right, count),
+        } => binary(alloc, context, numbers, spot, *op, left, right, count),
         ResolvedExpr::Choice {
             spot: _,
             condition,
             first,
             second,
-        } => choice(alloc, course, numbers, condition, first, second, count),
+        } => choice(alloc, context, numbers, condition, first, second, count),
         ResolvedExpr::Call {
             spot,
             function,
             arguments,
-        } => call(alloc, course, numbers, spot, *function, arguments, count),
+        } => call(alloc, context, numbers, spot, *function, arguments, count),
     }
 }
 
 #[inline(never)]
 fn literal(alloc: Global, value: u128, count: Count) -> Result<(Box<Found>, Count), RangeFault>
-    ensures { Gives (λ f. (found_view f.0.value, count_view f.1)) result (leaf (known (pos value) None) (count_view count)) }
+    ensures { Gives (λ f. (found_view f.0.value, count_view f.1)) result (leaf (known (pos value)
+        None) (count_view count)) }
 {
     let number = WholeNumber::Natural(value);
     boxed(alloc, Found::Known { number }, count)
@@ -107,8 +108,8 @@ fn literal(alloc: Global, value: u128, count: Count) -> Result<(Box<Found>, Coun
 #[cycle(judging)]
 pub fn slice_of(
     alloc: Global,
-    course: &Course,
-    numbers: &[Kept],
+    context: &WalkContext,
+    numbers: &[KnownNumber],
     spot: &Spot,
     is_signed: bool,
     register: usize,
@@ -117,9 +118,9 @@ pub fn slice_of(
     low: &ResolvedExpr,
     count: Count,
 ) -> Result<(Box<Found>, Count), RangeFault>
-    ensures { Gives (λ f. (found_view f.0.value, count_view f.1)) result
-        (judge (sight_view course.now) (map kept_view numbers.now)
-        (node.slice spot.now is_signed register spread.now (expr_of high.now) (expr_of low.now)) (count_view count)) }
+    ensures { Gives (λ f. (found_view f.0.value, count_view f.1)) result (judge (sight_view
+        context.now) (map kept_view numbers.now) (node.slice spot.now is_signed register spread.now
+        (expr_of high.now) (expr_of low.now)) (count_view count)) }
 {
     match (high, low) {
         (
@@ -132,14 +133,14 @@ pub fn slice_of(
                 value: first,
             },
         ) => slice_at_numbers(
-            alloc, course, spot, is_signed, register, spread, *last, *first, count,
+            alloc, context, spot, is_signed, register, spread, *last, *first, count,
         ),
         _ => {
-            let (found, count) = judge(alloc, course, numbers, high, count)?;
+            let (found, count) = judge(alloc, context, numbers, high, count)?;
             let last = index_in(alloc, high, found)?;
-            let (found, count) = judge(alloc, course, numbers, low, count)?;
+            let (found, count) = judge(alloc, context, numbers, low, count)?;
             slice_behind(
-                alloc, course, spot, is_signed, register, spread, last, low, found, count,
+                alloc, context, spot, is_signed, register, spread, last, low, found, count,
             )
         }
     }
@@ -150,8 +151,8 @@ pub fn slice_of(
 #[cycle(judging)]
 fn element_of(
     alloc: Global,
-    course: &Course,
-    numbers: &[Kept],
+    context: &WalkContext,
+    numbers: &[KnownNumber],
     spot: &Spot,
     is_signed: bool,
     register: usize,
@@ -160,17 +161,17 @@ fn element_of(
     count: Count,
 ) -> Result<(Box<Found>, Count), RangeFault>
     ensures { Gives (λ f. (found_view f.0.value, count_view f.1)) result
-        (judge (sight_view course.now) (map kept_view numbers.now)
+        (judge (sight_view context.now) (map kept_view numbers.now)
         (node.element spot.now is_signed register size (expr_of index.now)) (count_view count)) }
 {
     match index {
         ResolvedExpr::Literal { spot: _, value } => element_at_number(
-            alloc, course, spot, is_signed, register, size, *value, count,
+            alloc, context, spot, is_signed, register, size, *value, count,
         ),
         _ => {
-            let (found, count) = judge(alloc, course, numbers, index, count)?;
+            let (found, count) = judge(alloc, context, numbers, index, count)?;
             element_behind(
-                alloc, course, spot, is_signed, register, size, index, found, count,
+                alloc, context, spot, is_signed, register, size, index, found, count,
             )
         }
     }
@@ -180,21 +181,21 @@ fn element_of(
 #[inline(never)]
 fn front(
     alloc: Global,
-    course: &Course,
+    context: &WalkContext,
     spot: &Spot,
     is_signed: bool,
     register: usize,
     size: u128,
     count: Count,
 ) -> Result<(Box<Found>, Count), RangeFault>
-    ensures { Gives (λ f. (found_view f.0.value, count_view f.1)) result
-        (judge (sight_view course.now) [] (node.front spot.now is_signed register size) (count_view count)) }
+    ensures { Gives (λ f. (found_view f.0.value, count_view f.1)) result (judge (sight_view
+        context.now) [] (node.front spot.now is_signed register size) (count_view count)) }
 {
-    let all = width_at(course.widths, register);
+    let all = width_at(context.widths, register);
     let bits = bits_of_element(spot.inner, all, size, WholeNumber::Natural(0))?;
-    let constant = constant_at(course.constants, register);
+    let constant = constant_at(context.constants, register);
     let found = slice_found(is_signed, constant, register, bits);
-    written(alloc, course, found, count)
+    written(alloc, context, found, count)
 }
 
 /// An operator or a function of one operand.
@@ -202,18 +203,19 @@ fn front(
 #[cycle(judging)]
 fn unary(
     alloc: Global,
-    course: &Course,
-    numbers: &[Kept],
+    context: &WalkContext,
+    numbers: &[KnownNumber],
     spot: &Spot,
     op: UnaryOp,
     expr: &ResolvedExpr,
     count: Count,
 ) -> Result<(Box<Found>, Count), RangeFault>
-    ensures { Gives (λ f. (found_view f.0.value, count_view f.1)) result
-        (judge (sight_view course.now) (map kept_view numbers.now) (node.unary spot.now op (expr_of expr.now)) (count_view count)) }
+    ensures { Gives (λ f. (found_view f.0.value, count_view f.1)) result (judge (sight_view
+        context.now) (map kept_view numbers.now) (node.unary spot.now op (expr_of expr.now))
+        (count_view count)) }
 {
-    let (found, count) = judge(alloc, course, numbers, expr, count)?;
-    unary_behind(alloc, course, spot, op, expr, found, count)
+    let (found, count) = judge(alloc, context, numbers, expr, count)?;
+    unary_behind(alloc, context, spot, op, expr, found, count)
 }
 
 /// An operator or a function of two operands.
@@ -221,21 +223,22 @@ fn unary(
 #[cycle(judging)]
 fn binary(
     alloc: Global,
-    course: &Course,
-    numbers: &[Kept],
+    context: &WalkContext,
+    numbers: &[KnownNumber],
     spot: &Spot,
     op: BinaryOp,
     left: &ResolvedExpr,
     right: &ResolvedExpr,
     count: Count,
 ) -> Result<(Box<Found>, Count), RangeFault>
-    ensures { Gives (λ f. (found_view f.0.value, count_view f.1)) result
-        (judge (sight_view course.now) (map kept_view numbers.now) (node.binary spot.now op (expr_of left.now) (expr_of right.now)) (count_view count)) }
+    ensures { Gives (λ f. (found_view f.0.value, count_view f.1)) result (judge (sight_view
+        context.now) (map kept_view numbers.now) (node.binary spot.now op (expr_of left.now)
+        (expr_of right.now)) (count_view count)) }
 {
-    let (found, count) = judge(alloc, course, numbers, left, count)?;
+    let (found, count) = judge(alloc, context, numbers, left, count)?;
     let first = operand_of(alloc, left, found)?;
-    let (found, count) = judge(alloc, course, numbers, right, count)?;
-    binary_behind(alloc, course, spot, op, first, right, found, count)
+    let (found, count) = judge(alloc, context, numbers, right, count)?;
+    binary_behind(alloc, context, spot, op, first, right, found, count)
 }
 
 /// One branch of a choice whose condition is constant.
@@ -243,15 +246,16 @@ fn binary(
 #[cycle(judging)]
 fn one_of(
     alloc: Global,
-    course: &Course,
-    numbers: &[Kept],
+    context: &WalkContext,
+    numbers: &[KnownNumber],
     expr: &ResolvedExpr,
     count: Count,
 ) -> Result<(Box<Found>, Count), RangeFault>
-    ensures { Gives (λ f. (found_view f.0.value, count_view f.1)) result
-        (plain_of (branch (spot_of (expr_of expr.now)) (judge (sight_view course.now) (map kept_view numbers.now) (expr_of expr.now)) (count_view count))) }
+    ensures { Gives (λ f. (found_view f.0.value, count_view f.1)) result (plain_of (branch (spot_of
+        (expr_of expr.now)) (judge (sight_view context.now) (map kept_view numbers.now) (expr_of
+        expr.now)) (count_view count))) }
 {
-    let (found, count) = judge(alloc, course, numbers, expr, count)?;
+    let (found, count) = judge(alloc, context, numbers, expr, count)?;
     plain_behind(alloc, expr, found, count)
 }
 
@@ -260,21 +264,23 @@ fn one_of(
 #[cycle(judging)]
 fn both_of(
     alloc: Global,
-    course: &Course,
-    numbers: &[Kept],
+    context: &WalkContext,
+    numbers: &[KnownNumber],
     condition: Box<Word>,
     first: &ResolvedExpr,
     second: &ResolvedExpr,
     count: Count,
 ) -> Result<(Box<Found>, Count), RangeFault>
-    ensures { Gives (λ f. (found_view f.0.value, count_view f.1)) result
-        (either_of (word_of condition.value) (spot_of (expr_of first.now)) (judge (sight_view course.now) (map kept_view numbers.now) (expr_of first.now))
-        (spot_of (expr_of second.now)) (judge (sight_view course.now) (map kept_view numbers.now) (expr_of second.now)) (count_view count)) }
+    ensures { Gives (λ f. (found_view f.0.value, count_view f.1)) result (either_of (word_of
+        condition.value) (spot_of (expr_of first.now)) (judge (sight_view context.now) (map
+        kept_view numbers.now) (expr_of first.now)) (spot_of (expr_of second.now)) (judge
+        (sight_view context.now) (map kept_view numbers.now) (expr_of second.now)) (count_view
+        count)) }
 {
-    let (found, count) = judge(alloc, course, numbers, first, count)?;
+    let (found, count) = judge(alloc, context, numbers, first, count)?;
     let one = operand_of(alloc, first, found)?;
-    let (found, count) = judge(alloc, course, numbers, second, count)?;
-    either_behind(alloc, course, condition, one, second, found, count)
+    let (found, count) = judge(alloc, context, numbers, second, count)?;
+    either_behind(alloc, context, condition, one, second, found, count)
 }
 
 /// What a condition says, and the counts after it.
@@ -282,15 +288,16 @@ fn both_of(
 #[cycle(judging)]
 pub fn tested(
     alloc: Global,
-    course: &Course,
-    numbers: &[Kept],
+    context: &WalkContext,
+    numbers: &[KnownNumber],
     expr: &ResolvedExpr,
     count: Count,
 ) -> Result<(Box<Decision>, Count), RangeFault>
-    ensures { Gives (λ f. (decision_view f.0.value, count_view f.1)) result
-        (tested_at (spot_of (expr_of expr.now)) (judge (sight_view course.now) (map kept_view numbers.now) (expr_of expr.now) (count_view count))) }
+    ensures { Gives (λ f. (decision_view f.0.value, count_view f.1)) result (tested_at (spot_of
+        (expr_of expr.now)) (judge (sight_view context.now) (map kept_view numbers.now) (expr_of
+        expr.now) (count_view count))) }
 {
-    let (found, count) = judge(alloc, course, numbers, expr, count)?;
+    let (found, count) = judge(alloc, context, numbers, expr, count)?;
     let condition = condition_in(alloc, expr, found)?;
     Ok((condition, count))
 }
@@ -300,28 +307,30 @@ pub fn tested(
 #[cycle(judging)]
 fn choice(
     alloc: Global,
-    course: &Course,
-    numbers: &[Kept],
+    context: &WalkContext,
+    numbers: &[KnownNumber],
     condition: &ResolvedExpr,
     first: &ResolvedExpr,
     second: &ResolvedExpr,
     count: Count,
 ) -> Result<(Box<Found>, Count), RangeFault>
-    ensures { Gives (λ f. (found_view f.0.value, count_view f.1)) result
-        (chosen_by (tested_at (spot_of (expr_of condition.now)) (judge (sight_view course.now) (map kept_view numbers.now) (expr_of condition.now) (count_view count)))
-        (spot_of (expr_of first.now)) (judge (sight_view course.now) (map kept_view numbers.now) (expr_of first.now))
-        (spot_of (expr_of second.now)) (judge (sight_view course.now) (map kept_view numbers.now) (expr_of second.now))) }
+    ensures { Gives (λ f. (found_view f.0.value, count_view f.1)) result (chosen_by (tested_at
+        (spot_of (expr_of condition.now)) (judge (sight_view context.now) (map kept_view
+        numbers.now) (expr_of condition.now) (count_view count))) (spot_of (expr_of first.now))
+        (judge (sight_view context.now) (map kept_view numbers.now) (expr_of first.now)) (spot_of
+        (expr_of second.now)) (judge (sight_view context.now) (map kept_view numbers.now) (expr_of
+        second.now))) }
 {
-    let (condition, count) = tested(alloc, course, numbers, condition, count)?;
+    let (condition, count) = tested(alloc, context, numbers, condition, count)?;
     match Box::into_inner(condition) {
         Decision::Always(z) => {
             if z == 0 {
-                one_of(alloc, course, numbers, second, count)
+                one_of(alloc, context, numbers, second, count)
             } else {
-                one_of(alloc, course, numbers, first, count)
+                one_of(alloc, context, numbers, first, count)
             }
         }
-        Decision::Tested { word } => both_of(alloc, course, numbers, word, first, second, count),
+        Decision::Tested { word } => both_of(alloc, context, numbers, word, first, second, count),
     }
 }
 
@@ -330,15 +339,15 @@ fn choice(
 #[cycle(judging)]
 fn argument(
     alloc: Global,
-    course: &Course,
-    numbers: &[Kept],
+    context: &WalkContext,
+    numbers: &[KnownNumber],
     expr: &ResolvedExpr,
     count: Count,
 ) -> Result<(Box<Passed>, Count), RangeFault>
-    ensures { Gives (λ p. (passed_view p.0.value, count_view p.1)) result
-        (argument_of (sight_view course.now) (map kept_view numbers.now) (expr_of expr.now) (count_view count)) }
+    ensures { Gives (λ p. (passed_view p.0.value, count_view p.1)) result (argument_of (sight_view
+        context.now) (map kept_view numbers.now) (expr_of expr.now) (count_view count)) }
 {
-    let (found, count) = judge(alloc, course, numbers, expr, count)?;
+    let (found, count) = judge(alloc, context, numbers, expr, count)?;
     let passed = passed_in(alloc, expr, found)?;
     Ok((passed, count))
 }
@@ -348,13 +357,13 @@ fn argument(
 #[cycle(judging)]
 fn judge_all(
     alloc: Global,
-    course: &Course,
-    numbers: &[Kept],
+    context: &WalkContext,
+    numbers: &[KnownNumber],
     arguments: &ResolvedArguments,
     count: Count,
 ) -> Result<(Vec<Passed>, Count), RangeFault>
-    ensures { Gives (λ g. (map passed_view g.0.items, count_view g.1)) result
-        (judge_all (sight_view course.now) (map kept_view numbers.now) (list_of arguments.now) (count_view count)) }
+    ensures { Gives (λ g. (map passed_view g.0.items, count_view g.1)) result (judge_all (sight_view
+        context.now) (map kept_view numbers.now) (list_of arguments.now) (count_view count)) }
 {
     let mut given = Vec::new(alloc);
     let mut left = arguments;
@@ -366,7 +375,7 @@ fn judge_all(
                 argument: first,
                 rest,
             } => {
-                let (passed, behind) = argument(alloc, course, numbers, first, count)?;
+                let (passed, behind) = argument(alloc, context, numbers, first, count)?;
                 give(&mut given, passed)?;
                 count = behind;
                 left = rest;
@@ -380,23 +389,24 @@ fn judge_all(
 #[cycle(judging)]
 fn call(
     alloc: Global,
-    course: &Course,
-    numbers: &[Kept],
+    context: &WalkContext,
+    numbers: &[KnownNumber],
     spot: &Spot,
     function: usize,
     arguments: &ResolvedArguments,
     count: Count,
 ) -> Result<(Box<Found>, Count), RangeFault>
-    ensures { Gives (λ f. (found_view f.0.value, count_view f.1)) result
-        (judge (sight_view course.now) (map kept_view numbers.now) (node.call spot.now function (list_of arguments.now)) (count_view count)) }
+    ensures { Gives (λ f. (found_view f.0.value, count_view f.1)) result (judge (sight_view
+        context.now) (map kept_view numbers.now) (node.call spot.now function (list_of
+        arguments.now)) (count_view count)) }
 {
     let count = count.step(spot.inner)?;
-    let (given, count) = judge_all(alloc, course, numbers, arguments, count)?;
+    let (given, count) = judge_all(alloc, context, numbers, arguments, count)?;
     called_at(
         alloc,
-        course.is_kept,
-        course.written,
-        course.functions,
+        context.is_kept,
+        context.written,
+        context.functions,
         function,
         *spot,
         given,

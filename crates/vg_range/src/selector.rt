@@ -2,7 +2,7 @@
 
 ghost use Rattle.std.specs.Prelude.{◌≡◌, IfOk};
 ghost use Rattle.vg_interval.specs.Views.{operand_view};
-ghost use Rattle.vg_range.specs.Met.{selector_view};
+ghost use Rattle.vg_range.specs.Steps.{selector_view};
 
 use std::alloc::{AllocError, Global};
 use vg_interval::{Operand, Span};

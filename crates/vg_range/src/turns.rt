@@ -3,7 +3,7 @@
 ghost use Rattle.std.specs.Prelude.{◌≡◌, pos, ◌+ℤ◌};
 ghost use Rattle.std.specs.Option.{option_map};
 ghost use Rattle.vg_script.specs.Views.{number_of};
-ghost use Rattle.vg_range.specs.Met.{first_turn};
+ghost use Rattle.vg_range.specs.Steps.{first_turn};
 
 use vg_script::WholeNumber;
 

@@ -4,7 +4,7 @@ ghost use Rattle.std.specs.Prelude.{◌≡◌, true, ◌&&◌, IfOk};
 ghost use Rattle.std.specs.Option.{option_map};
 ghost use Rattle.vg_names.specs.Views.{resolved_of};
 ghost use Rattle.vg_script.specs.Views.{whole_of};
-ghost use Rattle.vg_range.specs.Seen.{stand_view};
+ghost use Rattle.vg_range.specs.Seen.{state_view};
 ghost use Rattle.vg_range.specs.Checks.{header_in, operation_in};
 ghost use Rattle.vg_range.specs.Immediates.{IsByte, has_instance, immediate_of};
 ghost use Rattle.vg_range.specs.Unrolled.{IsFormedEntry, MeansEntry, OnInstance, Unrolls, is_memory, whole_from};
@@ -12,7 +12,7 @@ ghost use Rattle.vg_range.specs.Unrolled.{IsFormedEntry, MeansEntry, OnInstance,
 use crate::checked::Checked;
 use crate::instance_walk::instance_at;
 use crate::nodes::nodes_of;
-use crate::stand::Stand;
+use crate::walk_state::WalkState;
 use std::alloc::{AllocError, Global};
 use vg_base::Items;
 use vg_interval::RangeFault;
@@ -72,19 +72,24 @@ fn copy_widths(alloc: Global, widths: &[u128]) -> Result<Items<u128>, AllocError
 
 /// An operation whose walk ends here, written out.
 #[inline(never)]
-fn whole_from(alloc: Global, resolved: &Resolved, stand: Box<Stand>) -> Result<Whole, AllocError>
-    ensures { IfOk result (λ w. whole_of w ≡ whole_from (resolved_of resolved.now) (stand_view stand.value)) }
+fn whole_from(
+    alloc: Global,
+    resolved: &Resolved,
+    state: Box<WalkState>,
+) -> Result<Whole, AllocError>
+    ensures { IfOk result (λ w. whole_of w ≡ whole_from (resolved_of resolved.now) (state_view
+        state.value)) }
 {
     let widths = copy_widths(alloc, resolved.body.widths.as_slice())?;
-    let stand = Box::into_inner(stand);
-    let nodes = nodes_of(&stand.script);
+    let state = Box::into_inner(state);
+    let nodes = nodes_of(&state.script);
     Ok(Whole {
         widths,
         parameters: resolved.body.parameters,
         variables: resolved.body.numbers,
         result: resolved.result,
-        script: stand.script,
-        is_dynamic: stand.count.is_dynamic,
+        script: state.script,
+        is_dynamic: state.count.is_dynamic,
         nodes,
     })
 }
@@ -98,18 +103,20 @@ impl Checked {
     /// bits that the entry means. So whoever runs or lifts it looks at no text and no interval again.
     pub fn unroll(&self, alloc: Global, imm: Option<u8>) -> Result<Option<Whole>, AllocError>
         ensures is { Unrolls self.now imm result }
-        ensures formed { OnInstance (IsFormedEntry (header_in self.now) (operation_in self.now)) result }
-        ensures means { OnInstance (MeansEntry (header_in self.now) (operation_in self.now) imm) result }
+        ensures formed { OnInstance (IsFormedEntry (header_in self.now) (operation_in self.now))
+            result }
+        ensures means { OnInstance (MeansEntry (header_in self.now) (operation_in self.now) imm)
+            result }
     {
         resolved_operations_are_proper();
         if !has_instance(&self.header().imm, imm) {
             return Ok(None);
         }
-        let stand = match instance_at(alloc, true, &self.resolved, wide(imm)) {
-            Ok(stand) => stand,
+        let state = match instance_at(alloc, true, &self.resolved, wide(imm)) {
+            Ok(state) => state,
             Err(fault) => return Err(memory_error(fault)),
         };
-        let whole = whole_from(alloc, &self.resolved, stand)?;
+        let whole = whole_from(alloc, &self.resolved, state)?;
         Ok(Some(whole))
     }
 }

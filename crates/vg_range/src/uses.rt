@@ -7,20 +7,20 @@ ghost use Rattle.vg_interval.specs.Judge.{constant, element_at, index_of, settle
 ghost use Rattle.vg_interval.specs.Views.{Gives, condition_at, count_view, found_view, index_view, kept_view, operand_view, passed_view};
 ghost use Rattle.vg_names.specs.Views.{expr_of};
 ghost use Rattle.vg_script.specs.Views.{word_of};
-ghost use Rattle.vg_range.specs.Met.{selector_view};
+ghost use Rattle.vg_range.specs.Steps.{selector_view};
 ghost use Rattle.vg_range.specs.Seen.{binary_behind, decision_view, either_behind, element_behind, leaf, plain_behind, sight_view, slice_behind, unary_behind};
 
-use crate::course::{Course, boxed, counter, element, slice, variable, written};
 use crate::decision::{Decision, decision_of};
 use crate::selector::{Selector, selector_of};
 use crate::spots::spot_of;
+use crate::walk_context::{WalkContext, boxed, counter, element, slice, variable, written};
 use std::alloc::{AllocError, Global};
 use vg_interval::binary_uses::binary_at;
 use vg_interval::calls::passed;
 use vg_interval::operands::{condition, either, operand};
 use vg_interval::slices::index_of;
 use vg_interval::unary_uses::unary_at;
-use vg_interval::{Count, Found, Index, Kept, Operand, Passed, RangeFault};
+use vg_interval::{Count, Found, Index, KnownNumber, Operand, Passed, RangeFault};
 use vg_names::ResolvedExpr;
 use vg_pseudo::{BinaryOp, Spot, UnaryOp};
 use vg_script::{WholeNumber, Word};
@@ -30,14 +30,14 @@ use vg_script::{WholeNumber, Word};
 #[inline(never)]
 pub fn turn_of(
     alloc: Global,
-    course: &Course,
+    context: &WalkContext,
     turn: usize,
     count: Count,
 ) -> Result<(Box<Found>, Count), RangeFault>
-    ensures { Gives (λ f. (found_view f.0.value, count_view f.1)) result
-        (leaf (known (get_or (sight_view course.now).turns turn (pos 0)) None) (count_view count)) }
+    ensures { Gives (λ f. (found_view f.0.value, count_view f.1)) result (leaf (known (get_or
+        (sight_view context.now).turns turn (pos 0)) None) (count_view count)) }
 {
-    boxed(alloc, counter(course.turns, turn), count)
+    boxed(alloc, counter(context.turns, turn), count)
 }
 
 /// What is known of a number variable, by its number, and the counts. Fails for want of memory
@@ -45,12 +45,12 @@ pub fn turn_of(
 #[inline(never)]
 pub fn variable_of(
     alloc: Global,
-    numbers: &[Kept],
+    numbers: &[KnownNumber],
     number: usize,
     count: Count,
 ) -> Result<(Box<Found>, Count), RangeFault>
-    ensures { Gives (λ f. (found_view f.0.value, count_view f.1)) result
-        (leaf (variable_found number (get_or (map kept_view numbers.now) number (constant (pos 0)))) (count_view count)) }
+    ensures { Gives (λ f. (found_view f.0.value, count_view f.1)) result (leaf (variable_found
+        number (get_or (map kept_view numbers.now) number (constant (pos 0)))) (count_view count)) }
 {
     boxed(alloc, variable(numbers, number), count)
 }
@@ -62,7 +62,8 @@ pub fn operand_of(
     expr: &ResolvedExpr,
     found: Box<Found>,
 ) -> Result<Box<Operand>, RangeFault>
-    ensures { Gives (λ a. operand_view a.value) result (operand (spot_of (expr_of expr.now)) (found_view found.value)) }
+    ensures { Gives (λ a. operand_view a.value) result (operand (spot_of (expr_of expr.now))
+        (found_view found.value)) }
 {
     let operand = operand(alloc, spot_of(expr), Box::into_inner(found))?;
     Ok(Box::new(alloc, operand)?)
@@ -75,7 +76,8 @@ pub fn index_in(
     expr: &ResolvedExpr,
     found: Box<Found>,
 ) -> Result<Box<Index>, RangeFault>
-    ensures { Gives (λ i. index_view i.value) result (index_of (spot_of (expr_of expr.now)) (found_view found.value)) }
+    ensures { Gives (λ i. index_view i.value) result (index_of (spot_of (expr_of expr.now))
+        (found_view found.value)) }
 {
     let index = index_of(alloc, spot_of(expr), Box::into_inner(found))?;
     Ok(Box::new(alloc, index)?)
@@ -88,7 +90,8 @@ pub fn condition_in(
     expr: &ResolvedExpr,
     found: Box<Found>,
 ) -> Result<Box<Decision>, RangeFault>
-    ensures { Gives (λ d. decision_view d.value) result (condition_at (spot_of (expr_of expr.now)) (found_view found.value)) }
+    ensures { Gives (λ d. decision_view d.value) result (condition_at (spot_of (expr_of expr.now))
+        (found_view found.value)) }
 {
     let condition = condition(alloc, spot_of(expr), Box::into_inner(found))?;
     let decision = decision_of(alloc, condition)?;
@@ -102,7 +105,8 @@ pub fn selector_in(
     expr: &ResolvedExpr,
     found: Box<Found>,
 ) -> Result<Box<Selector>, RangeFault>
-    ensures { Gives (λ a. selector_view a.value) result (operand (spot_of (expr_of expr.now)) (found_view found.value)) }
+    ensures { Gives (λ a. selector_view a.value) result (operand (spot_of (expr_of expr.now))
+        (found_view found.value)) }
 {
     let operand = operand(alloc, spot_of(expr), Box::into_inner(found))?;
     let selector = selector_of(alloc, operand)?;
@@ -116,7 +120,8 @@ pub fn passed_in(
     expr: &ResolvedExpr,
     found: Box<Found>,
 ) -> Result<Box<Passed>, RangeFault>
-    ensures { Gives (λ p. passed_view p.value) result (passed (spot_of (expr_of expr.now)) (found_view found.value)) }
+    ensures { Gives (λ p. passed_view p.value) result (passed (spot_of (expr_of expr.now))
+        (found_view found.value)) }
 {
     let passed = passed(alloc, spot_of(expr), Box::into_inner(found))?;
     Ok(Box::new(alloc, passed)?)
@@ -135,7 +140,7 @@ pub(crate) fn give(given: &mut Vec<Passed>, passed: Box<Passed>) -> Result<(), A
 #[inline(never)]
 pub fn slice_at_numbers(
     alloc: Global,
-    course: &Course,
+    context: &WalkContext,
     spot: &Spot,
     is_signed: bool,
     register: usize,
@@ -144,13 +149,14 @@ pub fn slice_at_numbers(
     low: u128,
     count: Count,
 ) -> Result<(Box<Found>, Count), RangeFault>
-    ensures { Gives (λ f. (found_view f.0.value, count_view f.1)) result
-        (slice_at (sight_view course.now) spot.now.inner is_signed register spread.now (settled (pos high)) (settled (pos low)) (count_view count)) }
+    ensures { Gives (λ f. (found_view f.0.value, count_view f.1)) result (slice_at (sight_view
+        context.now) spot.now.inner is_signed register spread.now (settled (pos high)) (settled (pos
+        low)) (count_view count)) }
 {
     let high = Index::Settled(WholeNumber::Natural(high));
     let low = Index::Settled(WholeNumber::Natural(low));
     slice(
-        alloc, course, spot.inner, is_signed, register, *spread, high, low, count,
+        alloc, context, spot.inner, is_signed, register, *spread, high, low, count,
     )
 }
 
@@ -158,7 +164,7 @@ pub fn slice_at_numbers(
 #[inline(never)]
 pub fn element_at_number(
     alloc: Global,
-    course: &Course,
+    context: &WalkContext,
     spot: &Spot,
     is_signed: bool,
     register: usize,
@@ -166,12 +172,13 @@ pub fn element_at_number(
     index: u128,
     count: Count,
 ) -> Result<(Box<Found>, Count), RangeFault>
-    ensures { Gives (λ f. (found_view f.0.value, count_view f.1)) result
-        (element_at (sight_view course.now) spot.now.inner is_signed register size (settled (pos index)) (count_view count)) }
+    ensures { Gives (λ f. (found_view f.0.value, count_view f.1)) result (element_at (sight_view
+        context.now) spot.now.inner is_signed register size (settled (pos index)) (count_view
+        count)) }
 {
     let index = Index::Settled(WholeNumber::Natural(index));
     element(
-        alloc, course, spot.inner, is_signed, register, size, index, count,
+        alloc, context, spot.inner, is_signed, register, size, index, count,
     )
 }
 
@@ -179,7 +186,7 @@ pub fn element_at_number(
 #[inline(never)]
 pub fn slice_behind(
     alloc: Global,
-    course: &Course,
+    context: &WalkContext,
     spot: &Spot,
     is_signed: bool,
     register: usize,
@@ -189,13 +196,14 @@ pub fn slice_behind(
     found: Box<Found>,
     count: Count,
 ) -> Result<(Box<Found>, Count), RangeFault>
-    ensures { Gives (λ f. (found_view f.0.value, count_view f.1)) result
-        (slice_behind (sight_view course.now) spot.now is_signed register spread.now (index_view high.value) (spot_of (expr_of inner.now)) (found_view found.value) (count_view count)) }
+    ensures { Gives (λ f. (found_view f.0.value, count_view f.1)) result (slice_behind (sight_view
+        context.now) spot.now is_signed register spread.now (index_view high.value) (spot_of
+        (expr_of inner.now)) (found_view found.value) (count_view count)) }
 {
     let high = Box::into_inner(high);
     let low = index_of(alloc, spot_of(inner), Box::into_inner(found))?;
     slice(
-        alloc, course, spot.inner, is_signed, register, *spread, high, low, count,
+        alloc, context, spot.inner, is_signed, register, *spread, high, low, count,
     )
 }
 
@@ -203,7 +211,7 @@ pub fn slice_behind(
 #[inline(never)]
 pub fn element_behind(
     alloc: Global,
-    course: &Course,
+    context: &WalkContext,
     spot: &Spot,
     is_signed: bool,
     register: usize,
@@ -212,12 +220,13 @@ pub fn element_behind(
     found: Box<Found>,
     count: Count,
 ) -> Result<(Box<Found>, Count), RangeFault>
-    ensures { Gives (λ f. (found_view f.0.value, count_view f.1)) result
-        (element_behind (sight_view course.now) spot.now is_signed register size (spot_of (expr_of inner.now)) (found_view found.value) (count_view count)) }
+    ensures { Gives (λ f. (found_view f.0.value, count_view f.1)) result (element_behind (sight_view
+        context.now) spot.now is_signed register size (spot_of (expr_of inner.now)) (found_view
+        found.value) (count_view count)) }
 {
     let index = index_of(alloc, spot_of(inner), Box::into_inner(found))?;
     element(
-        alloc, course, spot.inner, is_signed, register, size, index, count,
+        alloc, context, spot.inner, is_signed, register, size, index, count,
     )
 }
 
@@ -225,25 +234,25 @@ pub fn element_behind(
 #[inline(never)]
 pub fn unary_behind(
     alloc: Global,
-    course: &Course,
+    context: &WalkContext,
     spot: &Spot,
     op: UnaryOp,
     inner: &ResolvedExpr,
     found: Box<Found>,
     count: Count,
 ) -> Result<(Box<Found>, Count), RangeFault>
-    ensures { Gives (λ f. (found_view f.0.value, count_view f.1)) result
-        (unary_behind spot.now op (spot_of (expr_of inner.now)) (found_view found.value) (count_view count)) }
+    ensures { Gives (λ f. (found_view f.0.value, count_view f.1)) result (unary_behind spot.now op
+        (spot_of (expr_of inner.now)) (found_view found.value) (count_view count)) }
 {
     let found = unary_at(alloc, *spot, op, spot_of(inner), Box::into_inner(found))?;
-    written(alloc, course, found, count)
+    written(alloc, context, found, count)
 }
 
 /// An operator or a function of two operands, by its first, and what is known of the second.
 #[inline(never)]
 pub fn binary_behind(
     alloc: Global,
-    course: &Course,
+    context: &WalkContext,
     spot: &Spot,
     op: BinaryOp,
     first: Box<Operand>,
@@ -251,13 +260,14 @@ pub fn binary_behind(
     found: Box<Found>,
     count: Count,
 ) -> Result<(Box<Found>, Count), RangeFault>
-    ensures { Gives (λ f. (found_view f.0.value, count_view f.1)) result
-        (binary_behind spot.now op (operand_view first.value) (spot_of (expr_of inner.now)) (found_view found.value) (count_view count)) }
+    ensures { Gives (λ f. (found_view f.0.value, count_view f.1)) result (binary_behind spot.now op
+        (operand_view first.value) (spot_of (expr_of inner.now)) (found_view found.value)
+        (count_view count)) }
 {
     let first = Box::into_inner(first);
     let second = operand(alloc, spot_of(inner), Box::into_inner(found))?;
     let (found, count) = binary_at(alloc, *spot, op, spot_of(inner), first, second, count)?;
-    written(alloc, course, found, count)
+    written(alloc, context, found, count)
 }
 
 /// The branch that a choice takes, by what is known of it.
@@ -279,18 +289,19 @@ pub fn plain_behind(
 #[inline(never)]
 pub fn either_behind(
     alloc: Global,
-    course: &Course,
+    context: &WalkContext,
     condition: Box<Word>,
     first: Box<Operand>,
     inner: &ResolvedExpr,
     found: Box<Found>,
     count: Count,
 ) -> Result<(Box<Found>, Count), RangeFault>
-    ensures { Gives (λ f. (found_view f.0.value, count_view f.1)) result
-        (either_behind (word_of condition.value) (operand_view first.value) (spot_of (expr_of inner.now)) (found_view found.value) (count_view count)) }
+    ensures { Gives (λ f. (found_view f.0.value, count_view f.1)) result (either_behind (word_of
+        condition.value) (operand_view first.value) (spot_of (expr_of inner.now)) (found_view
+        found.value) (count_view count)) }
 {
     let first = Box::into_inner(first);
     let second = operand(alloc, spot_of(inner), Box::into_inner(found))?;
     let found = either(alloc, Box::into_inner(condition), first, second)?;
-    written(alloc, course, found, count)
+    written(alloc, context, found, count)
 }

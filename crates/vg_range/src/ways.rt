@@ -5,15 +5,15 @@ ghost use Rattle.std.specs.List.{list_all};
 ghost use Rattle.std.specs.Option.{option_map};
 ghost use Rattle.vg_interval.specs.Views.{kept_view};
 ghost use Rattle.vg_script.specs.Views.{script_of, word_of};
-ghost use Rattle.vg_range.specs.Met.{way_view, ways_view};
-ghost use Rattle.vg_range.specs.Seen.{course_view, stand_view};
+ghost use Rattle.vg_range.specs.Steps.{way_view, ways_view};
+ghost use Rattle.vg_range.specs.Seen.{context_view, state_view};
 ghost use Rattle.vg_range.specs.Walk.{branch_of, closed, does_nothing, in_front, is_empty, joined_with, no_ways, with_way};
 
-use crate::course::Course;
 use crate::joining::join;
-use crate::stand::{Stand, is_empty, with_script};
+use crate::walk_context::WalkContext;
+use crate::walk_state::{WalkState, is_empty, with_script};
 use std::alloc::{AllocError, Global};
-use vg_interval::{Count, Kept};
+use vg_interval::{Count, KnownNumber};
 use vg_script::{Script, Word, make_branch, make_last, make_way};
 
 /// A way that may be taken: its condition and what it does.
@@ -27,14 +27,20 @@ pub struct WayTaken {
 #[derive(Drop)]
 pub struct Ways {
     pub scripts: Vec<WayTaken>,
-    pub joined: Option<Vec<Kept>>,
+    pub joined: Option<Vec<KnownNumber>>,
 }
 
 /// A way that was looked at: others may be taken after those found, or it is the last.
 #[derive(Drop)]
-pub enum Met {
-    Further { found: Box<Ways>, count: Count },
-    Final { found: Box<Ways>, last: Box<Stand> },
+pub enum WayStep {
+    Further {
+        found: Box<Ways>,
+        count: Count,
+    },
+    Final {
+        found: Box<Ways>,
+        last: Box<WalkState>,
+    },
 }
 
 /// The ways of an IF before the first: none is found yet. Fails for want of memory alone.
@@ -52,11 +58,11 @@ pub fn no_ways(alloc: Global) -> Result<Box<Ways>, AllocError>
 /// What is known after a way more.
 fn joined_with(
     alloc: Global,
-    joined: Option<Vec<Kept>>,
-    numbers: Vec<Kept>,
-) -> Result<Vec<Kept>, AllocError>
-    ensures { IfOk result (λ ks. map kept_view ks.items ≡
-        joined_with (option_map (λ js. map kept_view js.items) joined) (map kept_view numbers.items)) }
+    joined: Option<Vec<KnownNumber>>,
+    numbers: Vec<KnownNumber>,
+) -> Result<Vec<KnownNumber>, AllocError>
+    ensures { IfOk result (λ ks. map kept_view ks.items ≡ joined_with (option_map (λ js. map
+        kept_view js.items) joined) (map kept_view numbers.items)) }
 {
     match joined {
         None => Ok(numbers),
@@ -67,25 +73,25 @@ fn joined_with(
 #[tactic(auto, using(crate::proofs::Lists::view_last))]
 fn with_way(
     alloc: Global,
-    course: &Course,
+    context: &WalkContext,
     condition: Word,
-    stand: Box<Stand>,
+    state: Box<WalkState>,
     found: Ways,
 ) -> Result<Ways, AllocError>
-    ensures { IfOk result (λ w. ways_view w ≡
-        with_way (course_view course.now) (word_of condition) (stand_view stand.value) (ways_view found)) }
+    ensures { IfOk result (λ w. ways_view w ≡ with_way (context_view context.now) (word_of
+        condition) (state_view state.value) (ways_view found)) }
 {
-    let Stand {
+    let WalkState {
         numbers,
         count: _,
         script: body,
-    } = Box::into_inner(stand);
+    } = Box::into_inner(state);
     let Ways {
         mut scripts,
         joined,
     } = found;
     let joined = Some(joined_with(alloc, joined, numbers)?);
-    if course.is_kept {
+    if context.is_kept {
         scripts.push(WayTaken { condition, body })?;
         Ok(Ways { scripts, joined })
     } else {
@@ -95,27 +101,28 @@ fn with_way(
 }
 
 /// The ways found so far and one that may be taken where `condition` is 1, which leaves the walk at
-/// `stand`. Fails for want of memory alone.
+/// `state`. Fails for want of memory alone.
 #[inline(never)]
 pub fn one_way_more(
     alloc: Global,
-    course: &Course,
+    context: &WalkContext,
     condition: Box<Word>,
-    stand: Box<Stand>,
+    state: Box<WalkState>,
     found: Box<Ways>,
 ) -> Result<Box<Ways>, AllocError>
-    ensures { IfOk result (λ w. ways_view w.value ≡
-        with_way (course_view course.now) (word_of condition.value) (stand_view stand.value) (ways_view found.value)) }
+    ensures { IfOk result (λ w. ways_view w.value ≡ with_way (context_view context.now) (word_of
+        condition.value) (state_view state.value) (ways_view found.value)) }
 {
     let condition = Box::into_inner(condition);
-    let ways = with_way(alloc, course, condition, stand, Box::into_inner(found))?;
+    let ways = with_way(alloc, context, condition, state, Box::into_inner(found))?;
     Ok(Box::new(alloc, ways)?)
 }
 
 /// The ways in their order in front of what the last one does.
 #[tactic(auto, using(crate::proofs::Lists::view_last))]
 fn in_front(alloc: Global, mut ways: Vec<WayTaken>, last: Script) -> Result<Script, AllocError>
-    ensures { IfOk result (λ s. script_of s ≡ in_front (reverse (map way_view ways.items)) (script_of last)) }
+    ensures { IfOk result (λ s. script_of s ≡ in_front (reverse (map way_view ways.items))
+        (script_of last)) }
 {
     let mut script = last;
     'ways: while let Some(way) = ways.pop() {
@@ -138,7 +145,8 @@ fn does_nothing(ways: &[WayTaken], last: &Script) -> bool
 
 /// An IF of these ways and this last one; where there are no ways before it, the last alone.
 fn branch_of(alloc: Global, ways: Vec<WayTaken>, last: Script) -> Result<Script, AllocError>
-    ensures { IfOk result (λ s. script_of s ≡ branch_of (reverse (map way_view ways.items)) (script_of last)) }
+    ensures { IfOk result (λ s. script_of s ≡ branch_of (reverse (map way_view ways.items))
+        (script_of last)) }
 {
     if ways.is_empty() {
         Ok(last)
@@ -155,20 +163,20 @@ fn branch_of(alloc: Global, ways: Vec<WayTaken>, last: Script) -> Result<Script,
 #[inline(never)]
 pub fn closed(
     alloc: Global,
-    course: &Course,
-    stand: Box<Stand>,
+    context: &WalkContext,
+    state: Box<WalkState>,
     found: Box<Ways>,
-    last: Box<Stand>,
-) -> Result<Box<Stand>, AllocError>
-    ensures { IfOk result (λ w. stand_view w.value ≡
-        closed (course_view course.now) (stand_view stand.value) (ways_view found.value) (stand_view last.value)) }
+    last: Box<WalkState>,
+) -> Result<Box<WalkState>, AllocError>
+    ensures { IfOk result (λ w. state_view w.value ≡ closed (context_view context.now) (state_view
+        state.value) (ways_view found.value) (state_view last.value)) }
 {
-    let Stand {
+    let WalkState {
         numbers: _,
         count: _,
         script: before,
-    } = Box::into_inner(stand);
-    let Stand {
+    } = Box::into_inner(state);
+    let WalkState {
         numbers,
         count,
         script: body,
@@ -176,13 +184,13 @@ pub fn closed(
     let Ways { scripts, joined } = Box::into_inner(found);
     let branch = branch_of(alloc, scripts, body)?;
     let numbers = joined_with(alloc, joined, numbers)?;
-    let stand = Box::new(
+    let state = Box::new(
         alloc,
-        Stand {
+        WalkState {
             numbers,
             count,
             script: before,
         },
     )?;
-    with_script(alloc, course, branch, stand)
+    with_script(alloc, context, branch, state)
 }

@@ -8,7 +8,7 @@ use Rattle.vg_pseudo.specs.declared.spot.Spot.{Spot}
 use Rattle.vg_pseudo.specs.Resolved.{Expr, literal, counter, variable, slice, element, front, unary, binary, choice, call, Arguments, end, more}
 use Rattle.vg_interval.specs.declared.fault.RangeFault.{RangeFault}
 use Rattle.vg_interval.specs.Found.{Found, Operand, fixed, moving, word_of, plain, operand, condition, Passed, passed}
-use Rattle.vg_interval.specs.Judge.{Kept, Count, step, Walk, Sight, bits_between, bits_of_element, index_of, unary_at, spot_of, no_walk, Judges, branch, chosen, judge, judge_all}
+use Rattle.vg_interval.specs.Judge.{KnownNumber, Count, step, Walk, Sight, bits_between, bits_of_element, index_of, unary_at, spot_of, no_walk, Judges, branch, chosen, judge, judge_all}
 use Rattle.vg_interval.specs.Judge as judging
 use Rattle.vg_range_laws.proofs.Settled.{Settled, Gives, gives_where, then_settled, then_plain, anyhow, settled_if}
 use Rattle.vg_range_laws.proofs.Operators.{FoundStatic, FirstStatic, OperandStatic, PassedStatic, AllPassedStatic, is_met, operand-static, condition-static, plain-static, word_of-static, passed-static, slice_at-settled, element_at-settled, front-settled, variable-static, unary_at-static, binary_at-settled}
@@ -64,7 +64,7 @@ abbrev AllFirst : List Passed × Count → Type 0
 AllFirst p = AllPassedStatic p.0
 
 mutual
-  pub judge-settled : (s : Sight) → CallsSettle s.walks → (ks : List Kept) (e : Expr) (c : Count) → Settled is_met FirstStatic c.is_dynamic (judge s ks e c)
+  pub judge-settled : (s : Sight) → CallsSettle s.walks → (ks : List KnownNumber) (e : Expr) (c : Count) → Settled is_met FirstStatic c.is_dynamic (judge s ks e c)
   judge-settled s w ks (literal p n) c = λ e. (e, tt)
   judge-settled s w ks (counter p k) c = λ e. (e, tt)
   judge-settled s w ks (variable p k) c = λ e. (e, variable-static k (get_or ks k (judging.constant (pos 0))))
@@ -101,7 +101,7 @@ mutual
       then_settled is_met AllFirst is_met FirstStatic d.is_dynamic (judge_all s ks xs d) _ (judge_all-settled s w ks xs d) (λ g j.
       w k p g.0 g.1 (λ e. (j e).1)))
 
-  judge_all-settled : (s : Sight) → CallsSettle s.walks → (ks : List Kept) (xs : Arguments) (c : Count) → Settled is_met AllFirst c.is_dynamic (judge_all s ks xs c)
+  judge_all-settled : (s : Sight) → CallsSettle s.walks → (ks : List KnownNumber) (xs : Arguments) (c : Count) → Settled is_met AllFirst c.is_dynamic (judge_all s ks xs c)
   judge_all-settled s w ks end c = λ e. (e, tt)
   judge_all-settled s w ks (more x xs) c =
       then_settled is_met FirstStatic is_met AllFirst c.is_dynamic (judge s ks x c) _ (judge-settled s w ks x c) (λ f i.

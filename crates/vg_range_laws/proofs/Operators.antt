@@ -20,7 +20,7 @@ use Rattle.vg_interval.specs.Interval.{between, binary_span, shifted_left_span, 
 use Rattle.vg_interval.specs.Words.{extended, low_extended, left_by, unary_word, binary_word, comparison}
 use Rattle.vg_interval.specs.Found.{Found, known, read, handed, bit, within, wide, loose, Operand, fixed, moving, span_of, word_of, plain, slice_word, handed_word, or_too_wide, operand, condition, Passed, computed, passed, answered}
 use Rattle.vg_interval.specs.Found as found
-use Rattle.vg_interval.specs.Judge.{Kept, varying, Count, step, dynamic, Sight, Bits, bits_between, bits_of_element, slice_found, Index, settled, unsettled, moving_slice, slice_at, element_at, result_within, result_known, width_found, bits_read, extended_slice, unary_of, unary_found, cut_loose, unary_at, is_shift, is_comparison, shifted_along, shifted_by, shift_at, joined, binary_at, variable_found}
+use Rattle.vg_interval.specs.Judge.{KnownNumber, varying, Count, step, dynamic, Sight, Bits, bits_between, bits_of_element, slice_found, Index, settled, unsettled, moving_slice, slice_at, element_at, result_within, result_known, width_found, bits_read, extended_slice, unary_of, unary_found, cut_loose, unary_at, is_shift, is_comparison, shifted_along, shifted_by, shift_at, joined, binary_at, variable_found}
 use Rattle.vg_interval.specs.Judge as judging
 use Rattle.vg_range_laws.specs.Static.{IsPlace, IsStaticWord, IsStaticFrame}
 use Rattle.vg_range_laws.proofs.Settled.{Settled, Gives, gives_if, gives_bind, then_plain, anyhow, settled_if}
@@ -168,7 +168,7 @@ pub front-settled : (s : Sight) (b : Bool) (r : ℕ) (q : Result Bits RangeFault
     → Settled is_met FirstStatic c.is_dynamic (q >>= λ x. Ok (slice_found b (get_or s.constants r None) r x, c))
 front-settled s b r q c = then_plain (λ x. Unit {0}) is_met FirstStatic c.is_dynamic q _ (anyhow q) (λ x u e. (e, slice_found-static b (get_or s.constants r None) r x))
 
-pub variable-static : (k : ℕ) (v : Kept) → FoundStatic (variable_found k v)
+pub variable-static : (k : ℕ) (v : KnownNumber) → FoundStatic (variable_found k v)
 variable-static k (judging.constant z) = tt
 variable-static k (varying i) = tt
 

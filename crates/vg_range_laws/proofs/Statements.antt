@@ -15,7 +15,7 @@ use Rattle.vg_interval.specs.Found.{Found, known, read, handed, bit, within, wid
 use Rattle.vg_interval.specs.Found as found
 use Rattle.vg_interval.specs.Words as words
 use Rattle.vg_interval.specs.Judge.{Count, step, Walk, bits_between, bits_of_element, index_of, spot_of, no_walk, judge}
-use Rattle.vg_range.specs.Walk.{Stand, at_count, is_empty, behind, Course, with_script, judged, constant_index, constant_at, Goal, goal, width_in, goal_at, put_word, stored, kept_of, target_number, assigned, assign_at, in_turn, turns_at, Ways, no_ways, with_way, in_front, does_nothing, branch_of, closed, beginning, Arms, arms_in_front, arms_do_nothing, pick_of, with_arm, arms_of, way_taken, walk, walk_ways, arm_taken, all_arms, given_of, course_of, constants_of, begun, called, walks_from}
+use Rattle.vg_range.specs.Walk.{WalkState, at_count, is_empty, behind, WalkContext, with_script, judged, constant_index, constant_at, Goal, goal, width_in, goal_at, put_word, stored, kept_of, target_number, assigned, assign_at, in_turn, turns_at, Ways, no_ways, with_way, in_front, does_nothing, branch_of, closed, beginning, Arms, arms_in_front, arms_do_nothing, pick_of, with_arm, arms_of, way_taken, walk, walk_ways, arm_taken, all_arms, given_of, context_of, constants_of, begun, called, walks_from}
 use Rattle.vg_range_laws.specs.Static.{IsStatic, IsStaticWord, IsStaticGiven}
 use Rattle.vg_range_laws.proofs.Settled.{Settled, Gives, gives_if, gives_where, then_settled, then_plain, anyhow, settled_if}
 use Rattle.vg_range_laws.proofs.Operators.{FoundStatic, FirstStatic, OperandStatic, PassedStatic, AllPassedStatic, is_met, condition-static, word_of-static, answered-static, slice_word-static, handed_word-static, extended-static}
@@ -23,21 +23,21 @@ use Rattle.vg_range_laws.proofs.Expressions.{WalkSettles, CallsSettle, flag_of, 
 
 -- ---- stands
 
-abbrev pub met : Stand → Bool
+abbrev pub met : WalkState → Bool
 met w = w.count.is_dynamic
 
-abbrev pub StandStatic : Stand → Type 0
-StandStatic w = IsStatic w.script
+abbrev pub StateStatic : WalkState → Type 0
+StateStatic w = IsStatic w.script
 
 -- what is known where a walk stands
-abbrev pub Known : Stand → Type 0
-Known w = met w ≡ false → StandStatic w
+abbrev pub Known : WalkState → Type 0
+Known w = met w ≡ false → StateStatic w
 
-abbrev pub CourseSettles : Course → Type 0
-CourseSettles x = CallsSettle x.sight.walks
+abbrev pub ContextSettles : WalkContext → Type 0
+ContextSettles x = CallsSettle x.sight.walks
 
-abbrev pub GoesOn : (Stand → Result Stand RangeFault) → Type 0
-GoesOn f = (w : Stand) → Known w → Settled met StandStatic (met w) (f w)
+abbrev pub GoesOn : (WalkState → Result WalkState RangeFault) → Type 0
+GoesOn f = (w : WalkState) → Known w → Settled met StateStatic (met w) (f w)
 
 if_script : (b : Bool) (s t : Script) → IsStatic s → IsStatic t → IsStatic (if b then s else t)
 if_script true s t h g = h
@@ -46,40 +46,40 @@ if_script false s t h g = g
 behind-static : (s t : Script) → IsStatic s → IsStatic t → IsStatic (behind s t)
 behind-static s t h g = if_script (is_empty t) s _ h (if_script (is_empty s) t _ g (h, g))
 
-abbrev given : Stand → Result Stand RangeFault
+abbrev given : WalkState → Result WalkState RangeFault
 given w = Ok w
 
-if_stand : (b : Bool) (f : Bool) (u w : Stand) → Settled met StandStatic f (given u) → Settled met StandStatic f (given w) → Settled met StandStatic f (given (if b then u else w))
+if_stand : (b : Bool) (f : Bool) (u w : WalkState) → Settled met StateStatic f (given u) → Settled met StateStatic f (given w) → Settled met StateStatic f (given (if b then u else w))
 if_stand true f u w h g = h
 if_stand false f u w h g = g
 
 -- a script after the one so far
-with_script-settled : (x : Course) (s : Script) (w : Stand) (b : Bool) → (met w ≡ false → (b ≡ false) × IsStatic s × StandStatic w) → Settled met StandStatic b (given (with_script x s w))
+with_script-settled : (x : WalkContext) (s : Script) (w : WalkState) (b : Bool) → (met w ≡ false → (b ≡ false) × IsStatic s × StateStatic w) → Settled met StateStatic b (given (with_script x s w))
 with_script-settled x s w b h =
     if_stand x.is_kept b _ w (λ e. let k = h e in (k.0, behind-static w.script s k.2 k.1)) (λ e. let k = h e in (k.0, k.2))
 
 -- ---- assignments
 
-abbrev second_met : {A : Type 0} → A × Stand → Bool
+abbrev second_met : {A : Type 0} → A × WalkState → Bool
 second_met p = met p.1
 
-abbrev SecondStatic : {A : Type 0} → A × Stand → Type 0
-SecondStatic p = StandStatic p.1
+abbrev SecondStatic : {A : Type 0} → A × WalkState → Type 0
+SecondStatic p = StateStatic p.1
 
-judged-settled : (x : Course) → CourseSettles x → (w : Stand) (e : Expr) → Settled is_met FirstStatic (met w) (judged x w e)
+judged-settled : (x : WalkContext) → ContextSettles x → (w : WalkState) (e : Expr) → Settled is_met FirstStatic (met w) (judged x w e)
 judged-settled x h w e = judge-settled x.sight h w.numbers e w.count
 
-constant_at-settled : (x : Course) → CourseSettles x → (w : Stand) (e : Expr) → Known w → Settled second_met SecondStatic (met w) (constant_at x w e)
+constant_at-settled : (x : WalkContext) → ContextSettles x → (w : WalkState) (e : Expr) → Known w → Settled second_met SecondStatic (met w) (constant_at x w e)
 constant_at-settled x h w e k =
     then_settled is_met FirstStatic second_met SecondStatic (met w) (judged x w e) _ (judged-settled x h w e) (λ f i.
     then_plain (λ j. Unit {0}) second_met SecondStatic f.1.is_dynamic (index_of (spot_of e) f.0) _ (anyhow _) (λ j u.
     then_plain (λ z. Unit {0}) second_met SecondStatic f.1.is_dynamic (constant_index (spot_of e).outer j) _ (anyhow _) (λ z v d.
     (d, k (i d).0))))
 
-abbrev aimed : Goal → Stand → Result (Option Goal × Stand) RangeFault
+abbrev aimed : Goal → WalkState → Result (Option Goal × WalkState) RangeFault
 aimed g w = Ok (Some g, w)
 
-goal_at-settled : (x : Course) → CourseSettles x → (p : Place) (w : Stand) (t : Target) → Known w → Settled second_met SecondStatic (met w) (goal_at x p w t)
+goal_at-settled : (x : WalkContext) → ContextSettles x → (p : Place) (w : WalkState) (t : Target) → Known w → Settled second_met SecondStatic (met w) (goal_at x p w t)
 goal_at-settled x h p w (bits r a l) k =
     then_settled second_met SecondStatic second_met SecondStatic (met w) (constant_at x w a) _ (constant_at-settled x h w a k) (λ high i.
     then_settled second_met SecondStatic second_met SecondStatic (met high.1) (constant_at x high.1 l) _ (constant_at-settled x h high.1 l (λ d. (i d).1)) (λ low j.
@@ -103,33 +103,33 @@ stored-static s g (within i y) h = put_word-static s.outer g y h
 stored-static s g (wide y) h = put_word-static s.outer g y h
 stored-static s g (loose y) h = tt
 
-assigned-settled : (x : Course) (s : Spot) (t : Target) (g : Option Goal) (f : Found) (w : Stand) → Known w → (met w ≡ false → FoundStatic f)
-    → Settled met StandStatic (met w) (assigned x s t g f w)
+assigned-settled : (x : WalkContext) (s : Spot) (t : Target) (g : Option Goal) (f : Found) (w : WalkState) → Known w → (met w ≡ false → FoundStatic f)
+    → Settled met StateStatic (met w) (assigned x s t g f w)
 assigned-settled x s t (Some g) f w k h =
-    then_plain (λ m. met w ≡ false → IsStatic m) met StandStatic (met w) (stored s g f) _ (gives_where (met w ≡ false) IsStatic (stored s g f) (λ e. stored-static s g f (h e))) (λ m n.
+    then_plain (λ m. met w ≡ false → IsStatic m) met StateStatic (met w) (stored s g f) _ (gives_where (met w ≡ false) IsStatic (stored s g f) (λ e. stored-static s g f (h e))) (λ m n.
     with_script-settled x m w (met w) (λ e. (e, n e, k e)))
 assigned-settled x s t None f w k h =
-    then_plain (λ a. met w ≡ false → OperandStatic a) met StandStatic (met w) (operand s f) _ (operand-where s f (met w) h) (λ a n.
+    then_plain (λ a. met w ≡ false → OperandStatic a) met StateStatic (met w) (operand s f) _ (operand-where s f (met w) h) (λ a n.
     with_script-settled x (script.give (target_number t) (word_of a)) (record { numbers = set w.numbers (target_number t) (kept_of a); count = w.count; script = w.script }) (met w)
     (λ e. (e, word_of-static a (n e), k e)))
 
 abbrev CountHolds : Count → Type 0
 CountHolds c = Unit {0}
 
-assign_at-settled : (x : Course) → CourseSettles x → (p : Place) (t : Target) (a : Expr) → GoesOn (assign_at x p t a)
+assign_at-settled : (x : WalkContext) → ContextSettles x → (p : Place) (t : Target) (a : Expr) → GoesOn (assign_at x p t a)
 assign_at-settled x h p t a w k =
-    then_settled flag_of CountHolds met StandStatic (met w) (step p w.count) _ (step-settled p w.count) (λ c i.
-    then_settled second_met SecondStatic met StandStatic c.is_dynamic (goal_at x p (at_count w c) t) _ (goal_at-settled x h p (at_count w c) t (λ d. k (i d).0)) (λ g j.
-    then_settled is_met FirstStatic met StandStatic (met g.1) (judged x g.1 a) _ (judged-settled x h g.1 a) (λ f n.
+    then_settled flag_of CountHolds met StateStatic (met w) (step p w.count) _ (step-settled p w.count) (λ c i.
+    then_settled second_met SecondStatic met StateStatic c.is_dynamic (goal_at x p (at_count w c) t) _ (goal_at-settled x h p (at_count w c) t (λ d. k (i d).0)) (λ g j.
+    then_settled is_met FirstStatic met StateStatic (met g.1) (judged x g.1 a) _ (judged-settled x h g.1 a) (λ f n.
     assigned-settled x (spot_of a) t g.0 f.0 (at_count g.1 f.1) (λ d. (j (n d).0).1) (λ d. (n d).1))))
 
 -- ---- turns
 
-turns-settled : (body : ℤ → Stand → Result Stand RangeFault) → ((z : ℤ) → GoesOn (body z)) → (p : Place) (z : ℤ) (n : ℕ) → GoesOn (turns_at body p z n)
+turns-settled : (body : ℤ → WalkState → Result WalkState RangeFault) → ((z : ℤ) → GoesOn (body z)) → (p : Place) (z : ℤ) (n : ℕ) → GoesOn (turns_at body p z n)
 turns-settled body h p z zero w k = λ e. (e, k e)
 turns-settled body h p z (suc n) w k =
-    then_settled flag_of CountHolds met StandStatic (met w) (step p w.count) _ (step-settled p w.count) (λ c i.
-    then_settled met StandStatic met StandStatic c.is_dynamic (body z (at_count w c)) _ (h z (at_count w c) (λ d. k (i d).0)) (λ v j.
+    then_settled flag_of CountHolds met StateStatic (met w) (step p w.count) _ (step-settled p w.count) (λ c i.
+    then_settled met StateStatic met StateStatic c.is_dynamic (body z (at_count w c)) _ (h z (at_count w c) (λ d. k (i d).0)) (λ v j.
     turns-settled body h p (z +ℤ pos 1) n v (λ d. (j d).1)))
 
 -- ---- ways
@@ -146,8 +146,8 @@ branch_of-static : (ws : List (Word × Script)) (s : Script) → WaysStatic ws �
 branch_of-static [] s h g = g
 branch_of-static (w ∷ ws) s h g = if_script (does_nothing (w ∷ ws) s) script.stop _ tt (in_front-static (w ∷ ws) (script.last s) h g)
 
-closed-settled : (x : Course) (w : Stand) (ways : Ways) (v : Stand) (b : Bool) → (met v ≡ false → (b ≡ false) × StandStatic w × WaysStatic ways.scripts × StandStatic v)
-    → Settled met StandStatic b (given (closed x w ways v))
+closed-settled : (x : WalkContext) (w : WalkState) (ways : Ways) (v : WalkState) (b : Bool) → (met v ≡ false → (b ≡ false) × StateStatic w × WaysStatic ways.scripts × StateStatic v)
+    → Settled met StateStatic b (given (closed x w ways v))
 closed-settled x w ways v b h =
     with_script-settled x (branch_of ways.scripts v.script) _ b (λ e. let k = h e in (k.0, branch_of-static ways.scripts v.script k.2 k.3, k.1))
 
@@ -155,13 +155,13 @@ if_ways : (b : Bool) (c : Word) (s : Script) (ws : List (Word × Script)) → Is
 if_ways true c s ws h g k = (h, g, k)
 if_ways false c s ws h g k = tt
 
-way_taken-settled : (a : Operand) (c : Bool) (body : Result Stand RangeFault) (on : Stand → Result Stand RangeFault) (others : Result Stand RangeFault) (only : Stand → Stand)
-    → Settled met StandStatic c body → ((u : Stand) → (met u ≡ false → (c ≡ false) × StandStatic u) → Settled met StandStatic (met u) (on u)) → Settled met StandStatic c others
-    → ((u : Stand) → (met u ≡ false → (c ≡ false) × StandStatic u) → Settled met StandStatic (met u) (given (only u)))
-    → Settled met StandStatic c (way_taken a body on others only)
+way_taken-settled : (a : Operand) (c : Bool) (body : Result WalkState RangeFault) (on : WalkState → Result WalkState RangeFault) (others : Result WalkState RangeFault) (only : WalkState → WalkState)
+    → Settled met StateStatic c body → ((u : WalkState) → (met u ≡ false → (c ≡ false) × StateStatic u) → Settled met StateStatic (met u) (on u)) → Settled met StateStatic c others
+    → ((u : WalkState) → (met u ≡ false → (c ≡ false) × StateStatic u) → Settled met StateStatic (met u) (given (only u)))
+    → Settled met StateStatic c (way_taken a body on others only)
 way_taken-settled (fixed z) c body on others only h g k n =
-    settled_if met StandStatic c (int_eq z (pos 0)) _ _ k (then_settled met StandStatic met StandStatic c body _ h (λ u i. n u i))
-way_taken-settled (moving i y) c body on others only h g k n = then_settled met StandStatic met StandStatic c body _ h g
+    settled_if met StateStatic c (int_eq z (pos 0)) _ _ k (then_settled met StateStatic met StateStatic c body _ h (λ u i. n u i))
+way_taken-settled (moving i y) c body on others only h g k n = then_settled met StateStatic met StateStatic c body _ h g
 
 -- ---- arms
 
@@ -183,45 +183,45 @@ if_arms false n s ws g k = tt
 abbrev FirstArms : Arms × Count → Type 0
 FirstArms p = ArmsStatic p.0.scripts
 
-arms_of-settled : (x : Course) (w : Stand) (a : Operand) (one : Stand → ℤ → Result Stand RangeFault) (all : Stand → Arms → Count → Result (Arms × Count) RangeFault)
-    → Known w → (met w ≡ false → OperandStatic a) → ((z : ℤ) → Settled met StandStatic (met w) (one w z))
+arms_of-settled : (x : WalkContext) (w : WalkState) (a : Operand) (one : WalkState → ℤ → Result WalkState RangeFault) (all : WalkState → Arms → Count → Result (Arms × Count) RangeFault)
+    → Known w → (met w ≡ false → OperandStatic a) → ((z : ℤ) → Settled met StateStatic (met w) (one w z))
     → ((found : Arms) → ArmsStatic found.scripts → Settled is_met FirstArms (met w) (all w found w.count))
-    → Settled met StandStatic (met w) (arms_of x w a one all)
+    → Settled met StateStatic (met w) (arms_of x w a one all)
 arms_of-settled x w (fixed z) one all k h g n = g z
 arms_of-settled x w (moving i y) one all k h g n =
     let none : Arms = record { scripts = []; joined = w.numbers } in
-    then_settled is_met FirstArms met StandStatic (met w) (all w none w.count) _ (n none tt) (λ found j.
+    then_settled is_met FirstArms met StateStatic (met w) (all w none w.count) _ (n none tt) (λ found j.
     with_script-settled x (pick_of y found.0.scripts) _ found.1.is_dynamic (λ e.
     let m = j e in
     (e, pick_of-static y found.0.scripts (h m.0) m.1, k m.0)))
 
 -- ---- statements
 
-begins : (w : Stand) (c : Count) → Known (beginning w c)
+begins : (w : WalkState) (c : Count) → Known (beginning w c)
 begins w c = λ e. tt
 
 mutual
-  pub walk-settled : (x : Course) → CourseSettles x → (d : Code) → GoesOn (walk x d)
+  pub walk-settled : (x : WalkContext) → ContextSettles x → (d : Code) → GoesOn (walk x d)
   walk-settled x h stop w k = λ e. (e, k e)
   walk-settled x h (assign p t a rest) w k =
-      then_settled met StandStatic met StandStatic (met w) (assign_at x p t a w) _ (assign_at-settled x h p t a w k) (λ v i.
+      then_settled met StateStatic met StateStatic (met w) (assign_at x p t a w) _ (assign_at-settled x h p t a w k) (λ v i.
       walk-settled x h rest v (λ d. (i d).1))
   walk-settled x h (skip p rest) w k =
-      then_settled flag_of CountHolds met StandStatic (met w) (step p w.count) _ (step-settled p w.count) (λ c i.
+      then_settled flag_of CountHolds met StateStatic (met w) (step p w.count) _ (step-settled p w.count) (λ c i.
       walk-settled x h rest (at_count w c) (λ d. k (i d).0))
   walk-settled x h (repeat p a b body rest) w k =
-      then_settled second_met SecondStatic met StandStatic (met w) (constant_at x w a) _ (constant_at-settled x h w a k) (λ first i.
-      then_settled second_met SecondStatic met StandStatic (met first.1) (constant_at x first.1 b) _ (constant_at-settled x h first.1 b (λ d. (i d).1)) (λ final j.
-      then_settled met StandStatic met StandStatic (met final.1) (turns_at (λ z u. walk (in_turn x z) body u) p first.0 (count first.0 final.0) final.1) _
+      then_settled second_met SecondStatic met StateStatic (met w) (constant_at x w a) _ (constant_at-settled x h w a k) (λ first i.
+      then_settled second_met SecondStatic met StateStatic (met first.1) (constant_at x first.1 b) _ (constant_at-settled x h first.1 b (λ d. (i d).1)) (λ final j.
+      then_settled met StateStatic met StateStatic (met final.1) (turns_at (λ z u. walk (in_turn x z) body u) p first.0 (count first.0 final.0) final.1) _
       (turns-settled (λ z u. walk (in_turn x z) body u) (λ z. walk-settled (in_turn x z) h body) p first.0 (count first.0 final.0) final.1 (λ d. (j d).1)) (λ v n.
       walk-settled x h rest v (λ d. (n d).1))))
   walk-settled x h (choose ways rest) w k =
-      then_settled met StandStatic met StandStatic (met w) (walk_ways x ways w no_ways w.count) _ (ways-settled x h ways w no_ways w.count (λ e. (k e, tt))) (λ v i.
+      then_settled met StateStatic met StateStatic (met w) (walk_ways x ways w no_ways w.count) _ (ways-settled x h ways w no_ways w.count (λ e. (k e, tt))) (λ v i.
       walk-settled x h rest v (λ d. (i d).1))
   walk-settled x h (pick a arms rest) w k =
-      then_settled is_met FirstStatic met StandStatic (met w) (judged x w a) _ (judged-settled x h w a) (λ f i.
-      then_plain (λ o. f.1.is_dynamic ≡ false → OperandStatic o) met StandStatic f.1.is_dynamic (operand (spot_of a) f.0) _ (operand-where (spot_of a) f.0 f.1.is_dynamic (λ d. (i d).1)) (λ o m.
-      then_settled met StandStatic met StandStatic f.1.is_dynamic (arms_of x (at_count w f.1) o (arm_taken x arms) (all_arms x arms)) _
+      then_settled is_met FirstStatic met StateStatic (met w) (judged x w a) _ (judged-settled x h w a) (λ f i.
+      then_plain (λ o. f.1.is_dynamic ≡ false → OperandStatic o) met StateStatic f.1.is_dynamic (operand (spot_of a) f.0) _ (operand-where (spot_of a) f.0 f.1.is_dynamic (λ d. (i d).1)) (λ o m.
+      then_settled met StateStatic met StateStatic f.1.is_dynamic (arms_of x (at_count w f.1) o (arm_taken x arms) (all_arms x arms)) _
       (arms_of-settled x (at_count w f.1) o (arm_taken x arms) (all_arms x arms) (λ d. k (i d).0) m
       (λ z. arm-settled x h arms (at_count w f.1) z (λ d. k (i d).0)) (λ found n. arms-settled x h arms (at_count w f.1) found f.1 (λ d. n))) (λ v n.
       walk-settled x h rest v (λ d. (n d).1))))
@@ -229,11 +229,11 @@ mutual
   walk-settled x h (last body) w k = λ e. (e, k e)
   walk-settled x h (arm n body arms) w k = λ e. (e, k e)
 
-  ways-settled : (x : Course) → CourseSettles x → (d : Code) (w : Stand) (found : Ways) (n : Count) → (n.is_dynamic ≡ false → StandStatic w × WaysStatic found.scripts)
-      → Settled met StandStatic n.is_dynamic (walk_ways x d w found n)
+  ways-settled : (x : WalkContext) → ContextSettles x → (d : Code) (w : WalkState) (found : Ways) (n : Count) → (n.is_dynamic ≡ false → StateStatic w × WaysStatic found.scripts)
+      → Settled met StateStatic n.is_dynamic (walk_ways x d w found n)
   ways-settled x h (way c body more) w found n k =
-      then_settled is_met FirstStatic met StandStatic n.is_dynamic (judge x.sight w.numbers c n) _ (judge-settled x.sight h w.numbers c n) (λ f i.
-      then_plain (λ a. f.1.is_dynamic ≡ false → OperandStatic a) met StandStatic f.1.is_dynamic (operand (spot_of c) f.0) _ (operand-where (spot_of c) f.0 f.1.is_dynamic (λ d. (i d).1)) (λ a m.
+      then_settled is_met FirstStatic met StateStatic n.is_dynamic (judge x.sight w.numbers c n) _ (judge-settled x.sight h w.numbers c n) (λ f i.
+      then_plain (λ a. f.1.is_dynamic ≡ false → OperandStatic a) met StateStatic f.1.is_dynamic (operand (spot_of c) f.0) _ (operand-where (spot_of c) f.0 f.1.is_dynamic (λ d. (i d).1)) (λ a m.
       way_taken-settled a f.1.is_dynamic (walk x body (beginning w f.1)) _ (walk_ways x more w found f.1) (closed x w found)
       (walk-settled x h body (beginning w f.1) (begins w f.1))
       (λ u j. ways-settled x h more w (with_way x (condition f.0 a) u found) u.count (λ d.
@@ -247,7 +247,7 @@ mutual
       let q = k (i o.0).0 in
       (d, q.0, q.1, o.1)))))
   ways-settled x h (last body) w found n k =
-      then_settled met StandStatic met StandStatic n.is_dynamic (walk x body (beginning w n)) _ (walk-settled x h body (beginning w n) (begins w n)) (λ v i.
+      then_settled met StateStatic met StateStatic n.is_dynamic (walk x body (beginning w n)) _ (walk-settled x h body (beginning w n) (begins w n)) (λ v i.
       closed-settled x w found v (met v) (λ d. let o = i d in let q = k o.0 in (d, q.0, q.1, o.1)))
   ways-settled x h stop w found n k = closed-settled x w found (beginning w n) n.is_dynamic (λ d. (d, (k d).0, (k d).1, tt))
   ways-settled x h (assign p t a rest) w found n k = closed-settled x w found (beginning w n) n.is_dynamic (λ d. (d, (k d).0, (k d).1, tt))
@@ -257,8 +257,8 @@ mutual
   ways-settled x h (pick a arms rest) w found n k = closed-settled x w found (beginning w n) n.is_dynamic (λ d. (d, (k d).0, (k d).1, tt))
   ways-settled x h (arm m body arms) w found n k = closed-settled x w found (beginning w n) n.is_dynamic (λ d. (d, (k d).0, (k d).1, tt))
 
-  arm-settled : (x : Course) → CourseSettles x → (d : Code) (w : Stand) (z : ℤ) → Known w → Settled met StandStatic (met w) (arm_taken x d w z)
-  arm-settled x h (arm n body more) w z k = settled_if met StandStatic (met w) (int_eq z (pos n)) _ _ (walk-settled x h body w k) (arm-settled x h more w z k)
+  arm-settled : (x : WalkContext) → ContextSettles x → (d : Code) (w : WalkState) (z : ℤ) → Known w → Settled met StateStatic (met w) (arm_taken x d w z)
+  arm-settled x h (arm n body more) w z k = settled_if met StateStatic (met w) (int_eq z (pos n)) _ _ (walk-settled x h body w k) (arm-settled x h more w z k)
   arm-settled x h stop w z k = λ e. (e, k e)
   arm-settled x h (assign p t a rest) w z k = λ e. (e, k e)
   arm-settled x h (skip p rest) w z k = λ e. (e, k e)
@@ -268,10 +268,10 @@ mutual
   arm-settled x h (way c body ways) w z k = λ e. (e, k e)
   arm-settled x h (last body) w z k = λ e. (e, k e)
 
-  arms-settled : (x : Course) → CourseSettles x → (d : Code) (w : Stand) (found : Arms) (c : Count) → (c.is_dynamic ≡ false → ArmsStatic found.scripts)
+  arms-settled : (x : WalkContext) → ContextSettles x → (d : Code) (w : WalkState) (found : Arms) (c : Count) → (c.is_dynamic ≡ false → ArmsStatic found.scripts)
       → Settled is_met FirstArms c.is_dynamic (all_arms x d w found c)
   arms-settled x h (arm n body more) w found c k =
-      then_settled met StandStatic is_met FirstArms c.is_dynamic (walk x body (beginning w c)) _ (walk-settled x h body (beginning w c) (begins w c)) (λ v i.
+      then_settled met StateStatic is_met FirstArms c.is_dynamic (walk x body (beginning w c)) _ (walk-settled x h body (beginning w c) (begins w c)) (λ v i.
       arms-settled x h more w (with_arm x n v found) v.count (λ d.
       let o = i d in
       if_arms x.is_kept n v.script found.scripts o.1 (k o.0)))
@@ -304,8 +304,8 @@ answered_at f c = Ok (f, c)
 called-settled : (is_kept : Bool) (walks : List Walk) (f : Function) → CallsSettle walks → WalkSettles (called is_kept walks f)
 called-settled is_kept walks f h p given c k =
     let ps = take f.body.parameters given in
-    let x = course_of is_kept walks f.body.widths (constants_of (kept_widths f.body.widths) ps) in
-    then_settled met StandStatic is_met FirstStatic c.is_dynamic (walk x f.body.code (begun f.body c)) _ (walk-settled x h f.body.code (begun f.body c) (λ e. tt)) (λ w i.
+    let x = context_of is_kept walks f.body.widths (constants_of (kept_widths f.body.widths) ps) in
+    then_settled met StateStatic is_met FirstStatic c.is_dynamic (walk x f.body.code (begun f.body c)) _ (walk-settled x h f.body.code (begun f.body c) (λ e. tt)) (λ w i.
     then_settled is_met FirstStatic is_met FirstStatic (met w) (judged x w f.answer) _ (judged-settled x h w f.answer) (λ g j.
     let own = frame (kept_widths f.body.widths) f.body.numbers (given_of ps) w.script in
     then_plain (λ a. g.1.is_dynamic ≡ false → FoundStatic a) is_met FirstStatic g.1.is_dynamic (answered (spot_of f.answer) own g.0) (λ a. answered_at a g.1)

@@ -207,7 +207,8 @@ pub(crate) fn on_kernel<'a>(
     words: &'a [Bytes],
     guard_free: bool,
 ) -> Result<Option<OnKernel<'a>>, AllocError>
-    ensures asked { IfOk result (λ r. option_map kernel_seen r ≡ kernel_asked guard_free words.now) }
+    ensures asked { IfOk result (λ r. option_map kernel_seen r ≡ kernel_asked guard_free
+        words.now) }
     ensures refused { are_options guard_free words.now ≡ false → result ≡ Ok None }
 {
     if !are_options(words, guard_free) {

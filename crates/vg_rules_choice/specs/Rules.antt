@@ -75,7 +75,8 @@ chosen order w p q a b =
 
 -- a selection between the sides of its comparison: the lesser or the greater of them
 unfoldable pub selection_is_least_or_greatest : Tree → Option Tree
-selection_is_least_or_greatest (sel w (two op m p q) a b) = if is_order op && nat_le (width_of p) w then chosen op w p q a b else None
+selection_is_least_or_greatest (sel w (two op m p q) a b) =
+    if is_order op && nat_le (width_of p) w then chosen op w p q a b else None
 selection_is_least_or_greatest _ = None
 
 -- widths that hold the numbers of both terms
@@ -131,12 +132,14 @@ narrowed_comparison op w k x y =
 
 -- a comparison in more bits than hold both numbers: that in those bits
 unfoldable pub narrow_comparison : Tree → Option Tree
-narrow_comparison (two op v x y) = if is_comparison op then narrowed_comparison op (width_of x) (both_known x y) x y else None
+narrow_comparison (two op v x y) =
+    if is_comparison op then narrowed_comparison op (width_of x) (both_known x y) x y else None
 narrow_comparison _ = None
 
 -- the table
 abbrev pub rows : List (Tree → Option Tree)
-rows = known_selection ∷ (negated_selection ∷ (selection_is_least_or_greatest ∷ (narrow_least_or_greatest ∷ (narrow_comparison ∷ []))))
+rows =
+    known_selection ∷ (negated_selection ∷ (selection_is_least_or_greatest ∷ (narrow_least_or_greatest ∷ (narrow_comparison ∷ []))))
 
 -- what the first row that applies makes of a term
 abbrev pub first_row : Tree → Option Tree

@@ -49,7 +49,8 @@ fn narrowed_choice(
     y: Term,
 ) -> Result<Term, AllocError>
     requires { IsSome (narrowed_choice op width known (tree x) (tree y)) }
-    ensures { IfOk result (λ new. narrowed_choice op width known (tree x) (tree y) ≡ Some (tree new)) }
+    ensures { IfOk result (λ new. narrowed_choice op width known (tree x) (tree y) ≡ Some (tree
+        new)) }
 {
     if known.unsigned < width {
         let part = low_two(
@@ -107,7 +108,8 @@ fn narrowed_comparison(
     y: Term,
 ) -> Result<Term, AllocError>
     requires { IsSome (narrowed_comparison op width known (tree x) (tree y)) }
-    ensures { IfOk result (λ new. narrowed_comparison op width known (tree x) (tree y) ≡ Some (tree new)) }
+    ensures { IfOk result (λ new. narrowed_comparison op width known (tree x) (tree y) ≡ Some (tree
+        new)) }
 {
     if known.unsigned < width {
         low_two(alloc, read_unsigned(op), 1, known.unsigned, x, y)
@@ -132,7 +134,8 @@ fn both_known(x: &Term, y: &Term) -> Known
 
 // Whether fewer than `width` bits serve the operation.
 fn is_narrower(op: TwoOp, width: u32, known: Known) -> bool
-    ensures { result ≡ (nat_lt known.unsigned width || (may_read_signed op && nat_lt known.signed width)) }
+    ensures { result ≡ (nat_lt known.unsigned width || (may_read_signed op && nat_lt known.signed
+        width)) }
 {
     known.unsigned < width || (may_read_signed(op) && known.signed < width)
 }

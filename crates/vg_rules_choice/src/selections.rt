@@ -142,7 +142,8 @@ fn chosen(
     requires p_most { width_of (tree p) ≤ width }
     requires q_most { width_of (tree q) ≤ width }
     requires applies { IsSome (chosen order width (tree p) (tree q) (tree a.now) (tree b.now)) }
-    ensures { IfOk result (λ new. chosen order width (tree p) (tree q) (tree a.now) (tree b.now) ≡ Some (tree new)) }
+    ensures { IfOk result (λ new. chosen order width (tree p) (tree q) (tree a.now) (tree b.now) ≡
+        Some (tree new)) }
 {
     let ext = extension_under(order);
     let is_lesser = are_stretches(ext, width, &p, &q, a, b);

@@ -25,7 +25,8 @@ sort_chain t = if is_disordered t then Some (put_in_order t) else None
 -- a constant after another in one chain: one constant, the operation on the two
 unfoldable pub merge_constants : Tree → Option Tree
 merge_constants (two op w (two o v x c) d) =
-    if makes_chains op && (same_op op o && (is_constant c && is_constant d)) then Some (two op w x (folded (two op w c d))) else None
+    if makes_chains op
+    && (same_op op o && (is_constant c && is_constant d)) then Some (two op w x (folded (two op w c d))) else None
 merge_constants _ = None
 
 -- after a term, a neutral constant leaves the term, and one that absorbs leaves itself

@@ -78,7 +78,8 @@ fn with_all_sorted(alloc: Global, t: Term) -> Result<Term, AllocError>
 }
 
 fn sorted_chain(alloc: Global, op: TwoOp, width: u32, x: Term, y: Term) -> Result<Term, AllocError>
-    ensures { IfOk result (λ new. tree new ≡ chain_of op width (sorted (parts op (two op width (tree x) (tree y))))) }
+    ensures { IfOk result (λ new. tree new ≡ chain_of op width (sorted (parts op (two op width (tree
+        x) (tree y))))) }
 {
     let mut found = Vec::new(alloc);
     collect(op, x, &mut found)?;
@@ -89,7 +90,8 @@ fn sorted_chain(alloc: Global, op: TwoOp, width: u32, x: Term, y: Term) -> Resul
 
 // The parts of the term, left before right, put after those that were found before.
 fn collect(op: TwoOp, t: Term, found: &mut Vec<Term>) -> Result<(), AllocError>
-    ensures { OnOk result (map tree found.new.items ≡ map tree found.old.items ++ parts op (tree t)) }
+    ensures { OnOk result (map tree found.new.items ≡ map tree found.old.items ++ parts op (tree
+        t)) }
 {
     match t {
         Term::Two {

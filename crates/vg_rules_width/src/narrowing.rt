@@ -97,7 +97,8 @@ fn narrowed(
     y: Term,
 ) -> Result<Term, AllocError>
     requires { IsSome (narrowed (known_at widths.0 widths.1) width to op (tree x) (tree y)) }
-    ensures { IfOk result (λ new. narrowed (known_at widths.0 widths.1) width to op (tree x) (tree y) ≡ Some (tree new)) }
+    ensures { IfOk result (λ new. narrowed (known_at widths.0 widths.1) width to op (tree x) (tree
+        y) ≡ Some (tree new)) }
 {
     let (unsigned, signed) = widths;
     if unsigned < width {

@@ -32,7 +32,8 @@ pub fn make_given_bits(
     width: u128,
     rest: Given,
 ) -> Result<Given, AllocError>
-    ensures { IfOk result (λ given. given_of given ≡ moved register (low_of low) width (given_of rest)) }
+    ensures { IfOk result (λ given. given_of given ≡ moved register (low_of low) width (given_of
+        rest)) }
 {
     let rest = Box::new(alloc, rest)?;
     Ok(Given::Moved {
@@ -155,7 +156,8 @@ pub fn make_arm(
     body: Script,
     arms: Script,
 ) -> Result<Script, AllocError>
-    ensures { IfOk result (λ script. script_of script ≡ arm number (script_of body) (script_of arms)) }
+    ensures { IfOk result (λ script. script_of script ≡ arm number (script_of body) (script_of
+        arms)) }
 {
     let body = Box::new(alloc, body)?;
     let arms = Box::new(alloc, arms)?;

@@ -8,7 +8,7 @@ use Rattle.vg_base.specs.Trap.{◌>>=◌}
 use Rattle.vg_base.specs.Address.{place_of}
 use Rattle.vg_shapes.specs.declared.access.Access.{Access}
 use Rattle.vg_shapes.specs.declared.ssa.Ssa.{Ssa}
-use Rattle.vg_shapes.specs.declared.unit.Unit.{Unit as Work}
+use Rattle.vg_shapes.specs.declared.ssa_unit.SsaUnit.{SsaUnit}
 use Rattle.vg_shapes.specs.Depends.{conflict, overlap}
 use Rattle.vg_shapes.specs.Layout.{access_at, access_of, accesses, AreApart, noalias_flags, Respects}
 use Rattle.vg_shapes.specs.Units.{arguments, unit_at}
@@ -38,7 +38,7 @@ longer : (o : Option Access) (xs : List Access) (x : Access) → Contains xs x �
 longer None xs x h = h
 longer (Some y) xs x h = (suc h.0, (let below = h.1 in omega arith), h.2)
 
-listed : (us : List Work) (k : ℕ) (u : Work) (x : Access) → slice_get us k ≡ Some u → access_of u ≡ Some x → Contains (filter_map access_of us) x
+listed : (us : List SsaUnit) (k : ℕ) (u : SsaUnit) (x : Access) → slice_get us k ≡ Some u → access_of u ≡ Some x → Contains (filter_map access_of us) x
 listed [] k u x e a = absurd (cc)
 listed (first ∷ us) zero u x e a =
     let same : first ≡ u = cc in
@@ -48,7 +48,7 @@ listed (first ∷ us) (suc k) u x e a = longer (access_of first) (filter_map acc
 pub access-listed : (ssa : Ssa) (v : ℕ) (x : Access) → access_at ssa v ≡ Some x → Contains (accesses ssa) x
 access-listed ssa v x e = by (unit_at ssa v) refl e
   where
-    by : (o : Option Work) → unit_at ssa v ≡ o → (o >>= access_of) ≡ Some x → Contains (accesses ssa) x
+    by : (o : Option SsaUnit) → unit_at ssa v ≡ o → (o >>= access_of) ≡ Some x → Contains (accesses ssa) x
     by None g h = absurd (cc)
     by (Some u) g h = elim (cases_Bool (nat_lt v (arguments ssa))) [
       | inl t ↦ absurd (let none : unit_at ssa v ≡ None = cond-true _ _ _ t in cc)

@@ -9,8 +9,8 @@ use Rattle.vg_terms.specs.Root.{is_constant}
 use Rattle.vg_terms.specs.Term.{Tree, leaf, width_of}
 use Rattle.vg_shapes.specs.declared.ssa.Ssa.{Ssa}
 use Rattle.vg_shapes.specs.declared.ssa.SsaParam.{SsaParam}
-use Rattle.vg_shapes.specs.declared.unit.Unit.{Unit as Work}
-use Rattle.vg_shapes.specs.declared.unit.Unit.TheVariants.{Load, Store, Operation}
+use Rattle.vg_shapes.specs.declared.ssa_unit.SsaUnit.{SsaUnit}
+use Rattle.vg_shapes.specs.declared.ssa_unit.SsaUnit.TheVariants.{Load, Store, Operation}
 use Rattle.vg_shapes.specs.Sound.{argument_key, AreArgumentTerms, AreUnitTerms, IsUnitTerm, kind_bits, unit_bits, value_bits}
 use Rattle.vg_shapes.specs.Units.{arguments, integers, unit_at}
 
@@ -86,9 +86,9 @@ argument-has v zero (q ∷ ps) (t ∷ ts) p are e =
     (t, refl, ap width_of are.0 ∙ ap (λ (r : SsaParam). kind_bits r.kind) same)
 argument-has v (suc k) (q ∷ ps) (t ∷ ts) p are e = argument-has (v + 1) k ps ts p are.1 e
 
-pub unit-term : (v k : ℕ) (us : List Work) (ts : List Tree) (t : Tree) → AreUnitTerms v us ts
+pub unit-term : (v k : ℕ) (us : List SsaUnit) (ts : List Tree) (t : Tree) → AreUnitTerms v us ts
     → slice_get ts k ≡ Some t
-    → (u : Work) × (slice_get us k ≡ Some u) × IsUnitTerm (v + k) u t
+    → (u : SsaUnit) × (slice_get us k ≡ Some u) × IsUnitTerm (v + k) u t
 unit-term v k [] ts t are e = absurd (none-some t (subst (λ l. slice_get l k ≡ Some t) are e))
 unit-term v k (u ∷ us) [] t are e = absurd are
 unit-term v zero (u ∷ us) (s ∷ ts) t are e =
@@ -100,7 +100,7 @@ unit-term v (suc k) (u ∷ us) (s ∷ ts) t are e =
     let next : v + 1 + k ≡ v + suc k = omega arith in
     (rest.0, rest.1, subst (λ n. IsUnitTerm n rest.0 t) next rest.2)
 
-pub unit-has : (v k : ℕ) (us : List Work) (ts : List Tree) (u : Work) → AreUnitTerms v us ts
+pub unit-has : (v k : ℕ) (us : List SsaUnit) (ts : List Tree) (u : SsaUnit) → AreUnitTerms v us ts
     → slice_get us k ≡ Some u
     → (t : Tree) × (slice_get ts k ≡ Some t) × IsUnitTerm (v + k) u t
 unit-has v k [] ts u are e = cc
@@ -114,7 +114,7 @@ unit-has v (suc k) (x ∷ us) (t ∷ ts) u are e =
     let next : v + 1 + k ≡ v + suc k = omega arith in
     (rest.0, rest.1, subst (λ n. IsUnitTerm n u rest.0) next rest.2)
 
-pub unit-above : (ssa : Ssa) (v : ℕ) (u : Work) → unit_at ssa v ≡ Some u
+pub unit-above : (ssa : Ssa) (v : ℕ) (u : SsaUnit) → unit_at ssa v ≡ Some u
     → (arguments ssa ≤ v) × (v < arguments ssa + length ssa.units)
 unit-above ssa v u e = elim (cases_lt v (arguments ssa)) [
   | inl below ↦ absurd (none-some u (sym (cond-true _ _ _ (lt-ltb v (arguments ssa) below)) ∙ e))
@@ -132,17 +132,17 @@ IsArgumentTerm ssa v t =
     × (t ≡ leaf (kind_bits p.kind) (argument_key v))
 
 abbrev pub IsWorkTerm : Ssa → ℕ → Tree → Type 0
-IsWorkTerm ssa v t = (u : Work) × (unit_at ssa v ≡ Some u) × IsUnitTerm v u t
+IsWorkTerm ssa v t = (u : SsaUnit) × (unit_at ssa v ≡ Some u) × IsUnitTerm v u t
 
 -- ---- widths
 
-pub unit-width : (ssa : Ssa) (v : ℕ) (u : Work) → unit_at ssa v ≡ Some u
+pub unit-width : (ssa : Ssa) (v : ℕ) (u : SsaUnit) → unit_at ssa v ≡ Some u
     → value_bits ssa v ≡ unit_bits u
 unit-width ssa v u e =
     cond-false _ _ _ (le-ltb v (arguments ssa) (unit-above ssa v u e).0) ∙ ap
     (λ o. o >>= unit_bits) e
 
-work-width : (v : ℕ) (u : Work) (t : Tree) → IsUnitTerm v u t → is_constant t ≡ false
+work-width : (v : ℕ) (u : SsaUnit) (t : Tree) → IsUnitTerm v u t → is_constant t ≡ false
     → unit_bits u ≡ Some (width_of t)
 work-width v (Load a w) t is c = ap Some (sym (ap width_of is))
 work-width v (Store a w x) t is c = absurd (let yes = ap is_constant is in cc)

@@ -8,12 +8,12 @@ use Rattle.vg_shapes.specs.declared.access.Access.{Access}
 use Rattle.vg_shapes.specs.declared.ssa.SsaParamKind.{SsaParamKind}
 use Rattle.vg_shapes.specs.declared.ssa.SsaParamKind.TheVariants.{Pointer, Integer}
 use Rattle.vg_shapes.specs.declared.ssa.Ssa.{Ssa}
-use Rattle.vg_shapes.specs.declared.unit.Unit.{Unit as Work}
-use Rattle.vg_shapes.specs.declared.unit.Unit.TheVariants.{Load, Store, Operation}
+use Rattle.vg_shapes.specs.declared.ssa_unit.SsaUnit.{SsaUnit}
+use Rattle.vg_shapes.specs.declared.ssa_unit.SsaUnit.TheVariants.{Load, Store, Operation}
 use Rattle.vg_shapes.specs.Units.{unit_at}
 
 -- what a unit reads or writes
-abbrev pub access_of : Work → Option Access
+abbrev pub access_of : SsaUnit → Option Access
 access_of (Load a w) = Some (record { address = a; size = size_of w; writes = false })
 access_of (Store a w x) = Some (record { address = a; size = size_of w; writes = true })
 access_of (Operation op w k xs) = None

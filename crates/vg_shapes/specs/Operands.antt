@@ -3,7 +3,7 @@ use Rattle.std.specs.Prelude.{◌≡◌, ◌<◌, ◌≤◌, ℕ, ◌+◌, ◌%�
 use Rattle.std.specs.List.{list_any}
 use Rattle.vg_shapes.specs.declared.operand.Operand.{Operand}
 use Rattle.vg_shapes.specs.declared.operand.Slot.{Slot}
-use Rattle.vg_shapes.specs.declared.pack.Pack.{Pack as Packed}
+use Rattle.vg_shapes.specs.declared.pack.Pack.{Pack}
 use Rattle.vg_shapes.specs.declared.pack.Pack.TheVariants.{Stores, Loads, Call}
 use Rattle.vg_shapes.specs.declared.ssa.Ssa.{Ssa}
 use Rattle.vg_shapes.specs.declared.wanted.Wanted.{Wanted}
@@ -34,7 +34,7 @@ pub record IsOperand (ssa : Ssa) (o : Operand) : Type 0 where
   pub slots : AreSlots ssa o.register 0 o.slots
 
 -- the values that the lanes of a pack have, lane 0 first; a store group has none
-abbrev pub lanes_of : Packed → List (Option ℕ)
+abbrev pub lanes_of : Pack → List (Option ℕ)
 lanes_of (Stores us) = []
 lanes_of (Loads us) = map Some us
 lanes_of (Call d lanes) = lanes

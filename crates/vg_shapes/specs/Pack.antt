@@ -8,17 +8,17 @@ use Rattle.vg_base.specs.declared.width.Width.{Width}
 use Rattle.vg_base.specs.Width.{bits_of, size_of}
 use Rattle.vg_shapes.specs.declared.match_table.Bound.{Bound}
 use Rattle.vg_shapes.specs.declared.match_table.Match.{Match}
-use Rattle.vg_shapes.specs.declared.pack.Pack.{Pack as Packed}
+use Rattle.vg_shapes.specs.declared.pack.Pack.{Pack}
 use Rattle.vg_shapes.specs.declared.pack.Pack.TheVariants.{Stores, Loads, Call}
 use Rattle.vg_shapes.specs.declared.ssa.Ssa.{Ssa}
-use Rattle.vg_shapes.specs.declared.unit.Unit.{Unit as Work}
-use Rattle.vg_shapes.specs.declared.unit.Unit.TheVariants.{Load, Store, Operation}
+use Rattle.vg_shapes.specs.declared.ssa_unit.SsaUnit.{SsaUnit}
+use Rattle.vg_shapes.specs.declared.ssa_unit.SsaUnit.TheVariants.{Load, Store, Operation}
 use Rattle.vg_shapes.specs.declared.wanted.Wanted.{Wanted}
 use Rattle.vg_shapes.specs.Order.{numbers_from}
 use Rattle.vg_shapes.specs.Units.{arguments, unit_at}
 
 -- the units of a pack, lane 0 first
-abbrev pub units_of : Packed → List ℕ
+abbrev pub units_of : Pack → List ℕ
 units_of (Stores us) = us
 units_of (Loads us) = us
 units_of (Call d lanes) = filter_map (λ v. v) lanes
@@ -51,7 +51,7 @@ IsLoadPack ssa us =
     × IsTrue (is_pack_size (length us * size_of w))
 
 -- a store of this width to this address
-abbrev pub stores_to : Address → Width → Option Work → Bool
+abbrev pub stores_to : Address → Width → Option SsaUnit → Bool
 stores_to a w None = false
 stores_to a w (Some (Load b v)) = false
 stores_to a w (Some (Operation op v k xs)) = false

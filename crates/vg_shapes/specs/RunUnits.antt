@@ -7,11 +7,11 @@ use Rattle.vg_base.specs.Memory.{loaded, stored}
 use Rattle.vg_base.specs.Trap.{◌>>=◌}
 use Rattle.vg_base.specs.Width.{bits_of, size_of}
 use Rattle.vg_scalar.specs.Scalar.{two_result, shift_result, resize_result, comparison_result, select_result}
-use Rattle.vg_shapes.specs.declared.unit.Operands.{Operands}
-use Rattle.vg_shapes.specs.declared.unit.Operator.{Operator}
-use Rattle.vg_shapes.specs.declared.unit.Operator.TheVariants.{Two, Shift, Resize, Compare, Select}
-use Rattle.vg_shapes.specs.declared.unit.Unit.{Unit as Work}
-use Rattle.vg_shapes.specs.declared.unit.Unit.TheVariants.{Load, Store, Operation}
+use Rattle.vg_shapes.specs.declared.ssa_unit.Operands.{Operands}
+use Rattle.vg_shapes.specs.declared.ssa_unit.Operator.{Operator}
+use Rattle.vg_shapes.specs.declared.ssa_unit.Operator.TheVariants.{Two, Shift, Resize, Compare, Select}
+use Rattle.vg_shapes.specs.declared.ssa_unit.SsaUnit.{SsaUnit}
+use Rattle.vg_shapes.specs.declared.ssa_unit.SsaUnit.TheVariants.{Load, Store, Operation}
 use Rattle.vg_shapes.specs.declared.wanted.Wanted.{Wanted}
 use Rattle.vg_shapes.specs.declared.wanted.Wanted.TheVariants.{Value, Constant, Nothing}
 
@@ -44,7 +44,7 @@ abbrev pub reached : List ℕ → List ℕ → ℕ → Reached
 reached memory numbers n = record { memory = memory; numbers = numbers ++ n ∷ [] }
 
 -- one unit more; a store has no value, and 0 stands in its place
-abbrev pub unit_run : List ℕ → Work → Reached → Option Reached
+abbrev pub unit_run : List ℕ → SsaUnit → Reached → Option Reached
 unit_run places (Load a w) r =
     loaded r.memory (place_of places a) (size_of w) >>= λ read.
     Some (reached r.memory r.numbers (number read))
@@ -56,7 +56,7 @@ unit_run places (Operation op w k xs) r =
     Some (reached r.memory r.numbers (result_of (slice_index r.numbers) op (bits_of w) k xs))
 
 -- the units in order, up to a trap
-unfoldable pub run_units : List ℕ → List Work → Reached → Option Reached
+unfoldable pub run_units : List ℕ → List SsaUnit → Reached → Option Reached
 run_units places [] r = Some r
 run_units places (u ∷ us) r = unit_run places u r >>= run_units places us
 

@@ -20,11 +20,11 @@ use Rattle.vg_shapes.specs.declared.ssa.SsaParam.{SsaParam}
 use Rattle.vg_shapes.specs.declared.ssa.SsaParamKind.{SsaParamKind}
 use Rattle.vg_shapes.specs.declared.ssa.SsaParamKind.TheVariants.{Pointer, Integer}
 use Rattle.vg_shapes.specs.declared.ssa.Ssa.{Ssa}
-use Rattle.vg_shapes.specs.declared.unit.Operands.{Operands}
-use Rattle.vg_shapes.specs.declared.unit.Operator.{Operator}
-use Rattle.vg_shapes.specs.declared.unit.Operator.TheVariants.{Two, Shift, Resize as ToWidth, Compare, Select}
-use Rattle.vg_shapes.specs.declared.unit.Unit.{Unit as Work}
-use Rattle.vg_shapes.specs.declared.unit.Unit.TheVariants.{Load, Store, Operation}
+use Rattle.vg_shapes.specs.declared.ssa_unit.Operands.{Operands}
+use Rattle.vg_shapes.specs.declared.ssa_unit.Operator.{Operator}
+use Rattle.vg_shapes.specs.declared.ssa_unit.Operator.TheVariants.{Two, Shift, Resize as ToWidth, Compare, Select}
+use Rattle.vg_shapes.specs.declared.ssa_unit.SsaUnit.{SsaUnit}
+use Rattle.vg_shapes.specs.declared.ssa_unit.SsaUnit.TheVariants.{Load, Store, Operation}
 use Rattle.vg_shapes.specs.declared.wanted.Wanted.{Wanted}
 use Rattle.vg_shapes.specs.declared.wanted.Wanted.TheVariants.{Value, Constant, Nothing}
 use Rattle.vg_shapes.specs.RunUnits.{Reached, run_units, start_of}
@@ -46,7 +46,7 @@ result_bits (Compare op) w = 1
 result_bits Select w = bits_of w
 
 -- the width of the value of a unit; a store has no value
-abbrev pub unit_bits : Work → Option ℕ
+abbrev pub unit_bits : SsaUnit → Option ℕ
 unit_bits (Load a w) = Some (bits_of w)
 unit_bits (Store a w x) = None
 unit_bits (Operation op w k xs) = Some (result_bits op w)
@@ -65,14 +65,14 @@ IsEarlier n (Value v) = v < n
 IsEarlier n (Constant w k) = Unit {0}
 IsEarlier n Nothing = Unit {0}
 
-abbrev pub TakesEarlier : ℕ → Work → Type 0
+abbrev pub TakesEarlier : ℕ → SsaUnit → Type 0
 TakesEarlier n (Load a w) = Unit {0}
 TakesEarlier n (Store a w x) = IsEarlier n x
 TakesEarlier n (Operation op w k xs) =
     IsEarlier n xs.first × IsEarlier n xs.second × IsEarlier n xs.third
 
 -- each unit takes values before it alone, the first unit having this number
-abbrev pub TakeEarlier : ℕ → List Work → Type 0
+abbrev pub TakeEarlier : ℕ → List SsaUnit → Type 0
 TakeEarlier n [] = Unit {0}
 TakeEarlier n (u ∷ us) = TakesEarlier n u × TakeEarlier (n + 1) us
 
@@ -115,12 +115,12 @@ IsOperation ssa Select w k xs =
 abbrev pub pointers : Ssa → List SsaParam
 pointers ssa = filter (λ p. not (is_integer p.kind)) ssa.params
 
-abbrev pub IsUnit : Ssa → Work → Type 0
+abbrev pub IsUnit : Ssa → SsaUnit → Type 0
 IsUnit ssa (Load a w) = IsAddress (length (pointers ssa)) a
 IsUnit ssa (Store a w x) = IsAddress (length (pointers ssa)) a × IsNumber ssa w x
 IsUnit ssa (Operation op w k xs) = IsOperation ssa op w k xs
 
-abbrev pub is_store : Work → Bool
+abbrev pub is_store : SsaUnit → Bool
 is_store (Load a w) = false
 is_store (Store a w x) = true
 is_store (Operation op w k xs) = false
@@ -139,7 +139,7 @@ abbrev pub cut_key : ℕ → LeafKey
 cut_key v = record { kind = 3; first = v; second = pos 0; third = 0 }
 
 -- the keys by which terms name the value of a unit
-abbrev pub keys_of : ℕ → Work → List LeafKey
+abbrev pub keys_of : ℕ → SsaUnit → List LeafKey
 keys_of v (Load a w) = load_key a v ∷ cut_key v ∷ []
 keys_of v (Store a w x) = []
 keys_of v (Operation op w k xs) = cut_key v ∷ []
@@ -154,7 +154,7 @@ argument_pairs v [] = []
 argument_pairs v (n ∷ ns) =
     paired n (argument_key v ∷ cut_key v ∷ []) ++ argument_pairs (v + 1) ns
 
-abbrev pub unit_pairs : ℕ → List Work → List ℕ → List (LeafKey × ℕ)
+abbrev pub unit_pairs : ℕ → List SsaUnit → List ℕ → List (LeafKey × ℕ)
 unit_pairs v [] ns = []
 unit_pairs v (u ∷ us) [] = []
 unit_pairs v (u ∷ us) (n ∷ ns) = paired n (keys_of v u) ++ unit_pairs (v + 1) us ns
@@ -184,7 +184,7 @@ cut_at ssa v = slice_get (cuts_of ssa) v
 
 -- The name by which cut terms speak of the value of a unit that has this number and this cut term: a
 -- bit is written out, any other value is a leaf of its own. A store has none.
-abbrev pub unit_name : ℕ → Tree → Work → Option Tree
+abbrev pub unit_name : ℕ → Tree → SsaUnit → Option Tree
 unit_name v t (Load a w) = Some (leaf (bits_of w) (cut_key v))
 unit_name v t (Store a w x) = None
 unit_name v t (Operation op w k xs) =
@@ -205,12 +205,12 @@ AreArgumentTerms v (p ∷ ps) (t ∷ ts) =
     (t ≡ leaf (kind_bits p.kind) (argument_key v)) × AreArgumentTerms (v + 1) ps ts
 
 -- the term of a unit of this number; a store has the constant 0 of width 8 in its place
-abbrev pub IsUnitTerm : ℕ → Work → Tree → Type 0
+abbrev pub IsUnitTerm : ℕ → SsaUnit → Tree → Type 0
 IsUnitTerm v (Load a w) t = t ≡ leaf (bits_of w) (load_key a v)
 IsUnitTerm v (Store a w x) t = t ≡ constant 8 0
 IsUnitTerm v (Operation op w k xs) t = WellFormed t × (width_of t ≡ result_bits op w)
 
-abbrev pub AreUnitTerms : ℕ → List Work → List Tree → Type 0
+abbrev pub AreUnitTerms : ℕ → List SsaUnit → List Tree → Type 0
 AreUnitTerms v [] ts = ts ≡ []
 AreUnitTerms v (u ∷ us) [] = ⊥
 AreUnitTerms v (u ∷ us) (t ∷ ts) = IsUnitTerm v u t × AreUnitTerms (v + 1) us ts

@@ -5,9 +5,9 @@ use Rattle.vg_shapes.specs.declared.ssa.SsaParam.{SsaParam}
 use Rattle.vg_shapes.specs.declared.ssa.SsaParamKind.{SsaParamKind}
 use Rattle.vg_shapes.specs.declared.ssa.SsaParamKind.TheVariants.{Pointer, Integer}
 use Rattle.vg_shapes.specs.declared.ssa.Ssa.{Ssa}
-use Rattle.vg_shapes.specs.declared.unit.Operands.{Operands}
-use Rattle.vg_shapes.specs.declared.unit.Unit.{Unit as Work}
-use Rattle.vg_shapes.specs.declared.unit.Unit.TheVariants.{Load, Store, Operation}
+use Rattle.vg_shapes.specs.declared.ssa_unit.Operands.{Operands}
+use Rattle.vg_shapes.specs.declared.ssa_unit.SsaUnit.{SsaUnit}
+use Rattle.vg_shapes.specs.declared.ssa_unit.SsaUnit.TheVariants.{Load, Store, Operation}
 use Rattle.vg_shapes.specs.declared.wanted.Wanted.{Wanted}
 use Rattle.vg_shapes.specs.declared.wanted.Wanted.TheVariants.{Value, Constant, Nothing}
 
@@ -27,7 +27,7 @@ abbrev pub arguments : Ssa → ℕ
 arguments ssa = length (integers ssa)
 
 -- the unit of a number; the units are numbered after the integer parameters
-abbrev pub unit_at : Ssa → ℕ → Option Work
+abbrev pub unit_at : Ssa → ℕ → Option SsaUnit
 unit_at ssa v = if nat_lt v (arguments ssa) then None else slice_get ssa.units (v - arguments ssa)
 
 abbrev pub is_unit : Ssa → ℕ → Bool
@@ -44,7 +44,7 @@ abbrev pub is_among : ℕ → Operands → Bool
 is_among v xs = is_value v xs.first || (is_value v xs.second || is_value v xs.third)
 
 -- a unit uses the value of this number
-abbrev pub uses_value : ℕ → Work → Bool
+abbrev pub uses_value : ℕ → SsaUnit → Bool
 uses_value v (Load a w) = false
 uses_value v (Store a w x) = is_value v x
 uses_value v (Operation op w k xs) = is_among v xs

@@ -22,7 +22,7 @@ pub mod order;
 pub mod pack;
 mod plan;
 pub mod ssa;
-pub mod unit;
+pub mod ssa_unit;
 pub mod wanted;
 
 pub use access::Access;
@@ -41,5 +41,5 @@ pub use order::{Node, Order};
 pub use pack::Pack;
 pub use plan::Plan;
 pub use ssa::{Ssa, SsaParam, SsaParamKind};
-pub use unit::{Operands, Operator, Unit};
+pub use ssa_unit::{Operands, Operator, SsaUnit};
 pub use wanted::Wanted;

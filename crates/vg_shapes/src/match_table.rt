@@ -63,7 +63,8 @@ impl Match {
 
     /// Whether it is of this lane of a description and this value.
     fn is_of(&self, description: u32, lane: u32, value: u32) -> bool
-        ensures { result ≡ (nat_eq self.now.description description && (nat_eq self.now.lane lane && nat_eq self.now.value value)) }
+        ensures { result ≡ (nat_eq self.now.description description && (nat_eq self.now.lane lane &&
+            nat_eq self.now.value value)) }
     {
         self.description == description && (self.lane == lane && self.value == value)
     }
@@ -106,7 +107,8 @@ impl MatchTable {
 fn place_of(matches: &[Match], description: u32, lane: u32, value: u32) -> usize
     requires { IsTable matches.now }
     ensures inside { result ≤ length matches.now }
-    ensures splits { IsPartitionPoint (λ m. stands_before description lane value m ≡ true) (λ m. stands_before description lane value m ≡ false) matches.now result }
+    ensures splits { IsPartitionPoint (λ m. stands_before description lane value m ≡ true) (λ m.
+        stands_before description lane value m ≡ false) matches.now result }
 {
     matches.partition_point(|m| m.stands_before(description, lane, value))
 }

@@ -13,9 +13,9 @@ pub struct Plan {
 
 impl Model for Plan {
     ghost use Rattle.std.specs.Prelude.{List};
-    ghost use Rattle.vg_shapes.specs.declared.pack.Pack.{Pack as Packed};
+    ghost use Rattle.vg_shapes.specs.declared.pack.Pack.{Pack};
 
-    ghost Value = { List Packed };
+    ghost Value = { List Pack };
 
     ghost view = { λ s. s.packs.items };
 }

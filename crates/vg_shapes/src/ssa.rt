@@ -4,7 +4,7 @@ ghost use Rattle.std.specs.Prelude.{◌≡◌, length};
 ghost use Rattle.vg_shapes.specs.Layout.{noalias_of};
 ghost use Rattle.vg_shapes.specs.Units.{arguments, integers_of, is_integer};
 
-use crate::unit::Unit;
+use crate::ssa_unit::SsaUnit;
 use vg_base::{Items, Name, Width};
 use vg_terms::Term;
 
@@ -33,7 +33,7 @@ pub struct Ssa {
     /// At most 16, with names that differ.
     pub params: Items<SsaParam>,
     /// The loads, operations and stores, at most 12,288.
-    pub units: Items<Unit>,
+    pub units: Items<SsaUnit>,
     /// For each number the term of its value.
     pub terms: Items<Term>,
     /// For each number the cut term of its value, over the names of the values that it is made of.

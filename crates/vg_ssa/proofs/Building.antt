@@ -5,8 +5,8 @@ use Rattle.std.proofs.lemmas.List.{length-append, length_push}
 use Rattle.std.proofs.Math.Seq.{take-length}
 use Rattle.vg_kernel.specs.declared.statement.KStmt.{KStmt}
 use Rattle.vg_kernel.specs.Tree.{Expression, Statement, assign, statement_of, store}
-use Rattle.vg_shapes.specs.declared.unit.Unit.{Unit as Work}
-use Rattle.vg_shapes.specs.declared.unit.Unit.TheVariants.{Store}
+use Rattle.vg_shapes.specs.declared.ssa_unit.SsaUnit.{SsaUnit}
+use Rattle.vg_shapes.specs.declared.ssa_unit.SsaUnit.TheVariants.{Store}
 use Rattle.vg_shapes.specs.declared.wanted.Wanted.{Wanted}
 use Rattle.vg_shapes.specs.declared.wanted.Wanted.TheVariants.{Value}
 use Rattle.vg_ssa.specs.declared.value_terms.Depth.TheVariants.{Whole}
@@ -18,7 +18,7 @@ use Rattle.vg_ssa.proofs.Terms.{fit-behind, fit-front, terms-both, terms-long}
 
 -- ---- units, and more after them
 
-pub with-both : (b : Built) (us vs : List Work) → with_units (with_units b us) vs ≡ with_units b (us ++ vs)
+pub with-both : (b : Built) (us vs : List SsaUnit) → with_units (with_units b us) vs ≡ with_units b (us ++ vs)
 with-both b us vs =
     λ i. record {
       first = b.first;
@@ -27,13 +27,13 @@ with-both b us vs =
       names = b.names;
     }
 
-pub take-front : (b : Built) (us vs : List Work) → CanTake b (us ++ vs) → CanTake b us
+pub take-front : (b : Built) (us vs : List SsaUnit) → CanTake b (us ++ vs) → CanTake b us
 take-front b us vs h = record {
   few = (let l = length-append us vs in let f = h.few in omega arith);
   fit = fit-front Whole b.first b.terms us vs h.fit;
 }
 
-pub take-behind : (b : Built) (us vs : List Work) → CanTake b (us ++ vs) → CanTake (with_units b us) vs
+pub take-behind : (b : Built) (us vs : List SsaUnit) → CanTake b (us ++ vs) → CanTake (with_units b us) vs
 take-behind b us vs h = record {
   few = (let l = length-append us vs in let m = terms-long Whole b.first b.terms us in let f = h.few in omega arith);
   fit = fit-behind Whole b.first b.terms us vs h.fit;
@@ -42,19 +42,19 @@ take-behind b us vs h = record {
 -- ---- one expression after another
 
 -- an expression after these units
-abbrev pub behind_units : Built → List Work → Expression → Numbered
+abbrev pub behind_units : Built → List SsaUnit → Expression → Numbered
 behind_units b us e = numbered (length b.terms + length us) b.names e
 
-pub numbered-behind : (b : Built) (us : List Work) (e : Expression) → numbered_in (with_units b us) e ≡ behind_units b us e
+pub numbered-behind : (b : Built) (us : List SsaUnit) (e : Expression) → numbered_in (with_units b us) e ≡ behind_units b us e
 numbered-behind b us e = ap (λ n. numbered n b.names e) (terms-long Whole b.first b.terms us)
 
 -- where so many units were numbered, an expression can be, and what it gives
-pub can-number : (b c : Built) (us : List Work) (e : Expression) → c ≡ with_units b us → CanTake b (us ++ (behind_units b us e).units) → CanTake c (numbered_in c e).units
+pub can-number : (b c : Built) (us : List SsaUnit) (e : Expression) → c ≡ with_units b us → CanTake b (us ++ (behind_units b us e).units) → CanTake c (numbered_in c e).units
 can-number b c us e same h =
     subst (λ d. CanTake d (numbered_in d e).units) (sym same)
     (subst (λ p. CanTake (with_units b us) p.units) (sym (numbered-behind b us e)) (take-behind b us (behind_units b us e).units h))
 
-pub further : (b c new : Built) (us : List Work) (e : Expression) (x : Wanted) → c ≡ with_units b us → Numbers c (numbered_in c e) new x
+pub further : (b c new : Built) (us : List SsaUnit) (e : Expression) (x : Wanted) → c ≡ with_units b us → Numbers c (numbered_in c e) new x
     → (new ≡ with_units b (us ++ (behind_units b us e).units)) × (x ≡ (behind_units b us e).value)
 further b c new us e x same h =
     let g : Numbers (with_units b us) (numbered_in (with_units b us) e) new x = subst (λ d. Numbers d (numbered_in d e) new x) same h in
@@ -62,10 +62,10 @@ further b c new us e x same h =
     (f.built ∙ with-both b us (behind_units b us e).units, f.value)
 
 -- a unit after these, whichever equal one the code has
-pub can-push : (b c : Built) (us : List Work) (u v : Work) → c ≡ with_units b us → v ≡ u → CanTake b (us ++ u ∷ []) → CanTake c (v ∷ [])
+pub can-push : (b c : Built) (us : List SsaUnit) (u v : SsaUnit) → c ≡ with_units b us → v ≡ u → CanTake b (us ++ u ∷ []) → CanTake c (v ∷ [])
 can-push b c us u v same e h = subst (λ d. CanTake d (v ∷ [])) (sym same) (subst (λ w. CanTake (with_units b us) (w ∷ [])) (sym e) (take-behind b us (u ∷ []) h))
 
-pub pushed : (b c new : Built) (us : List Work) (u v : Work) (x : Wanted) → c ≡ with_units b us → v ≡ u → new ≡ with_units c (v ∷ []) → x ≡ Value (length c.terms) → Numbers b (found (length b.terms) us u) new x
+pub pushed : (b c new : Built) (us : List SsaUnit) (u v : SsaUnit) (x : Wanted) → c ≡ with_units b us → v ≡ u → new ≡ with_units c (v ∷ []) → x ≡ Value (length c.terms) → Numbers b (found (length b.terms) us u) new x
 pushed b c new us u v x same e h g = record {
   built = h ∙ (λ i. with_units (same i) (e i ∷ [])) ∙ with-both b us (u ∷ []);
   value = g ∙ ap Value (ap (λ d. length d.terms) same ∙ terms-long Whole b.first b.terms us);
@@ -74,7 +74,7 @@ pushed b c new us u v x same e h g = record {
 -- ---- statements
 
 -- statements are numbered, and others are left
-abbrev pub left_units : Built → List Statement → List Work
+abbrev pub left_units : Built → List Statement → List SsaUnit
 left_units b ss = units_from (length b.terms) b.names ss
 
 pub record Left (start : Built) (all : List Statement) (b : Built) (rest : List Statement) : Type 0 where
@@ -110,7 +110,7 @@ after-is : (b : Built) (s : Statement) → After b s
 after-is b (assign e) = record { first = refl; units = refl; terms = refl }
 after-is b (store w a e) = record { first = refl; units = refl; terms = refl }
 
-room-after : (b c : Built) (us vs : List Work) → c.first ≡ b.first → c.terms ≡ terms_behind Whole b.first b.terms us → CanTake b (us ++ vs) → CanTake c vs
+room-after : (b c : Built) (us vs : List SsaUnit) → c.first ≡ b.first → c.terms ≡ terms_behind Whole b.first b.terms us → CanTake b (us ++ vs) → CanTake c vs
 room-after b c us vs f t h =
     let g = take-behind b us vs h in
     record {

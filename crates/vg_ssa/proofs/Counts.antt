@@ -11,14 +11,14 @@ use Rattle.vg_kernel.specs.declared.parameter.KParamKind.TheVariants as kinds
 use Rattle.vg_kernel.specs.Cost.{expression_cost, statement_cost}
 use Rattle.vg_kernel.specs.Tree.{Expression, argument, assigned, literal, load, two, shift, resize, compare, select, Statement, assign, store}
 use Rattle.vg_kernel.specs.WellFormed.{integer_widths}
-use Rattle.vg_shapes.specs.declared.unit.Unit.{Unit as Work}
-use Rattle.vg_shapes.specs.declared.unit.Unit.TheVariants.{Store}
+use Rattle.vg_shapes.specs.declared.ssa_unit.SsaUnit.{SsaUnit}
+use Rattle.vg_shapes.specs.declared.ssa_unit.SsaUnit.TheVariants.{Store}
 use Rattle.vg_shapes.specs.declared.wanted.Wanted.{Wanted}
 use Rattle.vg_shapes.specs.Units.{integers_of, is_integer}
 use Rattle.vg_ssa.specs.Laws.{ArgumentsFirst, UnitsAreTheCost}
 use Rattle.vg_ssa.specs.Numbering.{kind_of, numbered, param_of, units_from}
 
-one-more : (us : List Work) (u : Work) → length (us ++ u ∷ []) ≡ length us + 1
+one-more : (us : List SsaUnit) (u : SsaUnit) → length (us ++ u ∷ []) ≡ length us + 1
 one-more us u = length-append us (u ∷ [])
 
 pub expression-units : (n : ℕ) (names : List Wanted) (e : Expression) → length (numbered n names e).units ≡ expression_cost e

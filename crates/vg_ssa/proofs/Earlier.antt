@@ -6,9 +6,9 @@ use Rattle.vg_kernel.specs.declared.parameter.KParam.{KParam}
 use Rattle.vg_kernel.specs.declared.value_type.ValueType.{ValueType}
 use Rattle.vg_kernel.specs.Tree.{Expression, argument, assigned, literal, load, two, shift, resize, compare, select, Statement, assign, store, gives}
 use Rattle.vg_kernel.specs.WellFormed.{AreStatements, integer_widths, IsExpression}
-use Rattle.vg_shapes.specs.declared.unit.Operator.TheVariants.{Two, Shift, Resize, Compare, Select}
-use Rattle.vg_shapes.specs.declared.unit.Unit.{Unit as Work}
-use Rattle.vg_shapes.specs.declared.unit.Unit.TheVariants.{Load, Store, Operation}
+use Rattle.vg_shapes.specs.declared.ssa_unit.Operator.TheVariants.{Two, Shift, Resize, Compare, Select}
+use Rattle.vg_shapes.specs.declared.ssa_unit.SsaUnit.{SsaUnit}
+use Rattle.vg_shapes.specs.declared.ssa_unit.SsaUnit.TheVariants.{Load, Store, Operation}
 use Rattle.vg_shapes.specs.declared.wanted.Wanted.{Wanted}
 use Rattle.vg_shapes.specs.declared.wanted.Wanted.TheVariants.{Value, Nothing}
 use Rattle.vg_shapes.specs.Sound.{IsEarlier, TakeEarlier, TakesEarlier}
@@ -16,7 +16,7 @@ use Rattle.vg_ssa.specs.Laws.{UnitsTakeEarlier}
 use Rattle.vg_ssa.specs.Numbering.{first_unit, Numbered, numbered, operands, units_from}
 use Rattle.vg_ssa.proofs.Running.{earlier-stays, early-more, get-below}
 
-take-append : (n : ℕ) (us vs : List Work) → TakeEarlier n us → TakeEarlier (n + length us) vs → TakeEarlier n (us ++ vs)
+take-append : (n : ℕ) (us vs : List SsaUnit) → TakeEarlier n us → TakeEarlier (n + length us) vs → TakeEarlier n (us ++ vs)
 take-append n [] vs h g = subst (λ k. TakeEarlier k vs) (let e : n + 0 ≡ n = omega arith in e) g
 take-append n (u ∷ us) vs h g = (h.0, take-append (n + 1) us vs h.1 (subst (λ k. TakeEarlier k vs) (let e : n + suc (length us) ≡ n + 1 + length us = omega arith in e) g))
 
@@ -26,7 +26,7 @@ record Takes (n : ℕ) (p : Numbered) : Type 0 where
   value : IsEarlier (n + length p.units) p.value
 
 -- one unit after others
-takes-one : (n : ℕ) (us : List Work) (u : Work) → TakeEarlier n us → TakesEarlier (n + length us) u → Takes n (record { units = us ++ u ∷ []; value = Value (n + length us) })
+takes-one : (n : ℕ) (us : List SsaUnit) (u : SsaUnit) → TakeEarlier n us → TakesEarlier (n + length us) u → Takes n (record { units = us ++ u ∷ []; value = Value (n + length us) })
 takes-one n us u h g = record {
   units = take-append n us (u ∷ []) h (g, tt);
   value = (let long = length-append us (u ∷ []) in omega arith);

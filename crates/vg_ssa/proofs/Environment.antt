@@ -4,8 +4,8 @@ use Rattle.std.specs.Prelude.{nat_eq, ◌&&◌, if◌then◌else◌}
 use Rattle.std.specs.Cmp.{signed_Decides}
 use Rattle.std.specs.Ordering.{int_eq}
 use Rattle.std.proofs.lemmas.Bool.{eqb-true, eq-eqb}
-use Rattle.vg_shapes.specs.declared.unit.Unit.{Unit as Work}
-use Rattle.vg_shapes.specs.declared.unit.Unit.TheVariants.{Load, Store, Operation}
+use Rattle.vg_shapes.specs.declared.ssa_unit.SsaUnit.{SsaUnit}
+use Rattle.vg_shapes.specs.declared.ssa_unit.SsaUnit.TheVariants.{Load, Store, Operation}
 use Rattle.vg_shapes.specs.Sound.{argument_key, argument_pairs, cut_key, keys_of, load_key, paired, unit_pairs}
 use Rattle.vg_terms.specs.declared.term.LeafKey.{LeafKey}
 use Rattle.vg_terms.specs.Value.{number_at, same_key}
@@ -56,17 +56,17 @@ past-front own key n rest e = ap (λ b. if b then n else number_at rest key) e
 -- ---- units
 
 -- the keys of a unit stand for this number
-abbrev ReadsUnit : List (LeafKey × ℕ) → ℕ → Work → ℕ → Type 0
+abbrev ReadsUnit : List (LeafKey × ℕ) → ℕ → SsaUnit → ℕ → Type 0
 ReadsUnit pairs v (Load a w) n = (number_at pairs (load_key a v) ≡ n) × (number_at pairs (cut_key v) ≡ n)
 ReadsUnit pairs v (Store a w x) n = Unit {0}
 ReadsUnit pairs v (Operation op w k xs) n = number_at pairs (cut_key v) ≡ n
 
-abbrev pub ReadUnits : List (LeafKey × ℕ) → ℕ → List Work → List ℕ → Type 0
+abbrev pub ReadUnits : List (LeafKey × ℕ) → ℕ → List SsaUnit → List ℕ → Type 0
 ReadUnits pairs v [] ns = Unit {0}
 ReadUnits pairs v (u ∷ us) [] = Unit {0}
 ReadUnits pairs v (u ∷ us) (n ∷ ns) = ReadsUnit pairs v u n × ReadUnits pairs (v + 1) us ns
 
-past-unit : (n v : ℕ) (u : Work) (rest : List (LeafKey × ℕ)) (key : LeafKey) → v + 1 ≤ number_in key → number_at (paired n (keys_of v u) ++ rest) key ≡ number_at rest key
+past-unit : (n v : ℕ) (u : SsaUnit) (rest : List (LeafKey × ℕ)) (key : LeafKey) → v + 1 ≤ number_in key → number_at (paired n (keys_of v u) ++ rest) key ≡ number_at rest key
 past-unit n v (Load a w) rest key l =
     past-front (load_key a v) key n ((cut_key v, n) ∷ rest) (apart (load_key a v) key (λ e. absurd (omega (arith, e))))
     ∙ past-front (cut_key v) key n rest (apart (cut_key v) key (λ e. absurd (omega (arith, e))))
@@ -78,7 +78,7 @@ kinds-apart : (n v : ℕ) (own key : LeafKey) (rest : List (LeafKey × ℕ)) →
 kinds-apart n v own key rest e =
     past-front own key n rest (λ i. e i && nat_eq own.first key.first && int_eq own.second key.second && nat_eq own.third key.third)
 
-reads-unit : (pairs : List (LeafKey × ℕ)) (n v : ℕ) (u : Work) (rest : List (LeafKey × ℕ)) → ((key : LeafKey) → v ≤ number_in key → number_at pairs key ≡ number_at (paired n (keys_of v u) ++ rest) key) → ReadsUnit pairs v u n
+reads-unit : (pairs : List (LeafKey × ℕ)) (n v : ℕ) (u : SsaUnit) (rest : List (LeafKey × ℕ)) → ((key : LeafKey) → v ≤ number_in key → number_at pairs key ≡ number_at (paired n (keys_of v u) ++ rest) key) → ReadsUnit pairs v u n
 reads-unit pairs n v (Load a w) rest h = (
   h (load_key a v) (omega arith) ∙ at-front (load_key a v) n ((cut_key v, n) ∷ rest),
   h (cut_key v) (omega arith) ∙ kinds-apart n v (load_key a v) (cut_key v) ((cut_key v, n) ∷ rest) refl ∙ at-front (cut_key v) n rest,
@@ -86,7 +86,7 @@ reads-unit pairs n v (Load a w) rest h = (
 reads-unit pairs n v (Store a w x) rest h = tt
 reads-unit pairs n v (Operation op w k xs) rest h = h (cut_key v) (omega arith) ∙ at-front (cut_key v) n rest
 
-pub read-units : (pairs : List (LeafKey × ℕ)) (v : ℕ) (us : List Work) (ns : List ℕ) → ((key : LeafKey) → v ≤ number_in key → number_at pairs key ≡ number_at (unit_pairs v us ns) key) → ReadUnits pairs v us ns
+pub read-units : (pairs : List (LeafKey × ℕ)) (v : ℕ) (us : List SsaUnit) (ns : List ℕ) → ((key : LeafKey) → v ≤ number_in key → number_at pairs key ≡ number_at (unit_pairs v us ns) key) → ReadUnits pairs v us ns
 read-units pairs v [] ns h = tt
 read-units pairs v (u ∷ us) [] h = tt
 read-units pairs v (u ∷ us) (n ∷ ns) h =
@@ -94,7 +94,7 @@ read-units pairs v (u ∷ us) (n ∷ ns) h =
     (reads-unit pairs n v u rest h, read-units pairs (v + 1) us ns (λ key l. h key (omega arith) ∙ past-unit n v u rest key l))
 
 -- the first of the units
-pub read-front : (pairs : List (LeafKey × ℕ)) (v : ℕ) (us vs : List Work) (ns : List ℕ) → ReadUnits pairs v (us ++ vs) ns → ReadUnits pairs v us ns
+pub read-front : (pairs : List (LeafKey × ℕ)) (v : ℕ) (us vs : List SsaUnit) (ns : List ℕ) → ReadUnits pairs v (us ++ vs) ns → ReadUnits pairs v us ns
 read-front pairs v [] vs ns h = tt
 read-front pairs v (u ∷ us) vs [] h = tt
 read-front pairs v (u ∷ us) vs (n ∷ ns) h = (h.0, read-front pairs (v + 1) us vs ns h.1)
@@ -124,8 +124,8 @@ past-arguments rest v (n ∷ ns) key l = past-argument n v (argument_pairs (v + 
 
 -- ---- the environment of arguments and of the units after them
 
-pub of-arguments : (v : ℕ) (ns ms : List ℕ) (us : List Work) → ReadArguments (argument_pairs 0 ns ++ unit_pairs v us ms) 0 ns
+pub of-arguments : (v : ℕ) (ns ms : List ℕ) (us : List SsaUnit) → ReadArguments (argument_pairs 0 ns ++ unit_pairs v us ms) 0 ns
 of-arguments v ns ms us = read-arguments (argument_pairs 0 ns ++ unit_pairs v us ms) (unit_pairs v us ms) 0 ns (λ key l. refl)
 
-pub of-units : (v : ℕ) (ns ms : List ℕ) (us : List Work) → length ns ≡ v → ReadUnits (argument_pairs 0 ns ++ unit_pairs v us ms) v us ms
+pub of-units : (v : ℕ) (ns ms : List ℕ) (us : List SsaUnit) → length ns ≡ v → ReadUnits (argument_pairs 0 ns ++ unit_pairs v us ms) v us ms
 of-units v ns ms us e = read-units (argument_pairs 0 ns ++ unit_pairs v us ms) v us ms (λ key l. past-arguments (unit_pairs v us ms) 0 ns key (omega arith))

@@ -17,11 +17,11 @@ use Rattle.vg_bits.proofs.BitLists.{num_below}
 use Rattle.vg_bits.proofs.ByteLists.{IsBits-bits_of_bytes, IsBytes-bytes, length-bits_of_bytes, num-bits_of_bytes}
 use Rattle.vg_base.specs.Bits.{bits_of_bytes, num}
 use Rattle.vg_scalar.specs.Scalar.{two_result, shift_result, resize_result, comparison_result, select_result}
-use Rattle.vg_shapes.specs.declared.unit.Operands.{Operands}
-use Rattle.vg_shapes.specs.declared.unit.Operator.{Operator}
-use Rattle.vg_shapes.specs.declared.unit.Operator.TheVariants.{Two, Shift, Resize, Compare, Select}
-use Rattle.vg_shapes.specs.declared.unit.Unit.{Unit as Work}
-use Rattle.vg_shapes.specs.declared.unit.Unit.TheVariants.{Load, Store, Operation}
+use Rattle.vg_shapes.specs.declared.ssa_unit.Operands.{Operands}
+use Rattle.vg_shapes.specs.declared.ssa_unit.Operator.{Operator}
+use Rattle.vg_shapes.specs.declared.ssa_unit.Operator.TheVariants.{Two, Shift, Resize, Compare, Select}
+use Rattle.vg_shapes.specs.declared.ssa_unit.SsaUnit.{SsaUnit}
+use Rattle.vg_shapes.specs.declared.ssa_unit.SsaUnit.TheVariants.{Load, Store, Operation}
 use Rattle.vg_shapes.specs.declared.wanted.Wanted.{Wanted}
 use Rattle.vg_shapes.specs.declared.wanted.Wanted.TheVariants.{Value, Constant, Nothing}
 use Rattle.vg_shapes.specs.RunUnits.{number_of, operation_result, Reached, reached, result_of, run_units, unit_run}
@@ -94,18 +94,18 @@ bound None f y e = absurd (cc)
 bound (Some x) f y e = (x, refl, e)
 
 -- the number that a unit gives
-abbrev Gives : List ℕ → Work → ℕ → Type 0
+abbrev Gives : List ℕ → SsaUnit → ℕ → Type 0
 Gives numbers (Load a w) n = n < 2 ^ bits_of w
 Gives numbers (Store a w x) n = n ≡ 0
 Gives numbers (Operation op w k xs) n = n ≡ result_of (slice_index numbers) op (bits_of w) k xs
 
-record Step (r : Reached) (u : Work) (t : Reached) : Type 0 where
+record Step (r : Reached) (u : SsaUnit) (t : Reached) : Type 0 where
   given : ℕ
   numbers : t.numbers ≡ r.numbers ++ given ∷ []
   gives : Gives r.numbers u given
   memory : IsBytes t.memory
 
-unit-step : (places : List ℕ) (u : Work) (r t : Reached) → IsBytes r.memory → unit_run places u r ≡ Some t → Step r u t
+unit-step : (places : List ℕ) (u : SsaUnit) (r t : Reached) → IsBytes r.memory → unit_run places u r ≡ Some t → Step r u t
 unit-step places (Load a w) r t h e =
     let b = bound (loaded r.memory (place_of places a) (size_of w)) (λ read. Some (reached r.memory r.numbers (number read))) t e in
     let same : reached r.memory r.numbers (number b.0) ≡ t = cc in
@@ -121,12 +121,12 @@ unit-step places (Operation op w k xs) r t h e =
     subst (Step r (Operation op w k xs)) same (record { given = n; numbers = refl; gives = refl; memory = h })
 
 -- the numbers of more units stand after those so far
-pub record More (r : Reached) (us : List Work) (t : Reached) : Type 0 where
+pub record More (r : Reached) (us : List SsaUnit) (t : Reached) : Type 0 where
   pub more : List ℕ
   pub numbers : t.numbers ≡ r.numbers ++ more
   pub long : length more ≡ length us
 
-pub run-more : (places : List ℕ) (us : List Work) (r t : Reached) → IsBytes r.memory → run_units places us r ≡ Some t → More r us t
+pub run-more : (places : List ℕ) (us : List SsaUnit) (r t : Reached) → IsBytes r.memory → run_units places us r ≡ Some t → More r us t
 unfolding run_units
 run-more places [] r t h e = let same : r ≡ t = cc in subst (More r []) same (record { more = []; numbers = sym (append-nil r.numbers); long = refl })
 run-more places (u ∷ us) r t h e =
@@ -211,16 +211,16 @@ operation-number env d first bits terms numbers op w k xs s m h =
 
 -- ---- one unit more
 
-abbrev Reads : Env → ℕ → Work → ℕ → Type 0
+abbrev Reads : Env → ℕ → SsaUnit → ℕ → Type 0
 Reads env v u n = ReadUnits env.pairs v (u ∷ []) (n ∷ [])
 
-unit-number : (env : Env) (d : Depth) (count first : ℕ) (bits : List (Option ℕ)) (terms : List Tree) (numbers : List ℕ) (u : Work) (n : ℕ) → Stand bits terms → Mean env first bits terms numbers → UnitIn count bits u → Gives numbers u n → Reads env (length terms) u n
+unit-number : (env : Env) (d : Depth) (count first : ℕ) (bits : List (Option ℕ)) (terms : List Tree) (numbers : List ℕ) (u : SsaUnit) (n : ℕ) → Stand bits terms → Mean env first bits terms numbers → UnitIn count bits u → Gives numbers u n → Reads env (length terms) u n
     → value env (unit_term d first terms u) ≡ n
 unit-number env d count first bits terms numbers (Load a w) n s m h g e = ap (λ k. k % 2 ^ bits_of w) e.0.0 ∙ mod-eq_of_lt g
 unit-number env d count first bits terms numbers (Store a w x) n s m h g e = sym g
 unit-number env d count first bits terms numbers (Operation op w k xs) n s m h g e = operation-number env d first bits terms numbers op w k xs s m h ∙ sym g
 
-unit-cut : (env : Env) (u : Work) (v w n : ℕ) → unit_bits u ≡ Some w → Reads env v u n → number_at env.pairs (cut_key v) ≡ n
+unit-cut : (env : Env) (u : SsaUnit) (v w n : ℕ) → unit_bits u ≡ Some w → Reads env v u n → number_at env.pairs (cut_key v) ≡ n
 unit-cut env (Load a m) v w n e h = h.0.1
 unit-cut env (Store a m x) v w n e h = absurd (cc)
 unit-cut env (Operation op m k xs) v w n e h = h.0
@@ -246,7 +246,7 @@ before [] n v l = absurd (omega arith)
 before (m ∷ numbers) n zero l = refl
 before (m ∷ numbers) n (suc v) l = before numbers n v (omega arith)
 
-mean-more : (env : Env) (d : Depth) (count first : ℕ) (bits : List (Option ℕ)) (terms : List Tree) (numbers : List ℕ) (u : Work) (n : ℕ) → Stand bits terms → Mean env first bits terms numbers → UnitIn count bits u → Gives numbers u n → Reads env (length numbers) u n
+mean-more : (env : Env) (d : Depth) (count first : ℕ) (bits : List (Option ℕ)) (terms : List Tree) (numbers : List ℕ) (u : SsaUnit) (n : ℕ) → Stand bits terms → Mean env first bits terms numbers → UnitIn count bits u → Gives numbers u n → Reads env (length numbers) u n
     → Mean env first (bits ++ unit_bits u ∷ []) (terms ++ unit_term d first terms u ∷ []) (numbers ++ n ∷ [])
 mean-more env d count first bits terms numbers u n s m h g e =
     let l : length numbers ≡ length terms = m.long ∙ sym s.long in
@@ -263,7 +263,7 @@ mean-more env d count first bits terms numbers u n s m h g e =
 
 -- ---- the run
 
-pub run-means : (env : Env) (d : Depth) (count first : ℕ) (places : List ℕ) (us : List Work) (bits : List (Option ℕ)) (terms : List Tree) (r t : Reached) → Stand bits terms → Mean env first bits terms r.numbers → UnitsIn count bits us → IsBytes r.memory
+pub run-means : (env : Env) (d : Depth) (count first : ℕ) (places : List ℕ) (us : List SsaUnit) (bits : List (Option ℕ)) (terms : List Tree) (r t : Reached) → Stand bits terms → Mean env first bits terms r.numbers → UnitsIn count bits us → IsBytes r.memory
     → run_units places us r ≡ Some t → ReadUnits env.pairs (length r.numbers) us (drop (length r.numbers) t.numbers)
     → Mean env first (behind bits us) (terms_behind d first terms us) t.numbers
 unfolding run_units

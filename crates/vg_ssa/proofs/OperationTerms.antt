@@ -20,8 +20,8 @@ use Rattle.vg_scalar.specs.declared.resize.Resize.TheVariants.{Sext, Zext, Trunc
 use Rattle.vg_scalar.specs.declared.comparison.Comparison.{Comparison}
 use Rattle.vg_scalar.specs.declared.comparison.Comparison.TheVariants.{Eq, Slt, Ult}
 use Rattle.vg_scalar.specs.Scalar.{low, two_result, shift_result, resize_result, comparison_result}
-use Rattle.vg_shapes.specs.declared.unit.Operator.{Operator}
-use Rattle.vg_shapes.specs.declared.unit.Operator.TheVariants as operator
+use Rattle.vg_shapes.specs.declared.ssa_unit.Operator.{Operator}
+use Rattle.vg_shapes.specs.declared.ssa_unit.Operator.TheVariants as operator
 use Rattle.vg_shapes.specs.RunUnits.{operation_result}
 use Rattle.vg_shapes.specs.Sound.{IsChange, result_bits}
 use Rattle.vg_ssa.specs.Fitting.{IsTermOf, OperandsFit}

@@ -12,11 +12,11 @@ use Rattle.vg_base.specs.Width.{bits_of}
 use Rattle.vg_kernel.specs.Tree.{Tree as Kernel}
 use Rattle.vg_kernel.specs.WellFormed.{integer_widths, IsWellFormed}
 use Rattle.vg_shapes.specs.declared.ssa.Ssa.{Ssa}
-use Rattle.vg_shapes.specs.declared.unit.Operands.{Operands}
-use Rattle.vg_shapes.specs.declared.unit.Operator.{Operator}
-use Rattle.vg_shapes.specs.declared.unit.Operator.TheVariants.{Two, Shift, Resize, Compare, Select}
-use Rattle.vg_shapes.specs.declared.unit.Unit.{Unit as Work}
-use Rattle.vg_shapes.specs.declared.unit.Unit.TheVariants.{Load, Store, Operation}
+use Rattle.vg_shapes.specs.declared.ssa_unit.Operands.{Operands}
+use Rattle.vg_shapes.specs.declared.ssa_unit.Operator.{Operator}
+use Rattle.vg_shapes.specs.declared.ssa_unit.Operator.TheVariants.{Two, Shift, Resize, Compare, Select}
+use Rattle.vg_shapes.specs.declared.ssa_unit.SsaUnit.{SsaUnit}
+use Rattle.vg_shapes.specs.declared.ssa_unit.SsaUnit.TheVariants.{Load, Store, Operation}
 use Rattle.vg_shapes.specs.declared.wanted.Wanted.{Wanted}
 use Rattle.vg_shapes.specs.declared.wanted.Wanted.TheVariants.{Value, Constant, Nothing}
 use Rattle.vg_shapes.specs.Sound.{cut_at, cut_key, cuts_of, kind_bits, name_of, pointers, unit_bits, unit_name}
@@ -47,7 +47,7 @@ before-seam (y ∷ l) r (suc v) h = before-seam l r v (omega arith)
 
 -- ---- a unit among others: the terms before it, and what it takes of them
 
-record At (d : Depth) (count first : ℕ) (bits : List (Option ℕ)) (terms : List Tree) (us : List Work) (j : ℕ) (u : Work) : Type 0 where
+record At (d : Depth) (count first : ℕ) (bits : List (Option ℕ)) (terms : List Tree) (us : List SsaUnit) (j : ℕ) (u : SsaUnit) : Type 0 where
   front : List Tree
   wider : List (Option ℕ)
   rest : List Tree
@@ -57,7 +57,7 @@ record At (d : Depth) (count first : ℕ) (bits : List (Option ℕ)) (terms : Li
   stand : Stand wider front
   more : (v w : ℕ) → slice_index_or wider v None ≡ Some w → slice_index_or (behind bits us) v None ≡ Some w
 
-unit-among : (d : Depth) (count first : ℕ) (bits : List (Option ℕ)) (terms : List Tree) (us : List Work) (j : ℕ) (u : Work) → Stand bits terms → UnitsIn count bits us → slice_get us j ≡ Some u → At d count first bits terms us j u
+unit-among : (d : Depth) (count first : ℕ) (bits : List (Option ℕ)) (terms : List Tree) (us : List SsaUnit) (j : ℕ) (u : SsaUnit) → Stand bits terms → UnitsIn count bits us → slice_get us j ≡ Some u → At d count first bits terms us j u
 unit-among d count first bits terms [] j u s h e = absurd (none-some u e)
 unit-among d count first bits terms (x ∷ us) zero u s h e =
     let same : x ≡ u = cc in
@@ -122,7 +122,7 @@ wider-than-a-bit W32 = refl
 wider-than-a-bit W64 = refl
 
 -- the name of a value of a unit, by its cut term
-unit-name-is : (v m : ℕ) (t : Tree) (u : Work) → unit_bits u ≡ Some m → width_of t ≡ m → unit_name v t u ≡ Some (if nat_eq (width_of t) 1 then t else leaf (width_of t) (cut_key v))
+unit-name-is : (v m : ℕ) (t : Tree) (u : SsaUnit) → unit_bits u ≡ Some m → width_of t ≡ m → unit_name v t u ≡ Some (if nat_eq (width_of t) 1 then t else leaf (width_of t) (cut_key v))
 unit-name-is v m t (Load a w) e f =
     let same : width_of t ≡ bits_of w = f ∙ (let g : m ≡ bits_of w = cc in g) in
     ap (λ n. Some (leaf n (cut_key v))) (sym same)

@@ -16,11 +16,11 @@ use Rattle.vg_kernel.specs.Meaning.{Inputs, State, meaning, run, value}
 use Rattle.vg_kernel.specs.Tree.{Expression, argument, assigned, literal, load, two, shift, resize, compare, select, Statement, assign, store, gives}
 use Rattle.vg_kernel.specs.WellFormed.{AreStatements, integer_widths, IsExpression}
 use Rattle.vg_scalar.specs.Scalar.{two_result, shift_result, resize_result, comparison_result, select_result}
-use Rattle.vg_shapes.specs.declared.unit.Operands.{Operands}
-use Rattle.vg_shapes.specs.declared.unit.Operator.{Operator}
-use Rattle.vg_shapes.specs.declared.unit.Operator.TheVariants.{Two, Shift, Resize, Compare, Select}
-use Rattle.vg_shapes.specs.declared.unit.Unit.{Unit as Work}
-use Rattle.vg_shapes.specs.declared.unit.Unit.TheVariants.{Load, Store, Operation}
+use Rattle.vg_shapes.specs.declared.ssa_unit.Operands.{Operands}
+use Rattle.vg_shapes.specs.declared.ssa_unit.Operator.{Operator}
+use Rattle.vg_shapes.specs.declared.ssa_unit.Operator.TheVariants.{Two, Shift, Resize, Compare, Select}
+use Rattle.vg_shapes.specs.declared.ssa_unit.SsaUnit.{SsaUnit}
+use Rattle.vg_shapes.specs.declared.ssa_unit.SsaUnit.TheVariants.{Load, Store, Operation}
 use Rattle.vg_shapes.specs.declared.wanted.Wanted.{Wanted}
 use Rattle.vg_shapes.specs.declared.wanted.Wanted.TheVariants.{Value, Constant, Nothing}
 use Rattle.vg_shapes.specs.RunUnits.{number_of, Reached, reached, result_of, run_units, start_of, unit_run}
@@ -34,12 +34,12 @@ chained : {A B C : Type 0} (o : Option A) (f : A → Option B) (g : B → Option
 chained None f g h e = refl
 chained (Some x) f g h e = e x
 
-run-append : (places : List ℕ) (us vs : List Work) (r : Reached) → run_units places (us ++ vs) r ≡ (run_units places us r >>= run_units places vs)
+run-append : (places : List ℕ) (us vs : List SsaUnit) (r : Reached) → run_units places (us ++ vs) r ≡ (run_units places us r >>= run_units places vs)
 unfolding run_units
 run-append places [] vs r = refl
 run-append places (u ∷ us) vs r = chained (unit_run places u r) (run_units places us) (run_units places vs) (run_units places (us ++ vs)) (run-append places us vs)
 
-run-one : (places : List ℕ) (u : Work) (r : Reached) → run_units places (u ∷ []) r ≡ unit_run places u r
+run-one : (places : List ℕ) (u : SsaUnit) (r : Reached) → run_units places (u ∷ []) r ≡ unit_run places u r
 unfolding run_units
 run-one places u r = by (unit_run places u r)
   where
@@ -54,14 +54,14 @@ run-none places r = refl
 -- ---- what a run of the units of an expression finds
 
 -- the memory stays, and each unit gives a number
-record Grown (r : Reached) (us : List Work) (t : Reached) : Type 0 where
+record Grown (r : Reached) (us : List SsaUnit) (t : Reached) : Type 0 where
   memory : t.memory ≡ r.memory
   more : List ℕ
   numbers : t.numbers ≡ r.numbers ++ more
   long : length more ≡ length us
 
 -- run from r, these units trap, or find this number, for which this stands
-abbrev Finds : List ℕ → Reached → List Work → Wanted → Option ℕ → Type 0
+abbrev Finds : List ℕ → Reached → List SsaUnit → Wanted → Option ℕ → Type 0
 Finds places r us x None = run_units places us r ≡ None
 Finds places r us x (Some v) =
     (t : Reached) × (run_units places us r ≡ Some t) × Grown r us t × (number_of (slice_index t.numbers) x ≡ v) × IsEarlier (length t.numbers) x
@@ -77,13 +77,13 @@ earlier-stays m n (Value v) l h = omega arith
 earlier-stays m n (Constant w k) l h = tt
 earlier-stays m n Nothing l h = tt
 
-grown-longer : (r : Reached) (us : List Work) (t : Reached) → Grown r us t → length t.numbers ≡ length r.numbers + length us
+grown-longer : (r : Reached) (us : List SsaUnit) (t : Reached) → Grown r us t → length t.numbers ≡ length r.numbers + length us
 grown-longer r us t g = ap length g.numbers ∙ length-append r.numbers g.more ∙ ap (λ k. length r.numbers + k) g.long
 
-grown-number : (r : Reached) (us : List Work) (t : Reached) (x : Wanted) (v : ℕ) → Grown r us t → IsEarlier (length r.numbers) x → number_of (slice_index r.numbers) x ≡ v → number_of (slice_index t.numbers) x ≡ v
+grown-number : (r : Reached) (us : List SsaUnit) (t : Reached) (x : Wanted) (v : ℕ) → Grown r us t → IsEarlier (length r.numbers) x → number_of (slice_index r.numbers) x ≡ v → number_of (slice_index t.numbers) x ≡ v
 grown-number r us t x v g early e = ap (λ l. number_of (slice_index l) x) g.numbers ∙ number-stays r.numbers g.more x early ∙ e
 
-grown-twice : (r : Reached) (us : List Work) (t : Reached) (vs : List Work) (q : Reached) → Grown r us t → Grown t vs q → Grown r (us ++ vs) q
+grown-twice : (r : Reached) (us : List SsaUnit) (t : Reached) (vs : List SsaUnit) (q : Reached) → Grown r us t → Grown t vs q → Grown r (us ++ vs) q
 grown-twice r us t vs q g h = record {
   memory = h.memory ∙ g.memory;
   more = g.more ++ h.more;
@@ -92,20 +92,20 @@ grown-twice r us t vs q g h = record {
 }
 
 -- what is found after other units
-finds-behind : (places : List ℕ) (r : Reached) (us : List Work) (t : Reached) (vs : List Work) (y : Wanted) (o : Option ℕ) → run_units places us r ≡ Some t → Grown r us t → Finds places t vs y o → Finds places r (us ++ vs) y o
+finds-behind : (places : List ℕ) (r : Reached) (us : List SsaUnit) (t : Reached) (vs : List SsaUnit) (y : Wanted) (o : Option ℕ) → run_units places us r ≡ Some t → Grown r us t → Finds places t vs y o → Finds places r (us ++ vs) y o
 finds-behind places r us t vs y None e g f = run-append places us vs r ∙ ap (λ o. o >>= run_units places vs) e ∙ f
 finds-behind places r us t vs y (Some v) e g f =
     (f.0, run-append places us vs r ∙ ap (λ o. o >>= run_units places vs) e ∙ f.1, grown-twice r us t vs f.0 g f.2, f.3, f.4)
 
 -- one search, and another that goes on with its number
-finds-then : (places : List ℕ) (r : Reached) (us : List Work) (x : Wanted) (o : Option ℕ) (f : ℕ → Option ℕ) (vs : List Work) (y : Wanted) → Finds places r us x o
+finds-then : (places : List ℕ) (r : Reached) (us : List SsaUnit) (x : Wanted) (o : Option ℕ) (f : ℕ → Option ℕ) (vs : List SsaUnit) (y : Wanted) → Finds places r us x o
     → ((v : ℕ) (t : Reached) → Grown r us t → number_of (slice_index t.numbers) x ≡ v → IsEarlier (length t.numbers) x → Finds places t vs y (f v))
     → Finds places r (us ++ vs) y (o >>= f)
 finds-then places r us x None f vs y first next = run-append places us vs r ∙ ap (λ o. o >>= run_units places vs) first
 finds-then places r us x (Some v) f vs y first next = finds-behind places r us first.0 vs y (f v) first.1 first.2 (next v first.0 first.2 first.3 first.4)
 
 -- one unit that gives this number
-finds-number : (places : List ℕ) (r : Reached) (u : Work) (n m : ℕ) → m ≡ length r.numbers → unit_run places u r ≡ Some (reached r.memory r.numbers n) → Finds places r (u ∷ []) (Value m) (Some n)
+finds-number : (places : List ℕ) (r : Reached) (u : SsaUnit) (n m : ℕ) → m ≡ length r.numbers → unit_run places u r ≡ Some (reached r.memory r.numbers n) → Finds places r (u ∷ []) (Value m) (Some n)
 finds-number places r u n m long e = (
   reached r.memory r.numbers n,
   run-one places u r ∙ e,
@@ -117,7 +117,7 @@ finds-number places r u n m long e = (
 finds-operation : (places : List ℕ) (r : Reached) (op : Operator) (w : Width) (k : ℕ) (xs : Operands) (v m : ℕ) → m ≡ length r.numbers → result_of (slice_index r.numbers) op (bits_of w) k xs ≡ v → Finds places r (Operation op w k xs ∷ []) (Value m) (Some v)
 finds-operation places r op w k xs v m long e = finds-number places r (Operation op w k xs) v m long (ap (λ n. Some (reached r.memory r.numbers n)) e)
 
-finds-load : (places : List ℕ) (r : Reached) (memory : List ℕ) (u : Work) (o : Option (List ℕ)) (m : ℕ) → m ≡ length r.numbers
+finds-load : (places : List ℕ) (r : Reached) (memory : List ℕ) (u : SsaUnit) (o : Option (List ℕ)) (m : ℕ) → m ≡ length r.numbers
     → unit_run places u r ≡ (o >>= λ read. Some (reached r.memory r.numbers (number read))) → Finds places r (u ∷ []) (Value m) (o >>= λ read. Some (number read))
 finds-load places r memory u None m long e = run-one places u r ∙ e
 finds-load places r memory u (Some read) m long e = finds-number places r u (number read) m long e
@@ -132,7 +132,7 @@ record Meets (a : ℕ) (i : Inputs) (s : State) (names : List Wanted) (r : Reach
   named : (k : ℕ) → number_of (slice_index r.numbers) (slice_index_or names k Nothing) ≡ slice_index s.numbers k
   early : (k : ℕ) → IsEarlier (length r.numbers) (slice_index_or names k Nothing)
 
-meets-more : (a : ℕ) (i : Inputs) (s : State) (names : List Wanted) (r : Reached) (us : List Work) (t : Reached) → Meets a i s names r → Grown r us t → Meets a i s names t
+meets-more : (a : ℕ) (i : Inputs) (s : State) (names : List Wanted) (r : Reached) (us : List SsaUnit) (t : Reached) → Meets a i s names r → Grown r us t → Meets a i s names t
 meets-more a i s names r us t m g =
     let longer = grown-longer r us t g in
     let low = m.long in
@@ -150,7 +150,7 @@ get-below [] k x e = absurd (cc)
 get-below (y ∷ ys) zero x e = omega arith
 get-below (y ∷ ys) (suc k) x e = let rest = get-below ys k x e in omega arith
 
-regroup : (places : List ℕ) (r : Reached) (us vs ws : List Work) (y : Wanted) (o : Option ℕ) → Finds places r (us ++ (vs ++ ws)) y o → Finds places r ((us ++ vs) ++ ws) y o
+regroup : (places : List ℕ) (r : Reached) (us vs ws : List SsaUnit) (y : Wanted) (o : Option ℕ) → Finds places r (us ++ (vs ++ ws)) y o → Finds places r ((us ++ vs) ++ ws) y o
 regroup places r us vs ws y o f = subst (λ l. Finds places r l y o) (sym (append_assoc us vs ws)) f
 
 -- ---- expressions
@@ -251,7 +251,7 @@ abbrev left_of : Option State → Option (List ℕ)
 left_of o = o >>= λ t. Some t.memory
 
 -- a name is given to what an expression gives
-assign-run : (a : ℕ) (i : Inputs) (s : State) (names : List Wanted) (r : Reached) (us : List Work) (x : Wanted) (o : Option ℕ) (rest : List Work) (ss : List Statement) → Meets a i s names r → Finds i.places r us x o
+assign-run : (a : ℕ) (i : Inputs) (s : State) (names : List Wanted) (r : Reached) (us : List SsaUnit) (x : Wanted) (o : Option ℕ) (rest : List SsaUnit) (ss : List Statement) → Meets a i s names r → Finds i.places r us x o
     → ((v : ℕ) (t : Reached) → Meets a i (record { memory = s.memory; numbers = s.numbers ++ v ∷ [] }) (names ++ x ∷ []) t → length t.numbers ≡ length r.numbers + length us → memory_of (run_units i.places rest t) ≡ left_of (run i ss (record { memory = s.memory; numbers = s.numbers ++ v ∷ [] })))
     → memory_of (run_units i.places us r >>= run_units i.places rest) ≡ left_of ((o >>= λ v. Some (record { memory = s.memory; numbers = s.numbers ++ v ∷ [] })) >>= run i ss)
 assign-run a i s names r us x None rest ss m f next = ap (λ o. memory_of (o >>= run_units i.places rest)) f
@@ -269,7 +269,7 @@ assign-run a i s names r us x (Some v) rest ss m f next =
     }) (grown-longer r us t f.2)
 
 -- the memory that a store leaves
-stored-run : (a : ℕ) (i : Inputs) (s : State) (names : List Wanted) (t : Reached) (u : Work) (o : Option (List ℕ)) (rest : List Work) (ss : List Statement) → Meets a i s names t
+stored-run : (a : ℕ) (i : Inputs) (s : State) (names : List Wanted) (t : Reached) (u : SsaUnit) (o : Option (List ℕ)) (rest : List SsaUnit) (ss : List Statement) → Meets a i s names t
     → ((memory : List ℕ) (q : Reached) → Meets a i (record { memory = memory; numbers = s.numbers }) names q → length q.numbers ≡ length t.numbers + 1 → memory_of (run_units i.places rest q) ≡ left_of (run i ss (record { memory = memory; numbers = s.numbers })))
     → memory_of ((o >>= λ memory. Some (reached memory t.numbers 0)) >>= run_units i.places rest) ≡ left_of ((o >>= λ memory. Some (record { memory = memory; numbers = s.numbers })) >>= run i ss)
 stored-run a i s names t u None rest ss m next = refl
@@ -280,7 +280,7 @@ stored-run a i s names t u (Some memory) rest ss m next =
     next memory (reached memory t.numbers 0) (meets-more a i (record { memory = memory; numbers = s.numbers }) names before (u ∷ []) (reached memory t.numbers 0) begun grown) (length_push t.numbers 0)
 
 -- what an expression gives is stored
-store-run : (a : ℕ) (i : Inputs) (s : State) (names : List Wanted) (r : Reached) (us : List Work) (x : Wanted) (o : Option ℕ) (w : Width) (at : Address) (rest : List Work) (ss : List Statement) → Meets a i s names r → Finds i.places r us x o
+store-run : (a : ℕ) (i : Inputs) (s : State) (names : List Wanted) (r : Reached) (us : List SsaUnit) (x : Wanted) (o : Option ℕ) (w : Width) (at : Address) (rest : List SsaUnit) (ss : List Statement) → Meets a i s names r → Finds i.places r us x o
     → ((memory : List ℕ) (q : Reached) → Meets a i (record { memory = memory; numbers = s.numbers }) names q → length q.numbers ≡ length r.numbers + length us + 1 → memory_of (run_units i.places rest q) ≡ left_of (run i ss (record { memory = memory; numbers = s.numbers })))
     → memory_of ((run_units i.places us r >>= run_units i.places (Store at w x ∷ [])) >>= run_units i.places rest)
     ≡ left_of ((o >>= λ v. stored s.memory (place_of i.places at) (bytes (size_of w) v) >>= λ memory. Some (record { memory = memory; numbers = s.numbers })) >>= run i ss)

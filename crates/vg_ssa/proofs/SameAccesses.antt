@@ -10,8 +10,8 @@ use Rattle.vg_kernel.specs.declared.parameter.KParamKind.TheVariants as kinds
 use Rattle.vg_kernel.specs.Layout.{Access as KernelAccess, accesses as kernel_accesses, noalias_flags as kernel_flags, noalias_of as kernel_noalias, reads_of, statement_accesses}
 use Rattle.vg_kernel.specs.Tree.{Expression, argument, assigned, literal, load, two, shift, resize, compare, select, Statement, assign, store}
 use Rattle.vg_shapes.specs.declared.access.Access.{Access}
-use Rattle.vg_shapes.specs.declared.unit.Unit.{Unit as Work}
-use Rattle.vg_shapes.specs.declared.unit.Unit.TheVariants.{Store}
+use Rattle.vg_shapes.specs.declared.ssa_unit.SsaUnit.{SsaUnit}
+use Rattle.vg_shapes.specs.declared.ssa_unit.SsaUnit.TheVariants.{Store}
 use Rattle.vg_shapes.specs.declared.wanted.Wanted.{Wanted}
 use Rattle.vg_shapes.specs.Layout.{access_of as unit_access, noalias_flags, noalias_of}
 use Rattle.vg_ssa.specs.Laws.{access_of, SameAccesses, SameLayouts}
@@ -19,14 +19,14 @@ use Rattle.vg_ssa.specs.Numbering.{first_unit, kind_of, numbered, param_of, unit
 
 -- ---- accesses
 
-abbrev made : List Work → List Access
+abbrev made : List SsaUnit → List Access
 made us = filter_map unit_access us
 
 -- units that make these accesses, and an operation after them
-with-operation : (us : List Work) (u : Work) (xs : List Access) → unit_access u ≡ None → made us ≡ xs → made (us ++ u ∷ []) ≡ xs
+with-operation : (us : List SsaUnit) (u : SsaUnit) (xs : List Access) → unit_access u ≡ None → made us ≡ xs → made (us ++ u ∷ []) ≡ xs
 with-operation us u xs none e = filter_map-append unit_access us (u ∷ []) ∙ (λ i. e i ++ cons_option (none i) []) ∙ append-nil xs
 
-made-both : (us vs : List Work) (xs ys : List KernelAccess) → made us ≡ map access_of xs → made vs ≡ map access_of ys → made (us ++ vs) ≡ map access_of (xs ++ ys)
+made-both : (us vs : List SsaUnit) (xs ys : List KernelAccess) → made us ≡ map access_of xs → made vs ≡ map access_of ys → made (us ++ vs) ≡ map access_of (xs ++ ys)
 made-both us vs xs ys e f = filter_map-append unit_access us vs ∙ (λ i. e i ++ f i) ∙ sym (map-append access_of xs ys)
 
 expression-made : (n : ℕ) (names : List Wanted) (e : Expression) → made (numbered n names e).units ≡ map access_of (reads_of e)

@@ -25,11 +25,11 @@ use Rattle.vg_kernel.specs.Words.{is_free, is_reserved}
 use Rattle.vg_text.specs.Byte.{is_name_text}
 use Rattle.vg_shapes.specs.declared.ssa.Ssa.{Ssa}
 use Rattle.vg_shapes.specs.declared.ssa.SsaParam.{SsaParam}
-use Rattle.vg_shapes.specs.declared.unit.Operands.{Operands}
-use Rattle.vg_shapes.specs.declared.unit.Operator.{Operator}
-use Rattle.vg_shapes.specs.declared.unit.Operator.TheVariants.{Two, Shift, Resize, Compare, Select}
-use Rattle.vg_shapes.specs.declared.unit.Unit.{Unit as Work}
-use Rattle.vg_shapes.specs.declared.unit.Unit.TheVariants.{Load, Store, Operation}
+use Rattle.vg_shapes.specs.declared.ssa_unit.Operands.{Operands}
+use Rattle.vg_shapes.specs.declared.ssa_unit.Operator.{Operator}
+use Rattle.vg_shapes.specs.declared.ssa_unit.Operator.TheVariants.{Two, Shift, Resize, Compare, Select}
+use Rattle.vg_shapes.specs.declared.ssa_unit.SsaUnit.{SsaUnit}
+use Rattle.vg_shapes.specs.declared.ssa_unit.SsaUnit.TheVariants.{Load, Store, Operation}
 use Rattle.vg_shapes.specs.declared.wanted.Wanted.{Wanted}
 use Rattle.vg_shapes.specs.declared.wanted.Wanted.TheVariants.{Value, Constant, Nothing}
 use Rattle.vg_shapes.specs.RunUnits.{Reached, run_units, start_of}
@@ -123,7 +123,7 @@ arguments-each u (x ∷ ws) (suc v) w e = arguments-each (u + 1) ws v w e
 
 -- ---- the rules on units
 
-pub value-at : (ps : List SsaParam) (us : List Work) (v : ℕ)
+pub value-at : (ps : List SsaParam) (us : List SsaUnit) (v : ℕ)
     → (if nat_lt v (length ps) then option_map (λ p. kind_bits p.kind) (slice_get ps v) else (if nat_lt v (length ps) then None else slice_get us (v - length ps)) >>= unit_bits)
     ≡ slice_index_or (behind (widths ps) us) v None
 value-at ps us v = by (nat_lt v (length ps)) refl
@@ -133,7 +133,7 @@ value-at ps us v = by (nat_lt v (length ps)) refl
     front (p ∷ ps) zero = refl
     front (p ∷ ps) (suc v) = front ps v
 
-    back : (us : List Work) (v : ℕ) → (slice_get us v >>= unit_bits) ≡ slice_index_or (map unit_bits us) v None
+    back : (us : List SsaUnit) (v : ℕ) → (slice_get us v >>= unit_bits) ≡ slice_index_or (map unit_bits us) v None
     back [] v = refl
     back (u ∷ us) zero = refl
     back (u ∷ us) (suc v) = back us v
@@ -176,12 +176,12 @@ operation-sound ssa bits more op w k xs same = by op
     by (Compare op) h = (h.0, n w xs.first h.1, n w xs.second h.2, h.3)
     by Select h = (h.0, bit-sound ssa (bits ++ more) xs.first same (bit-stays bits more xs.first h.1), n w xs.second h.2, n w xs.third h.3)
 
-unit-sound : (ssa : Ssa) (bits more : List (Option ℕ)) (u : Work) → ((v : ℕ) → value_bits ssa v ≡ slice_index_or (bits ++ more) v None) → UnitIn (length (pointers ssa)) bits u → IsUnit ssa u
+unit-sound : (ssa : Ssa) (bits more : List (Option ℕ)) (u : SsaUnit) → ((v : ℕ) → value_bits ssa v ≡ slice_index_or (bits ++ more) v None) → UnitIn (length (pointers ssa)) bits u → IsUnit ssa u
 unit-sound ssa bits more (Load a w) same h = h
 unit-sound ssa bits more (Store a w x) same h = (h.0, number-sound ssa (bits ++ more) w x same (number-stays bits more w x h.1))
 unit-sound ssa bits more (Operation op w k xs) same h = operation-sound ssa bits more op w k xs same h
 
-units-sound : (ssa : Ssa) (bits : List (Option ℕ)) (us : List Work) → ((v : ℕ) → value_bits ssa v ≡ slice_index_or (behind bits us) v None) → UnitsIn (length (pointers ssa)) bits us → AllByRecursion (IsUnit ssa) us
+units-sound : (ssa : Ssa) (bits : List (Option ℕ)) (us : List SsaUnit) → ((v : ℕ) → value_bits ssa v ≡ slice_index_or (behind bits us) v None) → UnitsIn (length (pointers ssa)) bits us → AllByRecursion (IsUnit ssa) us
 units-sound ssa bits [] same h = tt
 units-sound ssa bits (u ∷ us) same h = (
   unit-sound ssa bits (map unit_bits (u ∷ us)) u same h.0,
@@ -190,18 +190,18 @@ units-sound ssa bits (u ∷ us) same h = (
 
 -- ---- the limits
 
-abbrev stores_of : List Work → List Work
+abbrev stores_of : List SsaUnit → List SsaUnit
 stores_of us = filter is_store us
 
-abbrev others_of : List Work → List Work
+abbrev others_of : List SsaUnit → List SsaUnit
 others_of us = filter (λ u. not (is_store u)) us
 
 -- units of which none is a store
-record NoStore (us : List Work) : Type 0 where
+record NoStore (us : List SsaUnit) : Type 0 where
   stores : stores_of us ≡ []
   others : others_of us ≡ us
 
-none-both : (us vs : List Work) → NoStore us → NoStore vs → NoStore (us ++ vs)
+none-both : (us vs : List SsaUnit) → NoStore us → NoStore vs → NoStore (us ++ vs)
 none-both us vs h g = record {
   stores = filter-append is_store us vs ∙ (λ i. h.stores i ++ g.stores i);
   others = filter-append (λ u. not (is_store u)) us vs ∙ (λ i. h.others i ++ g.others i);
@@ -297,19 +297,19 @@ index-at [] v t e = absurd (cc)
 index-at (x ∷ ts) zero t e = cc
 index-at (x ∷ ts) (suc v) t e = index-at ts v t e
 
-units-front : (count : ℕ) (bits : List (Option ℕ)) (us vs : List Work) → UnitsIn count bits (us ++ vs) → UnitsIn count bits us
+units-front : (count : ℕ) (bits : List (Option ℕ)) (us vs : List SsaUnit) → UnitsIn count bits (us ++ vs) → UnitsIn count bits us
 units-front count bits [] vs h = tt
 units-front count bits (u ∷ us) vs h = (h.0, units-front count (bits ++ unit_bits u ∷ []) us vs h.1)
 
 -- the term of a value that the first units reach is theirs
-term-of-front : (d : Depth) (first : ℕ) (terms : List Tree) (us vs : List Work) (v : ℕ) → v < length terms + length us → slice_index_or (terms_behind d first terms (us ++ vs)) v no_term ≡ slice_index_or (terms_behind d first terms us) v no_term
+term-of-front : (d : Depth) (first : ℕ) (terms : List Tree) (us vs : List SsaUnit) (v : ℕ) → v < length terms + length us → slice_index_or (terms_behind d first terms (us ++ vs)) v no_term ≡ slice_index_or (terms_behind d first terms us) v no_term
 term-of-front d first terms us vs v l =
     let long = terms-long d first terms us in
     ap (λ t. slice_index_or t v no_term) (terms-both d first terms us vs ∙ terms-behind d first (terms_behind d first terms us) vs)
     ∙ get_or_append_left (terms_behind d first terms us) (terms_after d first (terms_behind d first terms us) vs) no_term v (omega arith)
 
 -- and so is its width
-width-of-front : (bits : List (Option ℕ)) (us vs : List Work) (v : ℕ) → v < length bits + length us → slice_index_or (behind bits us) v None ≡ slice_index_or (behind bits (us ++ vs)) v None
+width-of-front : (bits : List (Option ℕ)) (us vs : List SsaUnit) (v : ℕ) → v < length bits + length us → slice_index_or (behind bits us) v None ≡ slice_index_or (behind bits (us ++ vs)) v None
 width-of-front bits us vs v l =
     let long = behind-long bits us in
     sym (ap (λ b. slice_index_or b v None) (behind-both bits us vs) ∙ get_or_append_left (behind bits us) (map unit_bits vs) None v (omega arith))
@@ -334,7 +334,7 @@ record FrontMeans (d : Depth) (ssa : Ssa) (terms : List Tree) (numbers : List �
   leaf : (v w : ℕ) → v < length numbers → nat_lt v (arguments ssa) ≡ false → slice_index_or (all_widths ssa) v None ≡ Some w → number_at (environment ssa numbers).pairs (cut_key v) ≡ slice_index numbers v
 
 -- in the environment of a run of some of the units
-front-means : (d : Depth) (ssa : Ssa) (terms : List Tree) (us vs : List Work) (places memory args : List ℕ) (r : Reached) → Typed ssa terms → us ++ vs ≡ ssa.units → IsBytes memory → AreArguments (integers ssa) args
+front-means : (d : Depth) (ssa : Ssa) (terms : List Tree) (us vs : List SsaUnit) (places memory args : List ℕ) (r : Reached) → Typed ssa terms → us ++ vs ≡ ssa.units → IsBytes memory → AreArguments (integers ssa) args
     → run_units places us (start_of memory args) ≡ Some r → FrontMeans d ssa terms r.numbers
 front-means d ssa terms us vs places memory args r h split bytes fit run =
     let first = arguments ssa in
@@ -432,7 +432,7 @@ record Made (ssa : Ssa) (terms : List Tree) (v w : ℕ) : Type 0 where
   width : slice_index_or (all_widths ssa) v None ≡ Some w
   term : IsTermOf w (slice_index_or (all_terms Cut ssa terms) v no_term)
 
-made-of : (ssa : Ssa) (terms : List Tree) (v : ℕ) (u : Work) (w : ℕ) → Typed ssa terms → nat_lt v (arguments ssa) ≡ false → unit_at ssa v ≡ Some u → unit_bits u ≡ Some w → Made ssa terms v w
+made-of : (ssa : Ssa) (terms : List Tree) (v : ℕ) (u : SsaUnit) (w : ℕ) → Typed ssa terms → nat_lt v (arguments ssa) ≡ false → unit_at ssa v ≡ Some u → unit_bits u ≡ Some w → Made ssa terms v w
 made-of ssa terms v u w h past at bits =
     let all = stand-behind Cut (length (pointers ssa)) (arguments ssa) (widths (integers ssa)) terms ssa.units h.stand h.units in
     let here : value_bits ssa v ≡ Some w = cond-false (nat_lt v (arguments ssa)) (option_map (λ p. kind_bits p.kind) (slice_get (integers ssa) v)) (unit_at ssa v >>= unit_bits) past ∙ ap (λ o. o >>= unit_bits) at ∙ bits in
@@ -454,7 +454,7 @@ module _ (ssa : Ssa) (terms : List Tree) (typed : Typed ssa terms) (numbers : Li
   cut-leaf v w c l past is x =
       leaf-means env w v (slice_index numbers v) c (subst (IsTermOf w) is x.term) (means.leaf v w l past x.width) (ap (value env) (sym is) ∙ means.each v l)
 
-  unit-name-means : (v : ℕ) (c t : Tree) (u : Work) → v < length numbers → nat_lt v (arguments ssa) ≡ false → slice_index_or (all_terms Cut ssa terms) v no_term ≡ c
+  unit-name-means : (v : ℕ) (c t : Tree) (u : SsaUnit) → v < length numbers → nat_lt v (arguments ssa) ≡ false → slice_index_or (all_terms Cut ssa terms) v no_term ≡ c
       → unit_at ssa v ≡ Some u → unit_name v c u ≡ Some t → value env t ≡ slice_index numbers v
   unit-name-means v c t (Load a w) l past is at e =
       let x = made-of ssa terms v (Load a w) (bits_of w) typed past at refl in

@@ -5,11 +5,11 @@ use Rattle.std.proofs.lemmas.List.{length_push}
 use Rattle.vg_base.specs.declared.width.Width.{Width}
 use Rattle.vg_base.specs.Width.{bits_of}
 use Rattle.vg_canon.proofs.Steps.{leaf-finished, constant-finished}
-use Rattle.vg_shapes.specs.declared.unit.Operands.{Operands}
-use Rattle.vg_shapes.specs.declared.unit.Operator.{Operator}
-use Rattle.vg_shapes.specs.declared.unit.Operator.TheVariants.{Two, Shift, Resize, Compare, Select}
-use Rattle.vg_shapes.specs.declared.unit.Unit.{Unit as Work}
-use Rattle.vg_shapes.specs.declared.unit.Unit.TheVariants.{Load, Store, Operation}
+use Rattle.vg_shapes.specs.declared.ssa_unit.Operands.{Operands}
+use Rattle.vg_shapes.specs.declared.ssa_unit.Operator.{Operator}
+use Rattle.vg_shapes.specs.declared.ssa_unit.Operator.TheVariants.{Two, Shift, Resize, Compare, Select}
+use Rattle.vg_shapes.specs.declared.ssa_unit.SsaUnit.{SsaUnit}
+use Rattle.vg_shapes.specs.declared.ssa_unit.SsaUnit.TheVariants.{Load, Store, Operation}
 use Rattle.vg_shapes.specs.declared.wanted.Wanted.{Wanted}
 use Rattle.vg_shapes.specs.declared.wanted.Wanted.TheVariants.{Value, Constant, Nothing}
 use Rattle.vg_shapes.specs.Sound.{AreUnitTerms, cut_key, IsUnitTerm, load_key, result_bits, unit_bits}
@@ -24,21 +24,21 @@ use Rattle.vg_terms.specs.Term.{Tree, constant, IsWidth, leaf, node_count, width
 -- ---- lists of terms
 
 -- the terms of units after those so far
-abbrev pub terms_after : Depth → ℕ → List Tree → List Work → List Tree
+abbrev pub terms_after : Depth → ℕ → List Tree → List SsaUnit → List Tree
 terms_after d first terms [] = []
 terms_after d first terms (u ∷ us) = unit_term d first terms u ∷ terms_after d first (terms ++ unit_term d first terms u ∷ []) us
 
-pub terms-behind : (d : Depth) (first : ℕ) (terms : List Tree) (us : List Work) → terms_behind d first terms us ≡ terms ++ terms_after d first terms us
+pub terms-behind : (d : Depth) (first : ℕ) (terms : List Tree) (us : List SsaUnit) → terms_behind d first terms us ≡ terms ++ terms_after d first terms us
 terms-behind d first terms [] = sym (append-nil terms)
 terms-behind d first terms (u ∷ us) =
     let t = unit_term d first terms u in
     terms-behind d first (terms ++ t ∷ []) us ∙ append_assoc terms (t ∷ []) (terms_after d first (terms ++ t ∷ []) us)
 
-pub terms-both : (d : Depth) (first : ℕ) (terms : List Tree) (us vs : List Work) → terms_behind d first terms (us ++ vs) ≡ terms_behind d first (terms_behind d first terms us) vs
+pub terms-both : (d : Depth) (first : ℕ) (terms : List Tree) (us vs : List SsaUnit) → terms_behind d first terms (us ++ vs) ≡ terms_behind d first (terms_behind d first terms us) vs
 terms-both d first terms [] vs = refl
 terms-both d first terms (u ∷ us) vs = terms-both d first (terms ++ unit_term d first terms u ∷ []) us vs
 
-pub terms-long : (d : Depth) (first : ℕ) (terms : List Tree) (us : List Work) → length (terms_behind d first terms us) ≡ length terms + length us
+pub terms-long : (d : Depth) (first : ℕ) (terms : List Tree) (us : List SsaUnit) → length (terms_behind d first terms us) ≡ length terms + length us
 terms-long d first terms [] = (let e : length terms ≡ length terms + 0 = omega arith in e)
 terms-long d first terms (u ∷ us) =
     let rest = terms-long d first (terms ++ unit_term d first terms u ∷ []) us in
@@ -97,7 +97,7 @@ cut-fit b first bits terms (Resize op v) w k xs s h = (h.1, number-cut b first b
 cut-fit b first bits terms (Compare op) w k xs s h = (number-cut b first bits terms w xs.first s h.1, number-cut b first bits terms w xs.second s h.2)
 cut-fit b first bits terms Select w k xs s h = (bit-cut b first bits terms xs.first s h.1, number-cut b first bits terms w xs.second s h.2, number-cut b first bits terms w xs.third s h.3)
 
-fits : (d : Depth) (count first : ℕ) (bits : List (Option ℕ)) (terms : List Tree) (u : Work) → Stand bits terms → UnitIn count bits u → UnitFits d first terms u
+fits : (d : Depth) (count first : ℕ) (bits : List (Option ℕ)) (terms : List Tree) (u : SsaUnit) → Stand bits terms → UnitIn count bits u → UnitFits d first terms u
 fits d count first bits terms (Load a w) s h = tt
 fits d count first bits terms (Store a w x) s h = tt
 fits d count first bits terms (Operation op w k xs) s h = (whole-fit bits terms op w k xs s h, cut-fit (writes_bits d) first bits terms op w k xs s h)
@@ -124,7 +124,7 @@ operation-term d first terms op w k xs h =
     (canonical-term op w k (operand_term terms xs.first) (operand_term terms xs.second) (operand_term terms xs.third) h.0)
     (canonical-term op w k (cut_term (writes_bits d) first terms xs.first) (cut_term (writes_bits d) first terms xs.second) (cut_term (writes_bits d) first terms xs.third) h.1)
 
-unit-width : (d : Depth) (first : ℕ) (terms : List Tree) (u : Work) (w : ℕ) → UnitFits d first terms u → unit_bits u ≡ Some w → IsWidth w × IsTermOf w (unit_term d first terms u)
+unit-width : (d : Depth) (first : ℕ) (terms : List Tree) (u : SsaUnit) (w : ℕ) → UnitFits d first terms u → unit_bits u ≡ Some w → IsWidth w × IsTermOf w (unit_term d first terms u)
 unit-width d first terms (Load a v) w h e =
     let same : bits_of v ≡ w = cc in
     let P : ℕ → Type 0 = λ n. IsWidth n × IsTermOf n (unit_term d first terms (Load a v)) in
@@ -146,7 +146,7 @@ each-more (a ∷ bits) [] b t l h g v w e = absurd (omega arith)
 each-more (a ∷ bits) (x ∷ terms) b t l h g zero w e = h 0 w e
 each-more (a ∷ bits) (x ∷ terms) b t l h g (suc v) w e = each-more bits terms b t (omega arith) (λ j. h (suc j)) g v w e
 
-pub stand-more : (d : Depth) (count first : ℕ) (bits : List (Option ℕ)) (terms : List Tree) (u : Work) → Stand bits terms → UnitIn count bits u → Stand (bits ++ unit_bits u ∷ []) (terms ++ unit_term d first terms u ∷ [])
+pub stand-more : (d : Depth) (count first : ℕ) (bits : List (Option ℕ)) (terms : List Tree) (u : SsaUnit) → Stand bits terms → UnitIn count bits u → Stand (bits ++ unit_bits u ∷ []) (terms ++ unit_term d first terms u ∷ [])
 stand-more d count first bits terms u s h =
     let fit = fits d count first bits terms u s h in
     record {
@@ -156,34 +156,34 @@ stand-more d count first bits terms u s h =
 
 -- ---- all units
 
-pub units-fit : (d : Depth) (count first : ℕ) (bits : List (Option ℕ)) (terms : List Tree) (us : List Work) → Stand bits terms → UnitsIn count bits us → UnitsFit d first terms us
+pub units-fit : (d : Depth) (count first : ℕ) (bits : List (Option ℕ)) (terms : List Tree) (us : List SsaUnit) → Stand bits terms → UnitsIn count bits us → UnitsFit d first terms us
 units-fit d count first bits terms [] s h = tt
 units-fit d count first bits terms (u ∷ us) s h =
     (fits d count first bits terms u s h.0, units-fit d count first (bits ++ unit_bits u ∷ []) (terms ++ unit_term d first terms u ∷ []) us (stand-more d count first bits terms u s h.0) h.1)
 
 -- all of them stand
-pub stand-behind : (d : Depth) (count first : ℕ) (bits : List (Option ℕ)) (terms : List Tree) (us : List Work) → Stand bits terms → UnitsIn count bits us → Stand (behind bits us) (terms_behind d first terms us)
+pub stand-behind : (d : Depth) (count first : ℕ) (bits : List (Option ℕ)) (terms : List Tree) (us : List SsaUnit) → Stand bits terms → UnitsIn count bits us → Stand (behind bits us) (terms_behind d first terms us)
 stand-behind d count first bits terms [] s h = subst (λ l. Stand l terms) (sym (append-nil bits)) s
 stand-behind d count first bits terms (u ∷ us) s h =
     subst (λ l. Stand l (terms_behind d first terms (u ∷ us))) (append_assoc bits (unit_bits u ∷ []) (map unit_bits us))
     (stand-behind d count first (bits ++ unit_bits u ∷ []) (terms ++ unit_term d first terms u ∷ []) us (stand-more d count first bits terms u s h.0) h.1)
 
-is-unit-term : (d : Depth) (first : ℕ) (terms : List Tree) (u : Work) → UnitFits d first terms u → IsUnitTerm (length terms) u (unit_term d first terms u)
+is-unit-term : (d : Depth) (first : ℕ) (terms : List Tree) (u : SsaUnit) → UnitFits d first terms u → IsUnitTerm (length terms) u (unit_term d first terms u)
 is-unit-term d first terms (Load a w) h = refl
 is-unit-term d first terms (Store a w x) h = refl
 is-unit-term d first terms (Operation op w k xs) h = let t = operation-term d first terms op w k xs h in (t.well_formed, t.width)
 
-pub unit-terms : (d : Depth) (first : ℕ) (terms : List Tree) (us : List Work) → UnitsFit d first terms us → AreUnitTerms (length terms) us (terms_after d first terms us)
+pub unit-terms : (d : Depth) (first : ℕ) (terms : List Tree) (us : List SsaUnit) → UnitsFit d first terms us → AreUnitTerms (length terms) us (terms_after d first terms us)
 unit-terms d first terms [] h = refl
 unit-terms d first terms (u ∷ us) h =
     let t = unit_term d first terms u in
     (is-unit-term d first terms u h.0, subst (λ n. AreUnitTerms n us (terms_after d first (terms ++ t ∷ []) us)) (length_push terms t) (unit-terms d first (terms ++ t ∷ []) us h.1))
 
 -- units that fit after each other
-pub fit-front : (d : Depth) (first : ℕ) (terms : List Tree) (us vs : List Work) → UnitsFit d first terms (us ++ vs) → UnitsFit d first terms us
+pub fit-front : (d : Depth) (first : ℕ) (terms : List Tree) (us vs : List SsaUnit) → UnitsFit d first terms (us ++ vs) → UnitsFit d first terms us
 fit-front d first terms [] vs h = tt
 fit-front d first terms (u ∷ us) vs h = (h.0, fit-front d first (terms ++ unit_term d first terms u ∷ []) us vs h.1)
 
-pub fit-behind : (d : Depth) (first : ℕ) (terms : List Tree) (us vs : List Work) → UnitsFit d first terms (us ++ vs) → UnitsFit d first (terms_behind d first terms us) vs
+pub fit-behind : (d : Depth) (first : ℕ) (terms : List Tree) (us vs : List SsaUnit) → UnitsFit d first terms (us ++ vs) → UnitsFit d first (terms_behind d first terms us) vs
 fit-behind d first terms [] vs h = h
 fit-behind d first terms (u ∷ us) vs h = fit-behind d first (terms ++ unit_term d first terms u ∷ []) us vs h.1

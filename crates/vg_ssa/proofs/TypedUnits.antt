@@ -13,9 +13,9 @@ use Rattle.vg_kernel.specs.Tree.{Expression, argument, assigned, literal, load, 
 use Rattle.vg_kernel.specs.WellFormed.{AreStatements, integer_widths, IsExpression, pointers}
 use Rattle.vg_scalar.specs.declared.resize.Resize.{Resize}
 use Rattle.vg_scalar.specs.declared.resize.Resize.TheVariants.{Sext, Zext, Trunc}
-use Rattle.vg_shapes.specs.declared.unit.Operator.TheVariants.{Two, Shift, Resize as ToWidth, Compare, Select}
-use Rattle.vg_shapes.specs.declared.unit.Unit.{Unit as Work}
-use Rattle.vg_shapes.specs.declared.unit.Unit.TheVariants.{Load, Store, Operation}
+use Rattle.vg_shapes.specs.declared.ssa_unit.Operator.TheVariants.{Two, Shift, Resize as ToWidth, Compare, Select}
+use Rattle.vg_shapes.specs.declared.ssa_unit.SsaUnit.{SsaUnit}
+use Rattle.vg_shapes.specs.declared.ssa_unit.SsaUnit.TheVariants.{Load, Store, Operation}
 use Rattle.vg_shapes.specs.declared.wanted.Wanted.{Wanted}
 use Rattle.vg_shapes.specs.declared.wanted.Wanted.TheVariants.{Value, Nothing}
 use Rattle.vg_shapes.specs.Sound.{IsChange, unit_bits}
@@ -46,7 +46,7 @@ value-typed bits Bit v e = e
 value-typed bits (Integer w) v e = e
 
 -- one unit after others
-typed-one : (count n : ℕ) (bits : List (Option ℕ)) (us : List Work) (u : Work) (t : ValueType) → n ≡ length bits → UnitsIn count bits us → UnitIn count (behind bits us) u → unit_bits u ≡ Some (type_bits t)
+typed-one : (count n : ℕ) (bits : List (Option ℕ)) (us : List SsaUnit) (u : SsaUnit) (t : ValueType) → n ≡ length bits → UnitsIn count bits us → UnitIn count (behind bits us) u → unit_bits u ≡ Some (type_bits t)
     → TypedAs count bits (record { units = us ++ u ∷ []; value = Value (n + length us) }) t
 typed-one count n bits us u t long h g e = record {
   units = units-both count bits us (u ∷ []) h (g, tt);
@@ -57,7 +57,7 @@ typed-one count n bits us u t long h g e = record {
 }
 
 -- two integers of one width
-record Both (count : ℕ) (bits : List (Option ℕ)) (us : List Work) (w : Width) (x y : Wanted) : Type 0 where
+record Both (count : ℕ) (bits : List (Option ℕ)) (us : List SsaUnit) (w : Width) (x y : Wanted) : Type 0 where
   units : UnitsIn count bits us
   first : NumberIn (behind bits us) w x
   second : NumberIn (behind bits us) w y

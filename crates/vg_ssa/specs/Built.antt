@@ -2,10 +2,10 @@
 use Rattle.std.specs.Prelude.{◌≡◌, ◌<◌, ◌+◌, ◌^◌, ℕ, List, [], ◌∷◌, ◌++◌, length, map}
 use Rattle.vg_base.specs.declared.width.Width.{Width}
 use Rattle.vg_kernel.specs.Tree.{Expression, Statement, assign, store}
-use Rattle.vg_shapes.specs.declared.unit.Operator.{Operator}
-use Rattle.vg_shapes.specs.declared.unit.Operator.TheVariants.{Select}
-use Rattle.vg_shapes.specs.declared.unit.Unit.{Unit as Work}
-use Rattle.vg_shapes.specs.declared.unit.Unit.TheVariants.{Operation, Store}
+use Rattle.vg_shapes.specs.declared.ssa_unit.Operator.{Operator}
+use Rattle.vg_shapes.specs.declared.ssa_unit.Operator.TheVariants.{Select}
+use Rattle.vg_shapes.specs.declared.ssa_unit.SsaUnit.{SsaUnit}
+use Rattle.vg_shapes.specs.declared.ssa_unit.SsaUnit.TheVariants.{Operation, Store}
 use Rattle.vg_shapes.specs.declared.wanted.Wanted.{Wanted}
 use Rattle.vg_shapes.specs.declared.wanted.Wanted.TheVariants.{Nothing}
 use Rattle.vg_ssa.specs.declared.value_terms.Depth.TheVariants.{Whole}
@@ -20,7 +20,7 @@ use Rattle.vg_terms.specs.Term.{Tree, tree}
 -- the names that statements gave
 pub record Built : Type 0 where
   pub first : ℕ
-  pub units : List Work
+  pub units : List SsaUnit
   pub terms : List Tree
   pub names : List Wanted
 
@@ -39,7 +39,7 @@ built v =
     }
 
 -- these units more
-abbrev pub with_units : Built → List Work → Built
+abbrev pub with_units : Built → List SsaUnit → Built
 with_units b us =
     record {
       first = b.first;
@@ -53,7 +53,7 @@ abbrev pub with_name : Built → Wanted → Built
 with_name b x = record b { names = b.names ++ x ∷ [] }
 
 -- there are numbers for these units, and their operands have the terms that they need
-pub record CanTake (b : Built) (us : List Work) : Type 0 where
+pub record CanTake (b : Built) (us : List SsaUnit) : Type 0 where
   pub few : length b.terms + length us < 2 ^ 32
   pub fit : UnitsFit Whole b.first b.terms us
 
@@ -88,7 +88,7 @@ choice_in b w c x y =
     (Operation Select w 0 (operands o.value p.value q.value))
 
 -- the units of a statement, and what they leave
-abbrev pub statement_units : Built → Statement → List Work
+abbrev pub statement_units : Built → Statement → List SsaUnit
 statement_units b (assign e) = (numbered_in b e).units
 statement_units b (store w a e) =
     let p = numbered_in b e in

@@ -3,11 +3,11 @@ use Rattle.std.specs.Prelude.{◌≡◌, ◌<◌, ℕ, List, [], ◌∷◌, ◌+
 use Rattle.vg_base.specs.declared.width.Width.{Width}
 use Rattle.vg_base.specs.Width.{bits_of}
 use Rattle.vg_canon.specs.Canonical.{IsCanonical}
-use Rattle.vg_shapes.specs.declared.unit.Operands.{Operands}
-use Rattle.vg_shapes.specs.declared.unit.Operator.{Operator}
-use Rattle.vg_shapes.specs.declared.unit.Operator.TheVariants.{Two, Shift, Resize, Compare, Select}
-use Rattle.vg_shapes.specs.declared.unit.Unit.{Unit as Work}
-use Rattle.vg_shapes.specs.declared.unit.Unit.TheVariants.{Load, Store, Operation}
+use Rattle.vg_shapes.specs.declared.ssa_unit.Operands.{Operands}
+use Rattle.vg_shapes.specs.declared.ssa_unit.Operator.{Operator}
+use Rattle.vg_shapes.specs.declared.ssa_unit.Operator.TheVariants.{Two, Shift, Resize, Compare, Select}
+use Rattle.vg_shapes.specs.declared.ssa_unit.SsaUnit.{SsaUnit}
+use Rattle.vg_shapes.specs.declared.ssa_unit.SsaUnit.TheVariants.{Load, Store, Operation}
 use Rattle.vg_shapes.specs.declared.wanted.Wanted.{Wanted}
 use Rattle.vg_shapes.specs.Sound.{IsChange}
 use Rattle.vg_ssa.specs.declared.value_terms.Depth.{Depth}
@@ -33,14 +33,14 @@ abbrev pub Fit : (Wanted → Tree) → Operator → Width → ℕ → Operands �
 Fit term op w k xs = OperandsFit op w k (term xs.first) (term xs.second) (term xs.third)
 
 -- the operands of a unit, whole and cut, where the first unit has this number
-abbrev pub UnitFits : Depth → ℕ → List Tree → Work → Type 0
+abbrev pub UnitFits : Depth → ℕ → List Tree → SsaUnit → Type 0
 UnitFits d first terms (Load a w) = Unit {0}
 UnitFits d first terms (Store a w x) = Unit {0}
 UnitFits d first terms (Operation op w k xs) =
     Fit (operand_term terms) op w k xs × Fit (cut_term (writes_bits d) first terms) op w k xs
 
 -- units, each after the terms so far
-abbrev pub UnitsFit : Depth → ℕ → List Tree → List Work → Type 0
+abbrev pub UnitsFit : Depth → ℕ → List Tree → List SsaUnit → Type 0
 UnitsFit d first terms [] = Unit {0}
 UnitsFit d first terms (u ∷ us) =
     UnitFits d first terms u × UnitsFit d first (terms ++ unit_term d first terms u ∷ []) us

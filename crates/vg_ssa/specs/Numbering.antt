@@ -11,10 +11,10 @@ use Rattle.vg_shapes.specs.declared.ssa.SsaParam.{SsaParam}
 use Rattle.vg_shapes.specs.declared.ssa.SsaParamKind.{SsaParamKind}
 use Rattle.vg_shapes.specs.declared.ssa.SsaParamKind.TheVariants.{Pointer, Integer}
 use Rattle.vg_shapes.specs.declared.ssa.Ssa.{Ssa}
-use Rattle.vg_shapes.specs.declared.unit.Operands.{Operands}
-use Rattle.vg_shapes.specs.declared.unit.Operator.TheVariants.{Two, Shift, Resize, Compare, Select}
-use Rattle.vg_shapes.specs.declared.unit.Unit.{Unit as Work}
-use Rattle.vg_shapes.specs.declared.unit.Unit.TheVariants.{Load, Store, Operation}
+use Rattle.vg_shapes.specs.declared.ssa_unit.Operands.{Operands}
+use Rattle.vg_shapes.specs.declared.ssa_unit.Operator.TheVariants.{Two, Shift, Resize, Compare, Select}
+use Rattle.vg_shapes.specs.declared.ssa_unit.SsaUnit.{SsaUnit}
+use Rattle.vg_shapes.specs.declared.ssa_unit.SsaUnit.TheVariants.{Load, Store, Operation}
 use Rattle.vg_shapes.specs.declared.wanted.Wanted.{Wanted}
 use Rattle.vg_shapes.specs.declared.wanted.Wanted.TheVariants.{Value, Constant, Nothing}
 use Rattle.vg_shapes.specs.Sound.{terms_of}
@@ -23,14 +23,14 @@ use Rattle.vg_ssa.specs.ValueTerm.{argument_terms, terms_behind}
 
 -- units, and what stands for the value that they find
 pub record Numbered : Type 0 where
-  pub units : List Work
+  pub units : List SsaUnit
   pub value : Wanted
 
 abbrev pub operands : Wanted → Wanted → Wanted → Operands
 operands x y z = record { first = x; second = y; third = z }
 
 -- one unit after others, which finds a value; the first of them has this number
-abbrev pub found : ℕ → List Work → Work → Numbered
+abbrev pub found : ℕ → List SsaUnit → SsaUnit → Numbered
 found n us u = record { units = us ++ u ∷ []; value = Value (n + length us) }
 
 -- the units of an expression, of which the first has this number, where these stand for the names that
@@ -62,7 +62,7 @@ numbered n names (select w c x y) =
     (Operation Select w 0 (operands o.value p.value q.value))
 
 -- the units of statements, of which the first has this number
-abbrev pub units_from : ℕ → List Wanted → List Statement → List Work
+abbrev pub units_from : ℕ → List Wanted → List Statement → List SsaUnit
 units_from n names [] = []
 units_from n names (assign e ∷ ss) =
     let p = numbered n names e in
@@ -75,7 +75,7 @@ units_from n names (store w a e ∷ ss) =
 abbrev pub first_unit : Tree → ℕ
 first_unit k = length (integer_widths k.params)
 
-abbrev pub units_of : Tree → List Work
+abbrev pub units_of : Tree → List SsaUnit
 units_of k = units_from (first_unit k) [] k.statements
 
 abbrev pub kind_of : KParamKind → SsaParamKind

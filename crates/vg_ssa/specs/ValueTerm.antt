@@ -14,11 +14,11 @@ use Rattle.vg_scalar.specs.declared.comparison.Comparison.TheVariants.{Eq, Slt, 
 use Rattle.vg_terms.specs.declared.term.OneOp.TheVariants as one_op
 use Rattle.vg_terms.specs.declared.term.TwoOp.TheVariants as two_op
 use Rattle.vg_terms.specs.Term.{Tree, leaf, constant, one, two, sel, node_count, width_of}
-use Rattle.vg_shapes.specs.declared.unit.Operands.{Operands}
-use Rattle.vg_shapes.specs.declared.unit.Operator.{Operator}
-use Rattle.vg_shapes.specs.declared.unit.Operator.TheVariants as operator
-use Rattle.vg_shapes.specs.declared.unit.Unit.{Unit as Work}
-use Rattle.vg_shapes.specs.declared.unit.Unit.TheVariants.{Load, Store, Operation}
+use Rattle.vg_shapes.specs.declared.ssa_unit.Operands.{Operands}
+use Rattle.vg_shapes.specs.declared.ssa_unit.Operator.{Operator}
+use Rattle.vg_shapes.specs.declared.ssa_unit.Operator.TheVariants as operator
+use Rattle.vg_shapes.specs.declared.ssa_unit.SsaUnit.{SsaUnit}
+use Rattle.vg_shapes.specs.declared.ssa_unit.SsaUnit.TheVariants.{Load, Store, Operation}
 use Rattle.vg_shapes.specs.declared.wanted.Wanted.{Wanted}
 use Rattle.vg_shapes.specs.declared.wanted.Wanted.TheVariants.{Value, Constant, Nothing}
 use Rattle.vg_shapes.specs.Sound.{argument_key, cut_key, load_key}
@@ -98,7 +98,7 @@ writes_bits Whole = false
 writes_bits Cut = true
 
 -- the term of the next value; an operation that is not looked into is cut at its operands
-abbrev pub unit_term : Depth → ℕ → List Tree → Work → Tree
+abbrev pub unit_term : Depth → ℕ → List Tree → SsaUnit → Tree
 unit_term d first terms (Load a w) = leaf (bits_of w) (load_key a (length terms))
 unit_term d first terms (Store a w x) = no_term
 unit_term d first terms (Operation op w k xs) =
@@ -112,7 +112,7 @@ argument_terms v [] = []
 argument_terms v (w ∷ ws) = leaf (bits_of w) (argument_key v) ∷ argument_terms (v + 1) ws
 
 -- the terms so far, and those of the units after them
-abbrev pub terms_behind : Depth → ℕ → List Tree → List Work → List Tree
+abbrev pub terms_behind : Depth → ℕ → List Tree → List SsaUnit → List Tree
 terms_behind d first terms [] = terms
 terms_behind d first terms (u ∷ us) =
     terms_behind d first (terms ++ unit_term d first terms u ∷ []) us

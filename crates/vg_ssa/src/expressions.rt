@@ -11,7 +11,7 @@ use crate::values::Values;
 use std::alloc::{AllocError, Global};
 use vg_base::{Address, Width};
 use vg_kernel::{KExpr, KStmt};
-use vg_shapes::{Operands, Operator, Unit, Wanted};
+use vg_shapes::{Operands, Operator, SsaUnit, Wanted};
 
 /// What stands for a name that a statement gave.
 fn name_at(names: &[Wanted], number: u32) -> Wanted
@@ -41,7 +41,7 @@ impl Values {
             }),
             KExpr::Load { width, address } => self.push(
                 alloc,
-                Unit::Load {
+                SsaUnit::Load {
                     address: *address,
                     width: *width,
                 },
@@ -108,7 +108,7 @@ impl Values {
         };
         self.push(
             alloc,
-            Unit::Operation {
+            SsaUnit::Operation {
                 op,
                 width,
                 amount,
@@ -142,7 +142,7 @@ impl Values {
         };
         self.push(
             alloc,
-            Unit::Operation {
+            SsaUnit::Operation {
                 op,
                 width,
                 amount: 0,
@@ -178,7 +178,7 @@ impl Values {
         };
         self.push(
             alloc,
-            Unit::Operation {
+            SsaUnit::Operation {
                 op: Operator::Select,
                 width,
                 amount: 0,
@@ -224,7 +224,7 @@ impl Values {
         let value = self.number(alloc, stored)?;
         let _none = self.push(
             alloc,
-            Unit::Store {
+            SsaUnit::Store {
                 address,
                 width,
                 value,

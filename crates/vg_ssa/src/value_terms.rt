@@ -13,7 +13,7 @@ use crate::operations::operation;
 use std::alloc::{AllocError, Global};
 use vg_base::{Address, Width};
 use vg_kernel::{KParam, KParamKind};
-use vg_shapes::{Operands, Operator, Unit, Wanted};
+use vg_shapes::{Operands, Operator, SsaUnit, Wanted};
 use vg_terms::{LeafKey, Term, make_const, make_leaf};
 
 /// The most nodes of a whole term of an operation. One that has more is cut at its operands.
@@ -55,7 +55,7 @@ impl ValueTerms {
         &mut self,
         alloc: Global,
         depth: Depth,
-        unit: &Unit,
+        unit: &SsaUnit,
     ) -> Result<u32, AllocError>
         requires few { length (trees_of self.old) < 2 ^ 32 }
         requires fit { UnitFits depth self.old.first (trees_of self.old) unit.now }
@@ -72,19 +72,19 @@ impl ValueTerms {
     }
 
     // The term of the next value.
-    fn unit_term(&self, alloc: Global, depth: Depth, unit: &Unit) -> Result<Term, AllocError>
+    fn unit_term(&self, alloc: Global, depth: Depth, unit: &SsaUnit) -> Result<Term, AllocError>
         requires few { length (trees_of self.now) < 2 ^ 32 }
         requires fit { UnitFits depth self.now.first (trees_of self.now) unit.now }
         ensures { IfOk result (λ t. tree t
             ≡ unit_term depth self.now.first (trees_of self.now) unit.now) }
     {
         match *unit {
-            Unit::Load { address, width } => {
+            SsaUnit::Load { address, width } => {
                 let number = self.terms.len() as u32;
                 Ok(make_leaf(width.bits(), load_key(address, number)))
             }
-            Unit::Store { .. } => Ok(make_const(8, 0)),
-            Unit::Operation {
+            SsaUnit::Store { .. } => Ok(make_const(8, 0)),
+            SsaUnit::Operation {
                 op,
                 width,
                 amount,
@@ -109,7 +109,7 @@ impl ValueTerms {
         requires cut { Fit (cut_term false self.now.first (trees_of self.now)) op width amount xs }
         ensures { IfOk result (λ t. tree t
             ≡ unit_term Depth.Whole self.now.first (trees_of self.now)
-            (Unit.Operation op width amount xs)) }
+            (SsaUnit.Operation op width amount xs)) }
     {
         let first = self.whole(alloc, xs.first)?;
         let second = self.whole(alloc, xs.second)?;
@@ -257,7 +257,7 @@ fn argument_terms(alloc: Global, params: &[KParam]) -> Result<Vec<Term>, AllocEr
 pub(crate) fn cut_terms(
     alloc: Global,
     params: &[KParam],
-    units: &[Unit],
+    units: &[SsaUnit],
 ) -> Result<Vec<Term>, AllocError>
     requires params { length params.now ≤ 16 }
     requires few { length (integer_widths params.now) + length units.now < 2 ^ 32 }

@@ -8,14 +8,14 @@ ghost use Rattle.vg_ssa.specs.ValueTerm.{argument_terms};
 use crate::value_terms::{Depth, ValueTerms};
 use std::alloc::{AllocError, Global};
 use vg_kernel::KParam;
-use vg_shapes::{Unit, Wanted};
+use vg_shapes::{SsaUnit, Wanted};
 
 /// The units so far with the terms of their values, and what stands for the names that statements
 /// gave.
 #[derive(Drop)]
 pub(crate) struct Values {
     pub(crate) known: ValueTerms,
-    pub(crate) units: Vec<Unit>,
+    pub(crate) units: Vec<SsaUnit>,
     pub(crate) names: Vec<Wanted>,
 }
 
@@ -39,7 +39,7 @@ impl Values {
     }
 
     /// One unit more, with the term of its value. Gives the value.
-    pub(crate) fn push(&mut self, alloc: Global, unit: Unit) -> Result<Wanted, AllocError>
+    pub(crate) fn push(&mut self, alloc: Global, unit: SsaUnit) -> Result<Wanted, AllocError>
         requires { CanTake (built self.old) (unit ∷ []) }
         ensures built { IfOk result
             (λ x. built self.new ≡ with_units (built self.old) (unit ∷ [])) }

@@ -74,7 +74,8 @@ chain_of op w (p ∷ ps) = chain op w p ps
 
 -- x is one part, or the chain of its parts in rising order, and its last part is not after y
 abbrev pub leads_to : TwoOp → Tree → Tree → Bool
-leads_to op (two o w a b) y = if same_op op o then not_after b y && (not (opens op b) && leads_to op a b) else not_after (two o w a b) y
+leads_to op (two o w a b) y =
+    if same_op op o then not_after b y && (not (opens op b) && leads_to op a b) else not_after (two o w a b) y
 leads_to op (leaf w k) y = not_after (leaf w k) y
 leads_to op (constant w v) y = not_after (constant w v) y
 leads_to op (one o w k x) y = not_after (one o w k x) y

@@ -63,4 +63,5 @@ known (leaf w k) = cut_to w (known_at w w)
 known (constant w v) = cut_to w (known_at (max 1 (digits v)) (digits (magnitude (signed_at w v)) + 1))
 known (one op w k x) = cut_to w (one_known op w k (width_of x) (known x))
 known (two op w x y) = cut_to w (two_known op w (width_of y) (known x) (known y))
-known (sel w c x y) = cut_to w (known_at (max (known x).unsigned (known y).unsigned) (max (known x).signed (known y).signed))
+known (sel w c x y) =
+    cut_to w (known_at (max (known x).unsigned (known y).unsigned) (max (known x).signed (known y).signed))

@@ -105,5 +105,6 @@ abbrev pub leaves_cmp : Tree → Tree → Ordering
 leaves_cmp (leaf w k) (leaf v l) = leaf_cmp k l
 leaves_cmp (one o w k x) (one p v l y) = leaves_cmp x y
 leaves_cmp (two o w x x') (two p v y y') = ordering_then (leaves_cmp x y) (leaves_cmp x' y')
-leaves_cmp (sel w c x x') (sel v d y y') = ordering_then (leaves_cmp c d) (ordering_then (leaves_cmp x y) (leaves_cmp x' y'))
+leaves_cmp (sel w c x x') (sel v d y y') =
+    ordering_then (leaves_cmp c d) (ordering_then (leaves_cmp x y) (leaves_cmp x' y'))
 leaves_cmp t u = Equal

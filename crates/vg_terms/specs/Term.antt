@@ -64,7 +64,8 @@ WellFormed (leaf w k) = IsWidth w
 WellFormed (constant w v) = IsWidth w × (v < 2 ^ w)
 WellFormed (one op w k x) = IsWidth w × OneFits op w k (width_of x) × WellFormed x
 WellFormed (two op w x y) = IsWidth w × TwoFits op w (width_of x) (width_of y) × WellFormed x × WellFormed y
-WellFormed (sel w c x y) = IsWidth w × ((width_of c ≡ 1) × (width_of x ≡ w) × (width_of y ≡ w)) × WellFormed c × WellFormed x × WellFormed y
+WellFormed (sel w c x y) =
+    IsWidth w × ((width_of c ≡ 1) × (width_of x ≡ w) × (width_of y ≡ w)) × WellFormed c × WellFormed x × WellFormed y
 
 -- the same as a test
 abbrev pub is_width : ℕ → Bool
@@ -92,4 +93,6 @@ well_formed (leaf w k) = is_width w
 well_formed (constant w v) = is_width w && nat_lt v (2 ^ w)
 well_formed (one op w k x) = is_width w && (one_fits op w k (width_of x) && well_formed x)
 well_formed (two op w x y) = is_width w && (two_fits op w (width_of x) (width_of y) && (well_formed x && well_formed y))
-well_formed (sel w c x y) = is_width w && (sel_fits w (width_of c) (width_of x) (width_of y) && (well_formed c && (well_formed x && well_formed y)))
+well_formed (sel w c x y) =
+    is_width w
+    && (sel_fits w (width_of c) (width_of x) (width_of y) && (well_formed c && (well_formed x && well_formed y)))

@@ -64,7 +64,8 @@ leaf_text names k =
 abbrev pub text : Names → Tree → List ℕ
 text names (leaf w k) = leaf_text names k ++ codes ":" ++ decimal w
 text names (constant w v) = decimal v ++ codes ":" ++ decimal w
-text names (one op w k x) = codes "(" ++ one_name op ++ decimal w ++ codes " " ++ text names x ++ amount_text op k ++ codes ")"
+text names (one op w k x) =
+    codes "(" ++ one_name op ++ decimal w ++ codes " " ++ text names x ++ amount_text op k ++ codes ")"
 text names (two op w x y) =
     codes "(" ++ two_name op ++ decimal (shown_width op w (width_of x)) ++ codes " " ++ text names x ++ codes " " ++ text names y ++ codes ")"
 text names (sel w c x y) =

@@ -25,7 +25,8 @@ impl Term {
     pub fn known(&self) -> (u32, u32)
         requires { WellFormed (tree self.now) }
         ensures is { known_at result.0 result.1 ≡ known (tree self.now) }
-        ensures holds { (env : Env) → IsKnown (width_of (tree self.now)) (value env (tree self.now)) (known_at result.0 result.1) }
+        ensures holds { (env : Env) → IsKnown (width_of (tree self.now)) (value env (tree self.now))
+            (known_at result.0 result.1) }
         ensures unsigned { result.0 ≤ width_of (tree self.now) }
         ensures signed { result.1 ≤ width_of (tree self.now) }
     {

@@ -74,7 +74,8 @@ fn write_term(alloc: Global, t: &Term, names: &Names, to: &mut Vec<u8>) -> Resul
 
 // An operation's name and width, before its children.
 fn put_front(alloc: Global, name: &[u8], width: u32, to: &mut Vec<u8>) -> Result<(), AllocError>
-    ensures { OnOk result (to.new.items ≡ to.old.items ++ (codes "(" ++ name.now ++ decimal width ++ codes " ")) }
+    ensures { OnOk result (to.new.items ≡ to.old.items ++ (codes "(" ++ name.now ++ decimal width ++
+        codes " ")) }
 {
     put(to, b"(")?;
     put(to, name)?;

@@ -11,8 +11,8 @@ use Rattle.vg_entry_lanes.proofs.Lanes.{all-may-be}
 use Rattle.vg_catalog.specs.Called.{called_by, entry_named}
 use Rattle.vg_catalog.specs.Entries.{Entry, name_of}
 use Rattle.vg_emission.specs.Truth.{IsTrueOf}
-use Rattle.vg_instances.specs.Descriptions.{IsNumbered}
-use Rattle.vg_instances.proofs.Truth.{AllKnown, is-true}
+use Rattle.vg_descriptions.specs.Descriptions.{IsNumbered}
+use Rattle.vg_descriptions.proofs.Truth.{AllKnown, is-true}
 use Rattle.vg_known.specs.Calls.{is_opaque}
 
 -- where no lane is opaque, each has a term

@@ -6,7 +6,7 @@ use Rattle.vg_base.specs.Bind.{◌>>=◌}
 use Rattle.vg_outside.specs.Shelf.{Held}
 use Rattle.vg_catalog.specs.Entries.{Entry}
 use Rattle.vg_catalog.specs.Files.{file_of as entries_of}
-use Rattle.vg_listing.specs.Listed.{entries_text}
+use Rattle.vg_lift_text.specs.Listed.{entries_text}
 use Rattle.vg_top.specs.declared.ending.Ending.{Ending}
 use Rattle.vg_top.specs.Files.{first_file, instructions_limit, file_of}
 use Rattle.vg_top.specs.InstructionFile.{entries_or_refusal}

@@ -95,7 +95,8 @@ fn times_bound(bindings: &[Bound], name: &[u8]) -> usize
 }
 
 fn first_bound<'a, 'b>(bindings: &'a [Bound<'b>], name: &[u8]) -> Option<&'a Bound<'b>>
-    ensures { option_map (λ b. b.now) result ≡ find (λ b. bytes_eq b.name.now name.now) bindings.now }
+    ensures { option_map (λ b. b.now) result ≡ find (λ b. bytes_eq b.name.now name.now)
+        bindings.now }
 {
     bindings.iter().find(|b| is_text(b.name, name))
 }

@@ -12,12 +12,13 @@ use crate::ending::{Ending, FileNumber};
 use crate::files::{INSTRUCTIONS_LIMIT, fetch};
 use crate::instruction_file::catalog_of_text;
 use std::alloc::Global;
-use vg_listing::list_entries;
+use vg_lift_text::list_entries;
 use vg_outside::Shelf;
 
 /// The lines on all instances of the entries of a file's text.
 fn lines_of_text(alloc: Global, text: &[u8]) -> Result<Vec<u8>, Ending>
-    ensures told { Tells AreLines result (lines_of (entries_or_refusal first_file (file_of text.now))) }
+    ensures told { Tells AreLines result (lines_of (entries_or_refusal first_file (file_of
+        text.now))) }
     ensures refusal { IfErr result (IsOfInstructions first_file) }
 {
     let catalog = match catalog_of_text(alloc, FileNumber(1), text) {

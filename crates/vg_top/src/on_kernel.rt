@@ -95,8 +95,8 @@ fn looped_text(
     options: Options,
 ) -> Result<Vec<u8>, AllocError>
     requires counted { IsLoop (loop_of counted.now) }
-    ensures { IfOk result (λ bytes. LoopedAnswer
-        (loop_source (entries_in catalog.now) (loop_of counted.now) (choices_seen options)) bytes.items) }
+    ensures { IfOk result (λ bytes. LoopedAnswer (loop_source (entries_in catalog.now) (loop_of
+        counted.now) (choices_seen options)) bytes.items) }
 {
     let looped = compile_loop(
         alloc,
@@ -138,8 +138,8 @@ fn block_plan(
     options: Options,
 ) -> Result<Vec<u8>, AllocError>
     requires counted { IsLoop (loop_of counted.now) }
-    ensures { IfOk result (λ bytes. Explanation (source (entries_in catalog.now)
-        (unrolled (loop_of counted.now) (turns_of (loop_of counted.now))) (choices_seen options)) bytes.items) }
+    ensures { IfOk result (λ bytes. Explanation (source (entries_in catalog.now) (unrolled (loop_of
+        counted.now) (turns_of (loop_of counted.now))) (choices_seen options)) bytes.items) }
 {
     let kernel = unroll(alloc, counted, turns_of(counted))?;
     plan_lines(alloc, catalog, &kernel, options)
@@ -153,8 +153,8 @@ fn compiled(
     options: Options,
 ) -> Result<Vec<u8>, AllocError>
     requires file { IsFormed (file_seen file.now) }
-    ensures { IfOk result (λ bytes. IsAnswer
-        (compiled_of (entries_in catalog.now) (choices_seen options) (file_seen file.now)) bytes.items) }
+    ensures { IfOk result (λ bytes. IsAnswer (compiled_of (entries_in catalog.now) (choices_seen
+        options) (file_seen file.now)) bytes.items) }
 {
     match file {
         KernelFile::Plain(kernel) => program_text(alloc, catalog, kernel, options),
@@ -170,8 +170,8 @@ fn planned(
     options: Options,
 ) -> Result<Vec<u8>, AllocError>
     requires file { IsFormed (file_seen file.now) }
-    ensures { IfOk result (λ bytes. IsAnswer
-        (planned_of (entries_in catalog.now) (choices_seen options) (file_seen file.now)) bytes.items) }
+    ensures { IfOk result (λ bytes. IsAnswer (planned_of (entries_in catalog.now) (choices_seen
+        options) (file_seen file.now)) bytes.items) }
 {
     match file {
         KernelFile::Plain(kernel) => plan_lines(alloc, catalog, kernel, options),
@@ -187,8 +187,8 @@ fn compiled_of_text(
     text: &[u8],
 ) -> Result<Vec<u8>, Ending>
     requires small { length text.now ≤ 262144 }
-    ensures told { (entries : List Entry) → entries_in catalog.now ≡ entries → Tells VecAnswers result
-        (told_of Task.Program entries (choices_seen options) text.now) }
+    ensures told { (entries : List Entry) → entries_in catalog.now ≡ entries → Tells VecAnswers
+        result (told_of Task.Program entries (choices_seen options) text.now) }
     ensures refusal { IfErr result (IsOfKernel second_file) }
 {
     let file = match kernel_file_of_text(alloc, FileNumber(2), text) {
@@ -209,8 +209,8 @@ fn guarded_of_text(
     text: &[u8],
 ) -> Result<Vec<u8>, Ending>
     requires small { length text.now ≤ 262144 }
-    ensures told { (entries : List Entry) → entries_in catalog.now ≡ entries → Tells VecAnswers result
-        (told_of Task.Guarded entries (choices_seen options) text.now) }
+    ensures told { (entries : List Entry) → entries_in catalog.now ≡ entries → Tells VecAnswers
+        result (told_of Task.Guarded entries (choices_seen options) text.now) }
     ensures refusal { IfErr result (IsOfKernel second_file) }
 {
     let file = match kernel_alone_of_text(alloc, FileNumber(2), text) {
@@ -231,8 +231,8 @@ fn planned_of_text(
     text: &[u8],
 ) -> Result<Vec<u8>, Ending>
     requires small { length text.now ≤ 262144 }
-    ensures told { (entries : List Entry) → entries_in catalog.now ≡ entries → Tells VecAnswers result
-        (told_of Task.Plan entries (choices_seen options) text.now) }
+    ensures told { (entries : List Entry) → entries_in catalog.now ≡ entries → Tells VecAnswers
+        result (told_of Task.Plan entries (choices_seen options) text.now) }
     ensures refusal { IfErr result (IsOfKernel second_file) }
 {
     let file = match kernel_file_of_text(alloc, FileNumber(2), text) {
@@ -254,8 +254,8 @@ fn text_of(
     text: &[u8],
 ) -> Result<Vec<u8>, Ending>
     requires small { length text.now ≤ 262144 }
-    ensures told { (entries : List Entry) → entries_in catalog.now ≡ entries → Tells VecAnswers result
-        (told_of task entries (choices_seen options) text.now) }
+    ensures told { (entries : List Entry) → entries_in catalog.now ≡ entries → Tells VecAnswers
+        result (told_of task entries (choices_seen options) text.now) }
     ensures refusal { IfErr result (IsOfKernel second_file) }
 {
     match task {

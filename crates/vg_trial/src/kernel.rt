@@ -75,7 +75,8 @@ fn put_average(text: &mut Vec<u8>, to: u32, from: u32) -> Result<(), AllocError>
 
 fn put_pair(text: &mut Vec<u8>, to: u32, pointer: &str, from: u32) -> Result<(), AllocError>
     requires { from < 2 ^ 31 }
-    ensures { OnOk result (text.new.items ≡ text.old.items ++ line_text (pair_line to pointer.now from)) }
+    ensures { OnOk result (text.new.items ≡ text.old.items ++ line_text (pair_line to pointer.now
+        from)) }
 {
     let line = [
         Words("store32(d + "),

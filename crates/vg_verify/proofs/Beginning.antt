@@ -9,7 +9,7 @@ use Rattle.vg_terms.proofs.Orders.{same_term}
 use Rattle.vg_shapes.specs.declared.ssa.SsaParam.{SsaParam}
 use Rattle.vg_shapes.specs.declared.ssa.SsaParamKind.{SsaParamKind}
 use Rattle.vg_shapes.specs.declared.ssa.SsaParamKind.TheVariants.{Pointer, Integer}
-use Rattle.vg_shapes.specs.declared.unit.Unit.{Unit as Work}
+use Rattle.vg_shapes.specs.declared.ssa_unit.SsaUnit.{SsaUnit}
 use Rattle.vg_shapes.specs.Sound.{argument_key}
 use Rattle.vg_shapes.specs.Units.{integers_of}
 use Rattle.vg_known.specs.Cuts.{met_with}
@@ -79,7 +79,7 @@ begun_met ts met all b = b.all_met ∙ begun_terms ts met all b
 
 -- ---- units
 
-pub termed_none : (flags : List Bool) (first : ℕ) (units : List Work) (s : Terms) → Termed flags first units 0 s (terms_behind flags first [] s units)
+pub termed_none : (flags : List Bool) (first : ℕ) (units : List SsaUnit) (s : Terms) → Termed flags first units 0 s (terms_behind flags first [] s units)
 termed_none flags first units s = record { is = refl }
 
 take-more : {A : Type 0} (n : ℕ) (xs : List A) (x : A) → n < length xs → x ≡ get_or xs n x → take n xs ++ x ∷ [] ≡ take (n + 1) xs
@@ -90,7 +90,7 @@ take-more (suc n) (y ∷ ys) x h e =
     let f : suc (n + 1) ≡ suc n + 1 = omega arith in
     ap (λ zs. y ∷ zs) (take-more n ys x (omega (arith, h)) e) ∙ ap (λ k. take k (y ∷ ys)) f
 
-pub termed_more : (flags : List Bool) (first : ℕ) (units : List Work) (place : ℕ) (s new all : Terms) (u : Work) → Termed flags first units place s all → place < length units → u ≡ get_or units place u
+pub termed_more : (flags : List Bool) (first : ℕ) (units : List SsaUnit) (place : ℕ) (s new all : Terms) (u : SsaUnit) → Termed flags first units place s all → place < length units → u ≡ get_or units place u
     → new ≡ with_term s u (unit_term flags first (take place units) s u) → Termed flags first units (place + 1) new all
 termed_more flags first units place s new all u t h e is =
     let f : suc place ≡ place + 1 = omega arith in
@@ -109,5 +109,5 @@ drop-end [] (suc n) h = refl
 drop-end (x ∷ xs) zero h = absurd (omega (arith, h))
 drop-end (x ∷ xs) (suc n) h = drop-end xs n (omega (arith, h))
 
-pub termed_all : (flags : List Bool) (first : ℕ) (units : List Work) (place : ℕ) (s all : Terms) → Termed flags first units place s all → length units ≤ place → s ≡ all
+pub termed_all : (flags : List Bool) (first : ℕ) (units : List SsaUnit) (place : ℕ) (s all : Terms) → Termed flags first units place s all → length units ≤ place → s ≡ all
 termed_all flags first units place s all t h = ap (λ us. terms_behind flags first (take place units) s us) (sym (drop-end units place h)) ∙ t.is

@@ -3,7 +3,7 @@ use Rattle.std.proofs.Common.{◌≡◌, ℕ, zero, suc, ◌+◌, ◌-◌, ◌<�
 use Rattle.vg_terms.specs.Term.{Tree}
 use Rattle.vg_lift.specs.Gather.{Bit}
 use Rattle.vg_shapes.specs.declared.access.Access.{Access}
-use Rattle.vg_shapes.specs.declared.unit.Unit.{Unit as Work}
+use Rattle.vg_shapes.specs.declared.ssa_unit.SsaUnit.{SsaUnit}
 use Rattle.vg_shapes.specs.Layout.{access_of}
 use Rattle.vg_shapes.specs.Order.{numbers_from}
 use Rattle.vg_events.specs.Events.{labels_in}
@@ -35,10 +35,10 @@ some_counted x o e = sym (length-labels x.writes x.address x.size) ∙ ap (λ p.
 pub none_counted : (o : Option Access) → None ≡ o → 0 ≡ length (labels_in o)
 none_counted o e = ap (λ p. length (labels_in p)) e
 
-pub reads_none : (units : List Work) (terms : List Tree) → ReadSoFar units terms 0 0 []
+pub reads_none : (units : List SsaUnit) (terms : List Tree) → ReadSoFar units terms 0 0 []
 reads_none units terms = record { is = refl }
 
-pub reads_more : (units : List Work) (terms : List Tree) (place first next : ℕ) (old new : List (ℕ × List Run)) (u : Work) (t : Tree) → ReadSoFar units terms place first old
+pub reads_more : (units : List SsaUnit) (terms : List Tree) (place first next : ℕ) (old new : List (ℕ × List Run)) (u : SsaUnit) (t : Tree) → ReadSoFar units terms place first old
     → place < length units → length units ≤ length terms → u ≡ get_or units place u → t ≡ get_or terms place t → pairs_in new ≡ pairs_in old ++ read_by first u t
     → next ≡ first + length (labels_in (access_of u)) → ReadSoFar units terms (place + 1) next new
 reads_more units terms place first next old new u t r h enough is own made n =
@@ -49,12 +49,12 @@ reads_more units terms place first next old new u t r h enough is own made n =
           ap (λ x. x ++ reads_from next us ts) made
           ∙ append_assoc (pairs_in old) (read_by first u t) (reads_from next us ts)
           ∙ ap (λ m. pairs_in old ++ (read_by first u t ++ reads_from m us ts)) n
-          ∙ ap (λ (vs : List Work). pairs_in old ++ reads_from first vs (t ∷ ts)) (sym (split units place u h is))
+          ∙ ap (λ (vs : List SsaUnit). pairs_in old ++ reads_from first vs (t ∷ ts)) (sym (split units place u h is))
           ∙ ap (λ (vs : List Tree). pairs_in old ++ reads_from first (drop place units) vs) (sym (split terms place t (omega (arith, h, enough)) own))
           ∙ r.is;
     }
 
-pub reads_all : (units : List Work) (terms : List Tree) (place first : ℕ) (reads : List (ℕ × List Run)) → ReadSoFar units terms place first reads → length units ≤ place
+pub reads_all : (units : List SsaUnit) (terms : List Tree) (place first : ℕ) (reads : List (ℕ × List Run)) → ReadSoFar units terms place first reads → length units ≤ place
     → pairs_in reads ≡ reads_from 0 units terms
 reads_all units terms place first reads r h =
-    sym (append-nil (pairs_in reads)) ∙ ap (λ (us : List Work). pairs_in reads ++ reads_from first us (drop place terms)) (sym (drop-end units place h)) ∙ r.is
+    sym (append-nil (pairs_in reads)) ∙ ap (λ (us : List SsaUnit). pairs_in reads ++ reads_from first us (drop place terms)) (sym (drop-end units place h)) ∙ r.is

@@ -10,9 +10,9 @@ use Rattle.vg_base.specs.declared.width.Width.{Width}
 use Rattle.vg_terms.specs.Term.{Tree}
 use Rattle.vg_lift.specs.Gather.{Bit, bits_from}
 use Rattle.vg_shapes.specs.declared.ssa.Ssa.{Ssa}
-use Rattle.vg_shapes.specs.declared.unit.Unit.{Unit as Work}
+use Rattle.vg_shapes.specs.declared.ssa_unit.SsaUnit.{SsaUnit}
 use Rattle.vg_shapes.specs.declared.wanted.Wanted.{Wanted}
-use Rattle.vg_shapes.specs.declared.unit.Unit.TheVariants.{Load, Store, Operation}
+use Rattle.vg_shapes.specs.declared.ssa_unit.SsaUnit.TheVariants.{Load, Store, Operation}
 use Rattle.vg_shapes.specs.Layout.{access_of}
 use Rattle.vg_shapes.specs.Order.{numbers_from}
 use Rattle.vg_shapes.specs.Units.{arguments, unit_at}
@@ -44,11 +44,11 @@ events-behind ssa k =
     ap (λ n. slice_index_or (all-spans ssa) n []) e
 
 -- these units stand at a place of a kernel, and the first of their events has this number
-record Stand (ssa : Ssa) (n f : ℕ) (us : List Work) : Type 0 where
+record Stand (ssa : Ssa) (n f : ℕ) (us : List SsaUnit) : Type 0 where
   units : (k : ℕ) → slice_get ssa.units (n + k) ≡ slice_get us k
   events : (k : ℕ) → slice_index_or (all-spans ssa) (n + k) [] ≡ slice_index_or (spans f (map access_of us)) k []
 
-stand-next : (ssa : Ssa) (n f : ℕ) (u : Work) (us : List Work) → Stand ssa n f (u ∷ us) → Stand ssa (n + 1) (f + event_count u) us
+stand-next : (ssa : Ssa) (n f : ℕ) (u : SsaUnit) (us : List SsaUnit) → Stand ssa n f (u ∷ us) → Stand ssa (n + 1) (f + event_count u) us
 stand-next ssa n f u us s = record {
   units = λ k.
       let e : n + 1 + k ≡ n + suc k = omega arith in
@@ -58,7 +58,7 @@ stand-next ssa n f u us s = record {
       ap (λ (m : ℕ). slice_index_or (all-spans ssa) m []) e ∙ s.events (suc k);
 }
 
-value-here : (s : Sides) (ssa : Ssa) (n f : ℕ) (u : Work) (us : List Work) → Stand ssa n f (u ∷ us) → value_by s (arguments ssa + n) f u ≡ value_at s ssa (arguments ssa + n)
+value-here : (s : Sides) (ssa : Ssa) (n f : ℕ) (u : SsaUnit) (us : List SsaUnit) → Stand ssa n f (u ∷ us) → value_by s (arguments ssa + n) f u ≡ value_at s ssa (arguments ssa + n)
 value-here s ssa n f u us st =
     let v = arguments ssa + n in
     let e : n + 0 ≡ n = omega arith in
@@ -68,7 +68,7 @@ value-here s ssa n f u us st =
     ap (λ es. own_term s u >>= λ own. told v own (put_from s es)) (sym events)
     ∙ ap (λ o. (o >>= own_term s) >>= λ own. told v own (put_from s (unit_events ssa v))) (sym unit)
 
-values-are : (s : Sides) (ssa : Ssa) (n f : ℕ) (us : List Work) → Stand ssa n f us
+values-are : (s : Sides) (ssa : Ssa) (n f : ℕ) (us : List SsaUnit) → Stand ssa n f us
     → values_from s (arguments ssa + n) f us ≡ first_of (map (value_at s ssa) (numbers_from (arguments ssa + n) (length us)))
 values-are s ssa n f [] st = refl
 values-are s ssa n f (u ∷ us) st =
@@ -97,7 +97,7 @@ events-same f g same [] = refl
 events-same f g same (e ∷ es) = ap (λ x. x ++ event_bits f es) (same e) ∙ ap (λ x. g e ++ x) (events-same f g same es)
 
 -- a unit needs no more than the terms, the terms that were met, and where the bits of events are found
-value-same : (s : Sides) (puts : List (ℕ × List Bit)) → ((e : ℕ) → bits_at puts e ≡ bits_at s.known.puts e) → (v f : ℕ) (u : Work)
+value-same : (s : Sides) (puts : List (ℕ × List Bit)) → ((e : ℕ) → bits_at puts e ≡ bits_at s.known.puts e) → (v f : ℕ) (u : SsaUnit)
     → value_by (compared s.terms s.known.met puts) v f u ≡ value_by s v f u
 value-same s puts same v f (Load a w) = refl
 value-same s puts same v f (Operation op w k xs) = refl
@@ -105,7 +105,7 @@ value-same s puts same v f (Store a w x) =
     let es = numbers_from f (event_count (Store a w x)) in
     ap (λ bs. own_term s (Store a w x) >>= λ own. told v own (gathered s.known.met bs)) (events-same (bits_at puts) (bits_at s.known.puts) same es)
 
-values-same : (s : Sides) (puts : List (ℕ × List Bit)) → ((e : ℕ) → bits_at puts e ≡ bits_at s.known.puts e) → (v f : ℕ) (us : List Work)
+values-same : (s : Sides) (puts : List (ℕ × List Bit)) → ((e : ℕ) → bits_at puts e ≡ bits_at s.known.puts e) → (v f : ℕ) (us : List SsaUnit)
     → values_from (compared s.terms s.known.met puts) v f us ≡ values_from s v f us
 values-same s puts same v f [] = refl
 values-same s puts same v f (u ∷ us) =
@@ -113,7 +113,7 @@ values-same s puts same v f (u ∷ us) =
     ∙ ap (option_or (value_by s v f u)) (values-same s puts same (v + 1) (f + event_count u) us)
 
 -- what is found unit by unit is the least store that differs
-pub all_values : (s : Sides) (ssa : Ssa) (table : List (ℕ × List Run)) (puts : List (ℕ × List Bit)) (terms : List Tree) (number : ℕ) (units : List Work) (found : Option Difference)
+pub all_values : (s : Sides) (ssa : Ssa) (table : List (ℕ × List Run)) (puts : List (ℕ × List Bit)) (terms : List Tree) (number : ℕ) (units : List SsaUnit) (found : Option Difference)
     → puts ≡ s.known.puts → terms ≡ s.terms → number ≡ arguments ssa → units ≡ ssa.units → HasFirst table puts
     → found ≡ values_from (compared terms s.known.met (pairs_in table)) number 0 units → found ≡ first_value s ssa
 all_values s ssa table puts terms number units found stored named first all has is =
@@ -125,7 +125,7 @@ all_values s ssa table puts terms number units found stored named first all has 
 -- ---- one store
 
 -- a store whose two terms were made is told as it stands in the kernel
-pub store_value : (terms met : List Tree) (puts : List (ℕ × List Bit)) (v f : ℕ) (u : Work) (a : Address) (w : Width) (x : Wanted) (own put : Tree) (now : List Tree) (n : ℕ) (found : Option Difference)
+pub store_value : (terms met : List Tree) (puts : List (ℕ × List Bit)) (v f : ℕ) (u : SsaUnit) (a : Address) (w : Width) (x : Wanted) (own put : Tree) (now : List Tree) (n : ℕ) (found : Option Difference)
     → u ≡ Store a w x → own ≡ gathered met (bits_from (operand_term terms x) 0 (bits_of w)) → now ≡ met → n ≡ event_count u
     → put ≡ gathered now (event_bits (bits_at puts) (numbers_from f n)) → found ≡ told v own put
     → found ≡ value_by (compared terms met puts) v f u

@@ -12,7 +12,7 @@ use Rattle.vg_shapes.specs.Units.{arguments}
 use Rattle.vg_program.specs.declared.operand.Operand.{Operand}
 use Rattle.vg_program.specs.declared.operand.Operand.TheVariants.{Register, Argument, Literal}
 use Rattle.vg_program.specs.Vectors.{bytes_of, register_of}
-use Rattle.vg_shapes.specs.declared.unit.Operator.TheVariants as operator
+use Rattle.vg_shapes.specs.declared.ssa_unit.Operator.TheVariants as operator
 use Rattle.vg_ssa.specs.ValueTerm.{no_term}
 use Rattle.vg_catalog.specs.Entries.{Entry}
 use Rattle.vg_known.specs.Cuts.{computed, gathered}

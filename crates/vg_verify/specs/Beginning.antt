@@ -7,7 +7,7 @@ use Rattle.vg_terms.specs.Term.{Tree, leaf}
 use Rattle.vg_shapes.specs.declared.ssa.SsaParam.{SsaParam}
 use Rattle.vg_shapes.specs.declared.ssa.SsaParamKind.{SsaParamKind}
 use Rattle.vg_shapes.specs.declared.ssa.SsaParamKind.TheVariants.{Pointer, Integer}
-use Rattle.vg_shapes.specs.declared.unit.Unit.{Unit as Work}
+use Rattle.vg_shapes.specs.declared.ssa_unit.SsaUnit.{SsaUnit}
 use Rattle.vg_shapes.specs.Sound.{argument_key}
 use Rattle.vg_shapes.specs.Units.{integers_of}
 use Rattle.vg_known.specs.Cuts.{met_with}
@@ -29,5 +29,5 @@ pub record Begun (ts met : List Tree) (rest : List SsaParam) (all : List Tree) :
   pub fresh : (w n : ℕ) → length ts ≤ n → list_any (is_same_term (leaf w (argument_key n))) ts ≡ false
 
 -- these are the terms of the units before a place
-pub record Termed (flags : List Bool) (first : ℕ) (units : List Work) (place : ℕ) (s all : Terms) : Type 0 where
+pub record Termed (flags : List Bool) (first : ℕ) (units : List SsaUnit) (place : ℕ) (s all : Terms) : Type 0 where
   pub is : terms_behind flags first (take place units) s (drop place units) ≡ all

@@ -71,16 +71,20 @@ mutual
   same_expression (name s n) (name r m) p = λ i. name (spot_code.inj s r (ap one p) i) (bytes_code.inj n m (ap two p) i)
   same_expression (slice s n h l) (slice r m g k) p =
       λ i. slice (spot_code.inj s r (ap one p) i) (bytes_code.inj n m (ap two p) i) (same_expression h g (ap three p) i) (same_expression l k (ap four p) i)
-  same_expression (bit s n k) (bit r m l) p = λ i. bit (spot_code.inj s r (ap one p) i) (bytes_code.inj n m (ap two p) i) (same_expression k l (ap three p) i)
+  same_expression (bit s n k) (bit r m l) p =
+      λ i. bit (spot_code.inj s r (ap one p) i) (bytes_code.inj n m (ap two p) i) (same_expression k l (ap three p) i)
   same_expression (element s n w k) (element r m v l) p =
       λ i. element (spot_code.inj s r (ap one p) i) (bytes_code.inj n m (ap two p) i) (width_code.inj w v (ap three p) i) (same_expression k l (ap four p) i)
-  same_expression (part s n w) (part r m v) p = λ i. part (spot_code.inj s r (ap one p) i) (bytes_code.inj n m (ap two p) i) (width_code.inj w v (ap three p) i)
-  same_expression (unary s o x) (unary r q y) p = λ i. unary (spot_code.inj s r (ap one p) i) (unary_code.inj o q (ap two p) i) (same_expression x y (ap three p) i)
+  same_expression (part s n w) (part r m v) p =
+      λ i. part (spot_code.inj s r (ap one p) i) (bytes_code.inj n m (ap two p) i) (width_code.inj w v (ap three p) i)
+  same_expression (unary s o x) (unary r q y) p =
+      λ i. unary (spot_code.inj s r (ap one p) i) (unary_code.inj o q (ap two p) i) (same_expression x y (ap three p) i)
   same_expression (binary s o x y) (binary r q z u) p =
       λ i. binary (spot_code.inj s r (ap one p) i) (binary_code.inj o q (ap two p) i) (same_expression x z (ap three p) i) (same_expression y u (ap four p) i)
   same_expression (choice s c x y) (choice r d z u) p =
       λ i. choice (spot_code.inj s r (ap one p) i) (same_expression c d (ap two p) i) (same_expression x z (ap three p) i) (same_expression y u (ap four p) i)
-  same_expression (call s n a) (call r m b) p = λ i. call (spot_code.inj s r (ap one p) i) (bytes_code.inj n m (ap two p) i) (same_arguments a b (ap three p) i)
+  same_expression (call s n a) (call r m b) p =
+      λ i. call (spot_code.inj s r (ap one p) i) (bytes_code.inj n m (ap two p) i) (same_arguments a b (ap three p) i)
   same_expression (number s n) _ p = absurd (let e = ap kind p in omega (arith, e))
   same_expression (name s n) _ p = absurd (let e = ap kind p in omega (arith, e))
   same_expression (slice s n h l) _ p = absurd (let e = ap kind p in omega (arith, e))
@@ -94,7 +98,8 @@ mutual
 
   pub same_arguments : (t u : Arguments) → arguments t ≡ arguments u → t ≡ u
   same_arguments end end p = refl
-  same_arguments (more x a) (more y b) p = λ i. more (same_expression x y (ap one p) i) (same_arguments a b (ap two p) i)
+  same_arguments (more x a) (more y b) p =
+      λ i. more (same_expression x y (ap one p) i) (same_arguments a b (ap two p) i)
   same_arguments end _ p = absurd (let e = ap kind p in omega (arith, e))
   same_arguments (more x a) _ p = absurd (let e = ap kind p in omega (arith, e))
 
@@ -106,8 +111,10 @@ expression_code = record { code = expression; inj = same_expression }
 abbrev pub statements : Statements → Gv
 statements stop = node 0 gnil gnil gnil gnil
 statements (assign p t e s) = node 1 (place_code.code p) (expression t) (expression e) (statements s)
-statements (above p n l e s) = node 2 (gcons (place_code.code p) (bytes_code.code n)) (expression l) (expression e) (statements s)
-statements (repeat p n a b s t) = node 3 (gcons (place_code.code p) (bytes_code.code n)) (gcons (expression a) (expression b)) (statements s) (statements t)
+statements (above p n l e s) =
+    node 2 (gcons (place_code.code p) (bytes_code.code n)) (expression l) (expression e) (statements s)
+statements (repeat p n a b s t) =
+    node 3 (gcons (place_code.code p) (bytes_code.code n)) (gcons (expression a) (expression b)) (statements s) (statements t)
 statements (choose a s) = node 4 (statements a) (statements s) gnil gnil
 statements (way c s a) = node 5 (expression c) (statements s) (statements a) gnil
 statements (last s) = node 6 (statements s) gnil gnil gnil
@@ -124,11 +131,15 @@ same_statements (above q n l e s) (above r m k f v) p =
 same_statements (repeat q n a b s t) (repeat r m c d u v) p =
     λ i. repeat (place_code.inj q r (ap (λ g. first (one g)) p) i) (bytes_code.inj n m (ap (λ g. rest (one g)) p) i) (same_expression a c (ap (λ g. first (two g)) p) i)
     (same_expression b d (ap (λ g. rest (two g)) p) i) (same_statements s u (ap three p) i) (same_statements t v (ap four p) i)
-same_statements (choose a s) (choose b t) p = λ i. choose (same_statements a b (ap one p) i) (same_statements s t (ap two p) i)
-same_statements (way c s a) (way d t b) p = λ i. way (same_expression c d (ap one p) i) (same_statements s t (ap two p) i) (same_statements a b (ap three p) i)
+same_statements (choose a s) (choose b t) p =
+    λ i. choose (same_statements a b (ap one p) i) (same_statements s t (ap two p) i)
+same_statements (way c s a) (way d t b) p =
+    λ i. way (same_expression c d (ap one p) i) (same_statements s t (ap two p) i) (same_statements a b (ap three p) i)
 same_statements (last s) (last t) p = λ i. last (same_statements s t (ap one p) i)
-same_statements (pick e a s) (pick f b t) p = λ i. pick (same_expression e f (ap one p) i) (same_statements a b (ap two p) i) (same_statements s t (ap three p) i)
-same_statements (arm n s a) (arm m t b) p = λ i. arm (ap (λ g. num (one g)) p i) (same_statements s t (ap two p) i) (same_statements a b (ap three p) i)
+same_statements (pick e a s) (pick f b t) p =
+    λ i. pick (same_expression e f (ap one p) i) (same_statements a b (ap two p) i) (same_statements s t (ap three p) i)
+same_statements (arm n s a) (arm m t b) p =
+    λ i. arm (ap (λ g. num (one g)) p i) (same_statements s t (ap two p) i) (same_statements a b (ap three p) i)
 same_statements stop _ p = absurd (let e = ap kind p in omega (arith, e))
 same_statements (assign q t e s) _ p = absurd (let k = ap kind p in omega (arith, k))
 same_statements (above q n l e s) _ p = absurd (let k = ap kind p in omega (arith, k))

@@ -2,7 +2,7 @@
 use Rattle.std.specs.Prelude.{◌≡◌, ℕ, ◌-◌, ◌*◌, List, ◌++◌, length, drop}
 use Rattle.vg_base.specs.Bits.{bits_of_bytes, num}
 use Rattle.vg_terms.specs.Term.{Tree}
-use Rattle.vg_shapes.specs.declared.unit.Unit.{Unit as Work}
+use Rattle.vg_shapes.specs.declared.ssa_unit.SsaUnit.{SsaUnit}
 use Rattle.vg_known.specs.Kernels.{reads_from}
 use Rattle.vg_lift.specs.Gather.{Bit}
 use Rattle.vg_lift.specs.LaneTerm.{pieces}
@@ -29,5 +29,7 @@ pub record Walked (g : Given) (lines : List Line) (events : List (List ℕ)) (pl
   pub is : know_all g (drop place lines) (drop place events) k ≡ all
 
 -- these are the reads of the units before a place, and the first event after them has this number
-pub record ReadSoFar (units : List Work) (terms : List Tree) (place first : ℕ) (reads : List (ℕ × List Run)) : Type 0 where
+pub record ReadSoFar
+    (units : List SsaUnit) (terms : List Tree) (place first : ℕ) (reads : List (ℕ × List Run))
+    : Type 0 where
   pub is : pairs_in reads ++ reads_from first (drop place units) (drop place terms) ≡ reads_from 0 units terms

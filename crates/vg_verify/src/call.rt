@@ -50,7 +50,8 @@ fn meet_all(maker: &mut Maker, terms: &[Form]) -> Result<(), AllocError>
 // Appends all bits of terms of a width.
 #[tactic(auto, using(crate::proofs::Calling::bits_more))]
 fn push_bits(to: &mut Vec<Run>, terms: &[Form], width: u32) -> Result<(), AllocError>
-    ensures { OnOk result (bits_in to.new.items ≡ bits_in to.old.items ++ bits_of_terms width terms.now) }
+    ensures { OnOk result (bits_in to.new.items ≡ bits_in to.old.items ++ bits_of_terms width
+        terms.now) }
 {
     match terms {
         [] => Ok(()),

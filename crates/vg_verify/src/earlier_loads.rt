@@ -9,7 +9,7 @@ ghost use Rattle.vg_verify.specs.Loads.{is_disturbed};
 
 use std::alloc::{AllocError, Global};
 use vg_base::{Address, Width};
-use vg_shapes::{Access, Ssa, Unit};
+use vg_shapes::{Access, Ssa, SsaUnit};
 
 /// Of each pointer of a kernel, in order, whether it is noalias. Fails for want of memory alone.
 pub(crate) fn noalias_flags(alloc: Global, ssa: &Ssa) -> Result<Vec<bool>, AllocError>
@@ -58,7 +58,7 @@ fn conflict(flags: &[bool], x: Access, y: Access) -> bool
 }
 
 // Whether a unit is one on which a read depends.
-fn is_disturbed(flags: &[bool], read: Access, unit: &Unit) -> bool
+fn is_disturbed(flags: &[bool], read: Access, unit: &SsaUnit) -> bool
     ensures { result ≡ is_disturbed flags.now read unit.now }
 {
     match unit.access() {
@@ -68,19 +68,19 @@ fn is_disturbed(flags: &[bool], read: Access, unit: &Unit) -> bool
 }
 
 // Whether a unit is a load of this address and width.
-fn is_load(address: Address, width: Width, unit: &Unit) -> bool
+fn is_load(address: Address, width: Width, unit: &SsaUnit) -> bool
     ensures { result ≡ is_load address width unit.now }
 {
     match *unit {
-        Unit::Load {
+        SsaUnit::Load {
             address: other,
             width: of_other,
         } => {
             let same_place = address.pointer == other.pointer && address.offset == other.offset;
             width.bits() == of_other.bits() && same_place
         }
-        Unit::Store { .. } => false,
-        Unit::Operation { .. } => false,
+        SsaUnit::Store { .. } => false,
+        SsaUnit::Operation { .. } => false,
     }
 }
 
@@ -96,7 +96,7 @@ fn read_of(address: Address, width: Width) -> Access
 }
 
 // The unit at a place.
-pub(crate) fn unit_at(units: &[Unit], place: usize) -> &Unit
+pub(crate) fn unit_at(units: &[SsaUnit], place: usize) -> &SsaUnit
     requires { place < length units.now }
     ensures { result.now ≡ get_or units.now place result.now }
 {
@@ -118,7 +118,7 @@ fn either(holds: bool, number: u32, other: u32) -> u32
 pub(crate) fn first_load(
     flags: &[bool],
     first: u32,
-    done: &[Unit],
+    done: &[SsaUnit],
     own: u32,
     address: Address,
     width: Width,

@@ -95,8 +95,8 @@ impl EventBits {
 
     // Appends the bits of events.
     fn push_read(&self, to: &mut Vec<Run>, events: &[usize]) -> Result<(), AllocError>
-        ensures { OnOk result (bits_in to.new.items
-            ≡ bits_in to.old.items ++ event_bits (bits_at (pairs_in self.now.table.entries)) events.now) }
+        ensures { OnOk result (bits_in to.new.items ≡ bits_in to.old.items ++ event_bits (bits_at
+            (pairs_in self.now.table.entries)) events.now) }
     {
         match events {
             [] => Ok(()),

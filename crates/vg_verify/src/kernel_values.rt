@@ -12,7 +12,7 @@ use crate::earlier_loads::{first_load, noalias_flags};
 use std::alloc::{AllocError, Global};
 use vg_base::{Address, Width};
 use vg_forms::{Form, Maker, argument_key, load_key};
-use vg_shapes::{Operands, Operator, Ssa, SsaParam, SsaParamKind, Unit, Wanted};
+use vg_shapes::{Operands, Operator, Ssa, SsaParam, SsaParamKind, SsaUnit, Wanted};
 
 /// The terms of the values of a kernel so far, and what makes them, with the terms that were met.
 #[derive(Drop)]
@@ -49,8 +49,10 @@ impl KernelTerms {
     // The integer parameters, which are met first; so many nodes may be made canonical.
     #[tactic(auto, using(crate::proofs::Beginning::begun_none, crate::proofs::Beginning::begun_more, crate::proofs::Beginning::begun_terms, crate::proofs::Beginning::begun_met))]
     fn begin(alloc: Global, left: u64, params: &[SsaParam]) -> Result<KernelTerms, AllocError>
-        ensures terms { IfOk result (λ k. k.terms.items ≡ argument_leaves 0 (integers_of params.now)) }
-        ensures met { IfOk result (λ k. k.maker.classes ≡ argument_leaves 0 (integers_of params.now)) }
+        ensures terms { IfOk result (λ k. k.terms.items ≡ argument_leaves 0 (integers_of
+            params.now)) }
+        ensures met { IfOk result (λ k. k.maker.classes ≡ argument_leaves 0 (integers_of
+            params.now)) }
     {
         let mut begun = KernelTerms {
             terms: Vec::new(alloc),
@@ -66,7 +68,8 @@ impl KernelTerms {
 
     // A parameter, if it is an integer.
     fn push_argument(&mut self, alloc: Global, kind: SsaParamKind) -> Result<(), AllocError>
-        ensures terms { OnOk result (self.new.terms.items ≡ argument_terms kind self.old.terms.items) }
+        ensures terms { OnOk result (self.new.terms.items ≡ argument_terms kind
+            self.old.terms.items) }
         ensures met { OnOk result (self.new.maker.classes
             ≡ argument_met kind (length self.old.terms.items) self.old.maker.classes) }
     {
@@ -80,8 +83,8 @@ impl KernelTerms {
     fn push_integer(&mut self, alloc: Global, width: Width) -> Result<(), AllocError>
         ensures terms { OnOk result (self.new.terms.items
             ≡ argument_terms (SsaParamKind.Integer width) self.old.terms.items) }
-        ensures met { OnOk result (self.new.maker.classes
-            ≡ argument_met (SsaParamKind.Integer width) (length self.old.terms.items) self.old.maker.classes) }
+        ensures met { OnOk result (self.new.maker.classes ≡ argument_met (SsaParamKind.Integer
+            width) (length self.old.terms.items) self.old.maker.classes) }
     {
         let number = self.terms.len();
         if number > u32::MAX as usize {
@@ -99,8 +102,8 @@ impl KernelTerms {
         alloc: Global,
         flags: &[bool],
         first: u32,
-        done: &[Unit],
-        unit: &Unit,
+        done: &[SsaUnit],
+        unit: &SsaUnit,
     ) -> Result<Form, AllocError>
         requires { first + length done.now < 2 ^ 32 }
         ensures form { IfOk result (λ f. f
@@ -109,7 +112,7 @@ impl KernelTerms {
         ensures met { self.new.maker.classes ≡ self.old.maker.classes }
     {
         match *unit {
-            Unit::Load { address, width } => {
+            SsaUnit::Load { address, width } => {
                 let own = self.terms.len();
                 if own > u32::MAX as usize {
                     return Err(AllocError);
@@ -117,8 +120,8 @@ impl KernelTerms {
                 let number = first_load(flags, first, done, own as u32, address, width);
                 Form::leaf(alloc, width.bits(), load_key(address, number))
             }
-            Unit::Store { .. } => Form::constant(alloc, 8, 0),
-            Unit::Operation {
+            SsaUnit::Store { .. } => Form::constant(alloc, 8, 0),
+            SsaUnit::Operation {
                 op,
                 width,
                 amount,
@@ -137,7 +140,7 @@ impl KernelTerms {
         operands: Operands,
     ) -> Result<Form, AllocError>
         ensures form { IfOk result (λ f. f
-            ≡ unit_term [] 0 [] (terms_of self.old) (Unit.Operation op width amount operands)) }
+            ≡ unit_term [] 0 [] (terms_of self.old) (SsaUnit.Operation op width amount operands)) }
         ensures terms { self.new.terms.items ≡ self.old.terms.items }
         ensures met { self.new.maker.classes ≡ self.old.maker.classes }
     {
@@ -154,8 +157,8 @@ impl KernelTerms {
         alloc: Global,
         flags: &[bool],
         first: u32,
-        done: &[Unit],
-        unit: &Unit,
+        done: &[SsaUnit],
+        unit: &SsaUnit,
     ) -> Result<(), AllocError>
         requires { first + length done.now < 2 ^ 32 }
         ensures { OnOk result (terms_of self.new ≡ with_term (terms_of self.old) unit.now
@@ -170,13 +173,13 @@ impl KernelTerms {
     }
 }
 
-fn is_store(unit: &Unit) -> bool
+fn is_store(unit: &SsaUnit) -> bool
     ensures { result ≡ is_store unit.now }
 {
     match unit {
-        Unit::Store { .. } => true,
-        Unit::Load { .. } => false,
-        Unit::Operation { .. } => false,
+        SsaUnit::Store { .. } => true,
+        SsaUnit::Load { .. } => false,
+        SsaUnit::Operation { .. } => false,
     }
 }
 

@@ -8,7 +8,7 @@ ghost use Rattle.vg_known.specs.Cuts.{computed, gathered};
 ghost use Rattle.vg_known.specs.Known.{known_bits, operand_term, read_bits, with_operation, with_puts, with_scalar, with_vector};
 ghost use Rattle.vg_lift.specs.Gather.{bits_from, clear};
 ghost use Rattle.vg_program.specs.Vectors.{bytes_of, register_of};
-ghost use Rattle.vg_shapes.specs.declared.unit.Operator.TheVariants as operator;
+ghost use Rattle.vg_shapes.specs.declared.ssa_unit.Operator.TheVariants as operator;
 ghost use Rattle.vg_ssa.specs.ValueTerm.{no_term};
 ghost use Rattle.vg_verify.specs.Views.{given_of, known_of};
 
@@ -111,7 +111,8 @@ impl Knowing {
 
     /// A register more.
     pub(crate) fn push_vector(&mut self, runs: Vec<Run>) -> Result<(), AllocError>
-        ensures { OnOk result (known_of self.new ≡ with_vector (known_of self.old) (bits_in runs.items)) }
+        ensures { OnOk result (known_of self.new ≡ with_vector (known_of self.old) (bits_in
+            runs.items)) }
     {
         self.vectors.push(Items::from_vec(runs))?;
         Ok(())
@@ -162,7 +163,8 @@ impl Knowing {
         events: &[usize],
     ) -> Result<(), AllocError>
         ensures { OnOk result (known_of self.new ≡ with_puts (known_of self.old) events.now
-            (bits_from (operand_term (given_of given.entry) (known_of self.old) x) 0 (bits_of width))) }
+            (bits_from (operand_term (given_of given.entry) (known_of self.old) x) 0 (bits_of
+            width))) }
     {
         let form = self.operand(alloc, given, x)?;
         let runs = whole_run(alloc, form, width.bits())?;
@@ -179,8 +181,9 @@ impl Knowing {
         amount: u32,
         x: Operand,
     ) -> Result<(), AllocError>
-        ensures { OnOk result (known_of self.new ≡ with_operation (given_of given.entry) (known_of self.old) op
-            (bits_of width) amount (operand_term (given_of given.entry) (known_of self.old) x) no_term no_term) }
+        ensures { OnOk result (known_of self.new ≡ with_operation (given_of given.entry) (known_of
+            self.old) op (bits_of width) amount (operand_term (given_of given.entry) (known_of
+            self.old) x) no_term no_term) }
     {
         let x = self.operand(alloc, given, x)?;
         let none = no_term(alloc)?;
@@ -197,9 +200,9 @@ impl Knowing {
         x: Operand,
         y: Operand,
     ) -> Result<(), AllocError>
-        ensures { OnOk result (known_of self.new ≡ with_operation (given_of given.entry) (known_of self.old) op
-            (bits_of width) 0 (operand_term (given_of given.entry) (known_of self.old) x)
-            (operand_term (given_of given.entry) (known_of self.old) y) no_term) }
+        ensures { OnOk result (known_of self.new ≡ with_operation (given_of given.entry) (known_of
+            self.old) op (bits_of width) 0 (operand_term (given_of given.entry) (known_of self.old)
+            x) (operand_term (given_of given.entry) (known_of self.old) y) no_term) }
     {
         let x = self.operand(alloc, given, x)?;
         let y = self.operand(alloc, given, y)?;
@@ -217,9 +220,9 @@ impl Knowing {
         x: Operand,
         y: Operand,
     ) -> Result<(), AllocError>
-        ensures { OnOk result (known_of self.new ≡ with_operation (given_of given.entry) (known_of self.old)
-            operator.Select (bits_of width) 0 (operand_term (given_of given.entry) (known_of self.old) c)
-            (operand_term (given_of given.entry) (known_of self.old) x)
+        ensures { OnOk result (known_of self.new ≡ with_operation (given_of given.entry) (known_of
+            self.old) operator.Select (bits_of width) 0 (operand_term (given_of given.entry)
+            (known_of self.old) c) (operand_term (given_of given.entry) (known_of self.old) x)
             (operand_term (given_of given.entry) (known_of self.old) y)) }
     {
         let c = self.operand(alloc, given, c)?;
@@ -286,10 +289,9 @@ impl Knowing {
         width: Width,
         x: Operand,
     ) -> Result<(), AllocError>
-        ensures { OnOk result (known_of self.new ≡ with_vector (known_of self.old)
-            (replaced (lane * bits_of width)
-            (bits_from (operand_term (given_of given.entry) (known_of self.old) x) 0 (bits_of width))
-            (known_bits (known_of self.old) register))) }
+        ensures { OnOk result (known_of self.new ≡ with_vector (known_of self.old) (replaced (lane *
+            bits_of width) (bits_from (operand_term (given_of given.entry) (known_of self.old) x) 0
+            (bits_of width)) (known_bits (known_of self.old) register))) }
     {
         let form = self.operand(alloc, given, x)?;
         let runs = inserted(alloc, self.register(register), lane, width.bits(), form)?;
@@ -305,9 +307,9 @@ impl Knowing {
         lane: u32,
         width: Width,
     ) -> Result<(), AllocError>
-        ensures { OnOk result (known_of self.new ≡ with_scalar (known_of self.old)
-            (gathered (known_of self.old).met
-            (range (lane * bits_of width) (bits_of width) (known_bits (known_of self.old) register)))) }
+        ensures { OnOk result (known_of self.new ≡ with_scalar (known_of self.old) (gathered
+            (known_of self.old).met (range (lane * bits_of width) (bits_of width) (known_bits
+            (known_of self.old) register)))) }
     {
         let low = product(lane, width.bits())?;
         let mut runs = Vec::new(alloc);

@@ -27,7 +27,8 @@ fn is_opaque_call(called: &Called, line: &Line) -> Result<bool, AllocError>
 /// none of those that `called` was made for.
 #[tactic(auto, using(crate::proofs::Seeking::sought_none, crate::proofs::Seeking::sought_more, crate::proofs::Seeking::sought_here, crate::proofs::Seeking::sought_end))]
 pub fn opaque_line(called: &Called, program: &Program) -> Result<Option<usize>, AllocError>
-    ensures { IfOk result (λ n. option_map Difference.opaque n ≡ opaque_line called.now program.now) }
+    ensures { IfOk result (λ n. option_map Difference.opaque n ≡ opaque_line called.now
+        program.now) }
 {
     let lines = program.lines.as_slice();
     'lines: for place in 0..lines.len() {

@@ -13,7 +13,7 @@ use crate::known::whole_run;
 use std::alloc::{AllocError, Global};
 use vg_base::Items;
 use vg_forms::{Form, Run};
-use vg_shapes::{Ssa, Unit};
+use vg_shapes::{Ssa, SsaUnit};
 
 // The number so many places on, or want of memory where there is none.
 pub(crate) fn following(number: usize, count: u32) -> Result<usize, AllocError>
@@ -45,27 +45,28 @@ fn give_read(
     alloc: Global,
     to: &mut Vec<(usize, Items<Run>)>,
     first: usize,
-    unit: &Unit,
+    unit: &SsaUnit,
     form: &Form,
 ) -> Result<(), AllocError>
-    ensures { OnOk result (pairs_in to.new.items ≡ pairs_in to.old.items ++ read_by first unit.now form.now) }
+    ensures { OnOk result (pairs_in to.new.items ≡ pairs_in to.old.items ++ read_by first unit.now
+        form.now) }
 {
     match *unit {
-        Unit::Load { width, .. } => {
+        SsaUnit::Load { width, .. } => {
             let mut events = Vec::new(alloc);
             push_numbers(&mut events, first, width.size())?;
             let form = form.share()?;
             let runs = whole_run(alloc, form, width.bits())?;
             give_events(alloc, to, &events, &runs)
         }
-        Unit::Store { .. } => Ok(()),
-        Unit::Operation { .. } => Ok(()),
+        SsaUnit::Store { .. } => Ok(()),
+        SsaUnit::Operation { .. } => Ok(()),
     }
 }
 
 // How many events a unit has.
 #[tactic(auto, using(crate::proofs::UnitReads::some_counted, crate::proofs::UnitReads::none_counted))]
-pub(crate) fn event_count(unit: &Unit) -> u32
+pub(crate) fn event_count(unit: &SsaUnit) -> u32
     ensures { result ≡ length (labels_in (access_of unit.now)) }
 {
     match unit.access() {
@@ -94,7 +95,7 @@ fn forms_from(terms: &[Form], place: usize) -> &[Form]
 #[tactic(auto, using(crate::proofs::UnitReads::reads_none, crate::proofs::UnitReads::reads_more, crate::proofs::UnitReads::reads_all))]
 fn reads_of(
     alloc: Global,
-    units: &[Unit],
+    units: &[SsaUnit],
     terms: &[Form],
 ) -> Result<Vec<(usize, Items<Run>)>, AllocError>
     requires { length units.now ≤ length terms.now }

@@ -23,7 +23,7 @@ use crate::verdict::Difference;
 use std::alloc::{AllocError, Global};
 use vg_base::Width;
 use vg_forms::{Form, Maker};
-use vg_shapes::{Ssa, Unit, Wanted};
+use vg_shapes::{Ssa, SsaUnit, Wanted};
 
 // The term of what a store of a kernel writes.
 fn own_term(
@@ -84,20 +84,20 @@ fn value_by(
     maker: &mut Maker,
     number: usize,
     first: usize,
-    unit: &Unit,
+    unit: &SsaUnit,
 ) -> Result<Option<Difference>, AllocError>
-    ensures found { IfOk result (λ found. option_map difference_of found ≡ value_by
-        (compared terms.now maker.old.classes (pairs_in stored.now.table.entries)) number first unit.now) }
+    ensures found { IfOk result (λ found. option_map difference_of found ≡ value_by (compared
+        terms.now maker.old.classes (pairs_in stored.now.table.entries)) number first unit.now) }
     ensures classes { maker.new.classes ≡ maker.old.classes }
 {
     match *unit {
-        Unit::Load { .. } => Ok(None),
-        Unit::Store { width, value, .. } => {
+        SsaUnit::Load { .. } => Ok(None),
+        SsaUnit::Store { width, value, .. } => {
             let own = own_term(alloc, terms, maker, width, value)?;
             let put = put_term(alloc, stored, maker, first, event_count(unit))?;
             Ok(told(number, own, put))
         }
-        Unit::Operation { .. } => Ok(None),
+        SsaUnit::Operation { .. } => Ok(None),
     }
 }
 
@@ -108,10 +108,10 @@ fn value_among(
     stored: &EventBits,
     maker: &mut Maker,
     number: usize,
-    units: &[Unit],
+    units: &[SsaUnit],
 ) -> Result<Option<Difference>, AllocError>
-    ensures { IfOk result (λ found. option_map difference_of found ≡ values_from
-        (compared terms.now maker.old.classes (pairs_in stored.now.table.entries)) number 0 units.now) }
+    ensures { IfOk result (λ found. option_map difference_of found ≡ values_from (compared terms.now
+        maker.old.classes (pairs_in stored.now.table.entries)) number 0 units.now) }
 {
     let mut first = 0;
     let mut own = number;

@@ -47,8 +47,8 @@ fn begin(alloc: Global, maker: Maker) -> Knowing
 impl Knowing {
     // A register of these bytes.
     fn constant(&mut self, alloc: Global, bytes: &[u8]) -> Result<(), AllocError>
-        ensures { OnOk result (known_of self.new ≡ with_vector (known_of self.old)
-            (pieces (8 * length bytes.now) (num (bits_of_bytes bytes.now)) 0 (8 * length bytes.now))) }
+        ensures { OnOk result (known_of self.new ≡ with_vector (known_of self.old) (pieces (8 *
+            length bytes.now) (num (bits_of_bytes bytes.now)) 0 (8 * length bytes.now))) }
     {
         let runs = constant_runs(alloc, bytes)?;
         self.push_vector(runs)

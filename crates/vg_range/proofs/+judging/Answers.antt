@@ -11,9 +11,9 @@ use Rattle.vg_interval.specs.Views.{Gives, told, count_view, found_view, kept_vi
 use Rattle.vg_names.specs.Views.{code_view, expr_of, list_of, target_view}
 use Rattle.vg_pseudo.specs.Resolved.{binary, choice, more, way}
 use Rattle.vg_script.specs.Views.{number_of}
-use Rattle.vg_range.specs.Met.{arm_of, arms_view, final, first_way, further, how_many, met_view, picked, selector_view, turns_left, ways_view}
+use Rattle.vg_range.specs.Steps.{arm_of, arms_view, final, first_way, further, how_many, way_step_view, picked, selector_view, turns_left, ways_view}
 use Rattle.vg_range.specs.Estimates.{estimate_of, given_at}
-use Rattle.vg_range.specs.Seen.{argument_of, behind_passed, course_view, goal_view, sight_view, stand_view}
+use Rattle.vg_range.specs.Seen.{argument_of, behind_passed, context_view, goal_view, sight_view, state_view}
 use Rattle.vg_range.specs.Weight.{weight, list_weight}
 use Rattle.vg_range.proofs.Arguments.{passed_none, passed_next, passed_done, passed_fails}
 use Rattle.vg_range.proofs.ArmsLeft.{arms_fail, arms_next, one_taken, none_taken}
@@ -39,7 +39,7 @@ judging::judge-choice-requires t c =
 
 pub judging::judge-returns-in-Choice : goal.judging::judge-returns-in-Choice
 judging::judge-returns-in-Choice t c =
-    let s = sight_view c.args.course.now in
+    let s = sight_view c.args.context.now in
     let ks = map kept_view c.args.numbers.now in
     let d = count_view c.args.count in
     let x = c.deref-in-Choice.result.now in
@@ -53,13 +53,13 @@ judging::judge-returns-in-Choice t c =
 
 pub judging::judge_all-arguments-init : goal.judging::judge_all-arguments-init
 judging::judge_all-arguments-init t c = record {
-  same = rw c.new-given.ensures.items (passed_none (judge_all (sight_view c.args.course.now) (map kept_view c.args.numbers.now) (list_of c.args.arguments.now) (count_view c.args.count)));
+  same = rw c.new-given.ensures.items (passed_none (judge_all (sight_view c.args.context.now) (map kept_view c.args.numbers.now) (list_of c.args.arguments.now) (count_view c.args.count)));
   inside = omega arith;
 }
 
 pub judging::judge_all-returns-in-End : goal.judging::judge_all-returns-in-End
 judging::judge_all-returns-in-End t c =
-    let s = sight_view c.args.course.now in
+    let s = sight_view c.args.context.now in
     let ks = map kept_view c.args.numbers.now in
     let d = count_view c.arguments.count in
     let done = map passed_view c.arguments.given.items in
@@ -69,7 +69,7 @@ judging::judge_all-returns-in-End t c =
 
 pub judging::judge_all-returns-in_err-passed-in-More : goal.judging::judge_all-returns-in_err-passed-in-More
 judging::judge_all-returns-in_err-passed-in-More t c =
-    let s = sight_view c.args.course.now in
+    let s = sight_view c.args.context.now in
     let ks = map kept_view c.args.numbers.now in
     let d = count_view c.arguments.count in
     let done = map passed_view c.arguments.given.items in
@@ -86,7 +86,7 @@ judging::judge_all-returns-in_err-passed-in-More t c =
 
 pub judging::judge_all-arguments-preserved : goal.judging::judge_all-arguments-preserved
 judging::judge_all-arguments-preserved t c =
-    let s = sight_view c.args.course.now in
+    let s = sight_view c.args.context.now in
     let ks = map kept_view c.args.numbers.now in
     let d = count_view c.arguments.count in
     let behind = count_view c.in_ok-passed-in-More.behind in
@@ -129,9 +129,9 @@ calling::called_at-called-requires t c =
 
 pub code_walk::arms_found-returns-in_err-more-in-Some : goal.code_walk::arms_found-returns-in_err-more-in-Some
 code_walk::arms_found-returns-in_err-more-in-Some t c =
-    let x = course_view c.args.course.now in
+    let x = context_view c.args.context.now in
     let l = code_view c.arms.left.now in
-    let w = stand_view c.args.stand.now in
+    let w = state_view c.args.state.now in
     let found = arms_view c.arms.found.value in
     let n = count_view c.arms.count in
     let fault = told c.in_err-more-in-Some.field-0.0 in
@@ -141,9 +141,9 @@ code_walk::arms_found-returns-in_err-more-in-Some t c =
 
 pub code_walk::arms_found-arms-preserved : goal.code_walk::arms_found-arms-preserved
 code_walk::arms_found-arms-preserved t c =
-    let x = course_view c.args.course.now in
+    let x = context_view c.args.context.now in
     let l = code_view c.arms.left.now in
-    let w = stand_view c.args.stand.now in
+    let w = state_view c.args.state.now in
     let found = arms_view c.arms.found.value in
     let n = count_view c.arms.count in
     let more = arms_view c.in_ok-more-in-Some.more.value in
@@ -157,46 +157,46 @@ code_walk::arms_found-arms-preserved t c =
 
 pub code_walk::choose_at-returns-in_err-all-in-Some : goal.code_walk::choose_at-returns-in_err-all-in-Some
 code_walk::choose_at-returns-in_err-all-in-Some t c =
-    let x = course_view c.args.course.now in
+    let x = context_view c.args.context.now in
     let l = code_view c.ways.left.now in
-    let w = stand_view c.args.stand.value in
+    let w = state_view c.args.state.value in
     let found = ways_view c.ways.found.value in
     let n = count_view c.ways.count in
     let fault = told c.in_err-all-in-Some.field-0.0 in
     let failed : FailsBy fault (first_way x l w found n) =
-    subst (λ v. FailsBy fault (first_way x l (stand_view v) found n)) c.deref-in-Some.ensures c.in_err-all-in-Some.ensures in
+    subst (λ v. FailsBy fault (first_way x l (state_view v) found n)) c.deref-in-Some.ensures c.in_err-all-in-Some.ensures in
     let error = err_from_is_err_and c.from_residual-in_err-all-in-Some.result c.from_residual-in_err-all-in-Some.ensures.1 in
     rw (error.1, error.2) (subst (FailsBy fault) c.ways.invariant.same
     (ways_fail x l (code_view c.in-Some.others.now) w found n fault (sym c.in-Some.ensures.is) failed))
 
 pub code_walk::choose_at-returns-in-Final : goal.code_walk::choose_at-returns-in-Final
 code_walk::choose_at-returns-in-Final t c =
-    let x = course_view c.args.course.now in
+    let x = context_view c.args.context.now in
     let l = code_view c.ways.left.now in
-    let w = stand_view c.args.stand.value in
+    let w = state_view c.args.state.value in
     let found = ways_view c.ways.found.value in
     let n = count_view c.ways.count in
     let all = ways_view c.in-Final.all.value in
-    let v = stand_view c.in-Final.last.value in
+    let v = state_view c.in-Final.last.value in
     let met : first_way x l w found n ≡ Ok (final all v) =
-    subst (λ u. first_way x l (stand_view u) found n ≡ Ok (final all v)) c.deref-in-Some.ensures
-    (c.in_ok-all-in-Some.ensures ∙ ap (λ m. Ok (met_view m)) c.in-Final.is) in
+    subst (λ u. first_way x l (state_view u) found n ≡ Ok (final all v)) c.deref-in-Some.ensures
+    (c.in_ok-all-in-Some.ensures ∙ ap (λ m. Ok (way_step_view m)) c.in-Final.is) in
     sym c.ways.invariant.same
     ∙ ways_close x l (code_view c.in-Some.others.now) w v found all n (sym c.in-Some.ensures.is) met
     ∙ ap (λ u. Ok u) (sym c.in_ok-closed-in-Final.ensures)
 
 pub code_walk::choose_at-ways-preserved : goal.code_walk::choose_at-ways-preserved
 code_walk::choose_at-ways-preserved t c =
-    let x = course_view c.args.course.now in
+    let x = context_view c.args.context.now in
     let l = code_view c.ways.left.now in
-    let w = stand_view c.args.stand.value in
+    let w = state_view c.args.state.value in
     let found = ways_view c.ways.found.value in
     let n = count_view c.ways.count in
     let more = ways_view c.in-Further.more.value in
     let m = count_view c.in-Further.behind in
     let met : first_way x l w found n ≡ Ok (further more m) =
-    subst (λ u. first_way x l (stand_view u) found n ≡ Ok (further more m)) c.deref-in-Some.ensures
-    (c.in_ok-all-in-Some.ensures ∙ ap (λ k. Ok (met_view k)) c.in-Further.is) in
+    subst (λ u. first_way x l (state_view u) found n ≡ Ok (further more m)) c.deref-in-Some.ensures
+    (c.in_ok-all-in-Some.ensures ∙ ap (λ k. Ok (way_step_view k)) c.in-Further.is) in
     record {
       same = ways_next x l (code_view c.in-Some.others.now) w found more n m (sym c.in-Some.ensures.is) met ∙ c.ways.invariant.same;
       inside = omega (arith, c.in-Some.ensures.inside, c.ways.invariant.inside);
@@ -204,23 +204,23 @@ code_walk::choose_at-ways-preserved t c =
 
 pub code_walk::picked-returns-in-Some : goal.code_walk::picked-returns-in-Some
 code_walk::picked-returns-in-Some t c =
-    let x = course_view c.args.course.now in
+    let x = context_view c.args.context.now in
     let arms = code_view c.args.arms.now in
-    let w = stand_view c.args.stand.value in
+    let w = state_view c.args.state.value in
     let z = c.in-Fixed.number in
     let fits : FitsSigned w128 z = search rules in
     let found : arm_of z arms ≡ Some (code_view c.in-Some.body.now) =
     ap (λ n. arm_of n arms) (sym (to_z-of_z w128 z fits)) ∙ sym c.in-Some.ensures.is in
-    subst (λ r. Gives (λ u. stand_view u.value) c.walk.result r)
+    subst (λ r. Gives (λ u. state_view u.value) c.walk.result r)
     (one_taken x arms (code_view c.in-Some.body.now) w z found
     ∙ ap (λ a. picked x arms w (selector_view a)) (sym c.in-Fixed.is))
     c.walk.ensures
 
 pub code_walk::picked-returns-in-None : goal.code_walk::picked-returns-in-None
 code_walk::picked-returns-in-None t c =
-    let x = course_view c.args.course.now in
+    let x = context_view c.args.context.now in
     let arms = code_view c.args.arms.now in
-    let w = stand_view c.args.stand.value in
+    let w = state_view c.args.state.value in
     let z = c.in-Fixed.number in
     let fits : FitsSigned w128 z = search rules in
     let found : arm_of z arms ≡ None = ap (λ n. arm_of n arms) (sym (to_z-of_z w128 z fits)) ∙ sym c.in-None.ensures.is in
@@ -229,10 +229,10 @@ code_walk::picked-returns-in-None t c =
 
 pub code_walk::turns_through-turns-init : goal.code_walk::turns_through-turns-init
 code_walk::turns_through-turns-init t c =
-    let x = course_view c.args.course.now in
+    let x = context_view c.args.context.now in
     let body = code_view c.args.body.now in
     let l = number_of c.args.last in
-    let w = stand_view c.args.stand.value in
+    let w = state_view c.args.state.value in
     ap (λ o. turns_left x c.args.place body l o w) c.first_turn-left.ensures
     ∙ turns_are x c.args.place body (number_of c.args.first) l w
 
@@ -243,38 +243,38 @@ code_walk::turns_through-turns-smaller t c =
 
 pub code_walk::turns_through-turns-preserved : goal.code_walk::turns_through-turns-preserved
 code_walk::turns_through-turns-preserved t c =
-    let x = course_view c.args.course.now in
+    let x = context_view c.args.context.now in
     let body = code_view c.args.body.now in
     let l = number_of c.args.last in
     let z = number_of c.in-Some.turn in
-    let w = stand_view c.turns.stand.value in
-    let v = stand_view c.in_ok-stand-in-Some.stand.value in
+    let w = state_view c.turns.state.value in
+    let v = state_view c.in_ok-state-in-Some.state.value in
     ap (λ o. turns_left x c.args.place body l o v) c.next_turn-left.ensures
-    ∙ turns_next x c.args.place body z l w v c.in_ok-stand-in-Some.ensures
+    ∙ turns_next x c.args.place body z l w v c.in_ok-state-in-Some.ensures
     ∙ ap (λ o. turns_left x c.args.place body l (option_map number_of o) w) (sym c.in-Some.is)
     ∙ c.turns.invariant
 
-pub code_walk::walk-returns-in_err-stand-in-Some : goal.code_walk::walk-returns-in_err-stand-in-Some
-code_walk::walk-returns-in_err-stand-in-Some t c =
-    let fault = told c.in_err-stand-in-Some.field-0.0 in
+pub code_walk::walk-returns-in_err-state-in-Some : goal.code_walk::walk-returns-in_err-state-in-Some
+code_walk::walk-returns-in_err-state-in-Some t c =
+    let fault = told c.in_err-state-in-Some.field-0.0 in
     let error = err_from_is_err_and c.from_residual.result c.from_residual.ensures.1 in
     rw (error.1, error.2) (subst (FailsBy fault) c.statements.invariant.same
-    (walk_fails (course_view c.args.course.now) (code_view c.statements.left.now) (code_view c.in-Some.rest.now)
-    (stand_view c.statements.stand.value) fault (sym c.in-Some.ensures.is) c.in_err-stand-in-Some.ensures))
+    (walk_fails (context_view c.args.context.now) (code_view c.statements.left.now) (code_view c.in-Some.rest.now)
+    (state_view c.statements.state.value) fault (sym c.in-Some.ensures.is) c.in_err-state-in-Some.ensures))
 
 pub code_walk::walk-statements-preserved : goal.code_walk::walk-statements-preserved
 code_walk::walk-statements-preserved t c = record {
   same =
-      walk_next (course_view c.args.course.now) (code_view c.statements.left.now) (code_view c.in-Some.rest.now)
-      (stand_view c.statements.stand.value) (stand_view c.in_ok-stand-in-Some.stand.value)
-      (sym c.in-Some.ensures.is) c.in_ok-stand-in-Some.ensures
+      walk_next (context_view c.args.context.now) (code_view c.statements.left.now) (code_view c.in-Some.rest.now)
+      (state_view c.statements.state.value) (state_view c.in_ok-state-in-Some.state.value)
+      (sym c.in-Some.ensures.is) c.in_ok-state-in-Some.ensures
       ∙ c.statements.invariant.same;
   inside = omega (arith, c.in-Some.ensures.inside, c.statements.invariant.inside);
 }
 
 pub estimating::estimate-returns-else-is_shift : goal.estimating::estimate-returns-else-is_shift
 estimating::estimate-returns-else-is_shift t c =
-    let s = sight_view c.args.course.now in
+    let s = sight_view c.args.context.now in
     let ks = map kept_view c.args.numbers.now in
     let d = count_view c.args.count in
     let x = expr_of c.deref-else-is_shift.result.now in
@@ -288,22 +288,22 @@ estimating::estimate-returns-else-is_shift t c =
 
 pub giving::given_unwritten-returns-then-is_joined : goal.giving::given_unwritten-returns-then-is_joined
 giving::given_unwritten-returns-then-is_joined t c =
-    let x = course_view c.args.course.now in
+    let x = context_view c.args.context.now in
     let a = target_view c.args.target.now in
     let e = expr_of c.args.value.now in
-    let w = stand_view c.args.stand.value in
-    subst (λ r. Gives (λ v. stand_view v.value) c.bits_given.result r)
+    let w = state_view c.args.state.value in
+    subst (λ r. Gives (λ v. state_view v.value) c.bits_given.result r)
     (filled_is x a (goal_view c.in-Some.goal) e w c.requires (sym c.is_joined.ensures ∙ c.if-is_joined.true)
     ∙ ap (λ o. given_at x a (option_map goal_view o) e w) (sym c.in-Some.is)) c.bits_given.ensures
 
 pub code_walk::first_way-returns-in-Way : goal.code_walk::first_way-returns-in-Way
 code_walk::first_way-returns-in-Way t c =
-    let x = course_view c.args.course.now in
-    let w = stand_view c.args.stand.now in
+    let x = context_view c.args.context.now in
+    let w = state_view c.args.state.now in
     let found = ways_view c.args.found.value in
     let n = count_view c.args.count in
     let e = expr_of c.deref.result.now in
     let body = code_view c.deref-in-Way.result.now in
     let whole : first_way x (way e body (code_view c.in-Way.ways.value)) w found n ≡ first_way x (code_view c.args.code.now) w found n =
     rw (c.deref.ensures, c.deref-in-Way.ensures, c.in-Way.is) refl in
-    subst (λ r. Gives met_view c.way_at.result r) (way_is x e body w found n ∙ whole) c.way_at.ensures
+    subst (λ r. Gives way_step_view c.way_at.result r) (way_is x e body w found n ∙ whole) c.way_at.ensures

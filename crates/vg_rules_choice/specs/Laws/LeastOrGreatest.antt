@@ -76,7 +76,8 @@ by_zeros = record {
 }
 
 -- a number of one of two, made of the one that the test takes
-picked : (t : Bool) (made : ℕ → ℕ) (c r x y a b : ℕ) → c ≡ (if t then 1 else 0) → r ≡ (if t then x else y) → a ≡ made x → b ≡ made y → made r ≡ (if nat_eq c 1 then a else b)
+picked : (t : Bool) (made : ℕ → ℕ) (c r x y a b : ℕ) → c ≡ (if t then 1 else 0) → r ≡ (if t then x else y) →
+    a ≡ made x → b ≡ made y → made r ≡ (if nat_eq c 1 then a else b)
 picked true made c r x y a b hc hr ha hb = ap made hr ∙ sym ha ∙ sym (ap (λ k. if nat_eq k 1 then a else b) hc)
 picked false made c r x y a b hc hr ha hb = ap made hr ∙ sym hb ∙ sym (ap (λ k. if nat_eq k 1 then a else b) hc)
 
@@ -85,19 +86,25 @@ module _ (op : TwoOp) (test : ℕ → ℕ → ℕ → Bool) (is : Choice op test
   same = sym (is.one_width m (width_of p) (width_of q) g.2.1)
 
   -- a stretch of p, or of q, has the number of that, extended
-  of_p : (env : Env) (s : Tree) → is_same_term s (stretch (extension_under op) w p) ≡ true → value env s ≡ one_value (extension_under op) w 0 (width_of p) (value env p)
+  of_p : (env : Env) (s : Tree) → is_same_term s (stretch (extension_under op) w p) ≡ true →
+      value env s ≡ one_value (extension_under op) w 0 (width_of p) (value env p)
   of_p env s t = ap (value env) (same_term s _ t) ∙ stretch-value env (extension_under op) w p is.extends g.2.2 l
 
-  of_q : (env : Env) (s : Tree) → is_same_term s (stretch (extension_under op) w q) ≡ true → value env s ≡ one_value (extension_under op) w 0 (width_of p) (value env q)
+  of_q : (env : Env) (s : Tree) → is_same_term s (stretch (extension_under op) w q) ≡ true →
+      value env s ≡ one_value (extension_under op) w 0 (width_of p) (value env q)
   of_q env s t =
       let k : width_of q ≤ w = omega (arith, same) in
-      ap (value env) (same_term s _ t) ∙ stretch-value env (extension_under op) w q is.extends g.2.3 k ∙ ap (λ n. one_value (extension_under op) w 0 n (value env q)) same
+      ap (value env) (same_term s _ t) ∙ stretch-value env (extension_under op) w q is.extends g.2.3 k
+      ∙ ap (λ n. one_value (extension_under op) w 0 n (value env q)) same
 
   -- an operation on p and q that has the number that is selected
   Selects : TwoOp → Type 0
-  Selects o = (env : Env) → one_value (extension_under op) w 0 (width_of p) (two_value o (width_of p) (width_of q) (value env p) (value env q)) ≡ value env (sel w (two op m p q) a b)
+  Selects o =
+      (env : Env) →
+      one_value (extension_under op) w 0 (width_of p) (two_value o (width_of p) (width_of q) (value env p) (value env q)) ≡ value env (sel w (two op m p q) a b)
 
-  selects-promises : (o : TwoOp) → Fits o → Selects o → Promises (sel w (two op m p q) a b) (widened (extension_under op) w (two o (width_of p) p q))
+  selects-promises : (o : TwoOp) → Fits o → Selects o →
+      Promises (sel w (two op m p q) a b) (widened (extension_under op) w (two o (width_of p) p q))
   unfolding Selects
   selects-promises o fit number =
       let t = two o (width_of p) p q in
@@ -108,7 +115,8 @@ module _ (op : TwoOp) (test : ℕ → ℕ → ℕ → Bool) (is : Choice op test
           width = widened-width (extension_under op) w t l;
           value = λ env. widened-value env (extension_under op) w t is.extends f l ∙ number env;
         };
-        falls = inl (omega (arith, widened-weight (extension_under op) w t is.extends l, fit.own (width_of p), is.compared m (width_of p), g.0.0));
+        falls =
+            inl (omega (arith, widened-weight (extension_under op) w t is.extends l, fit.own (width_of p), is.compared m (width_of p), g.0.0));
       }
 
   lesser-selects : are_stretches (extension_under op) w p q a b ≡ true → Selects (lesser_under op)
@@ -131,7 +139,9 @@ module _ (op : TwoOp) (test : ℕ → ℕ → ℕ → Bool) (is : Choice op test
       (λ t. selects-promises (lesser_under op) is.lesser (lesser-selects t))
       (λ t. selects-promises (greater_under op) is.greater (greater-selects t)) e
 
-ordered-promises : (op : TwoOp) (w m : ℕ) (p q a b new : Tree) → is_order op ≡ true → WellFormed (sel w (two op m p q) a b) → width_of p ≤ w → chosen op w p q a b ≡ Some new → Promises (sel w (two op m p q) a b) new
+ordered-promises : (op : TwoOp) (w m : ℕ) (p q a b new : Tree) → is_order op ≡ true →
+    WellFormed (sel w (two op m p q) a b) → width_of p ≤ w → chosen op w p q a b ≡ Some new →
+    Promises (sel w (two op m p q) a b) new
 ordered-promises Slt w m p q a b new t g l e = chosen-promises Slt signed_less by_sign w m p q a b g l new e
 ordered-promises Ult w m p q a b new t g l e = chosen-promises Ult unsigned_less by_zeros w m p q a b g l new e
 ordered-promises _ w m p q a b new t g l e = absurd (cc)

@@ -19,18 +19,22 @@ one_term w c x y e g = record {
   keeps = record {
     well_formed = g.3;
     width = g.1.1;
-    value = λ env. sym (ap (λ t. if nat_eq (value env c) 1 then value env x else value env t) (sym e) ∙ either_same _ (value env x));
+    value =
+        λ env. sym (ap (λ t. if nat_eq (value env c) 1 then value env x else value env t) (sym e)
+        ∙ either_same _ (value env x));
   };
   falls = falls_to_then w c x y;
 }
 
-by_constant : (w n v : ℕ) (x y : Tree) → WellFormed (sel w (constant n v) x y) → Promises (sel w (constant n v) x y) (if nat_eq v 1 then x else y)
+by_constant : (w n v : ℕ) (x y : Tree) → WellFormed (sel w (constant n v) x y) →
+    Promises (sel w (constant n v) x y) (if nat_eq v 1 then x else y)
 by_constant w n v x y g =
     cond_both (nat_eq v 1) x y (Promises (sel w (constant n v) x y))
     (λ t. record { keeps = record { well_formed = g.3; width = g.1.1; value = λ env. sym (cond-true _ _ _ t) }; falls = falls_to_then w (constant n v) x y })
     (λ t. record { keeps = record { well_formed = g.4; width = g.1.2; value = λ env. sym (cond-false _ _ _ t) }; falls = falls_to_else w (constant n v) x y })
 
-selected-promises : (w : ℕ) (c x y new : Tree) → WellFormed (sel w c x y) → selected c x y ≡ Some new → Promises (sel w c x y) new
+selected-promises : (w : ℕ) (c x y new : Tree) → WellFormed (sel w c x y) → selected c x y ≡ Some new →
+    Promises (sel w c x y) new
 selected-promises w (constant n v) x y new g e = given _ _ new (by_constant w n v x y g) e
 selected-promises w _ x y new g e = absurd (cc)
 
@@ -53,7 +57,8 @@ exchanged : (b : Bool) (m n : ℕ) → (if b then n else m) ≡ (if not b then m
 exchanged true m n = refl
 exchanged false m n = refl
 
-by_opposite : (w m n v : ℕ) (c x y : Tree) → v ≡ 1 → WellFormed (sel w (two Xor m c (constant n v)) x y) → Promises (sel w (two Xor m c (constant n v)) x y) (sel w c y x)
+by_opposite : (w m n v : ℕ) (c x y : Tree) → v ≡ 1 → WellFormed (sel w (two Xor m c (constant n v)) x y) →
+    Promises (sel w (two Xor m c (constant n v)) x y) (sel w c y x)
 by_opposite w m n v c x y e g =
     let one : width_of c ≡ 1 = g.2.1.0 ∙ g.1.0 in
     record {
@@ -62,8 +67,10 @@ by_opposite w m n v c x y e g =
         width = refl;
         value = λ env.
             let bit : value env c < 2 = subst (λ k. value env c < 2 ^ k) one (value-below env c g.2.2) in
-            let test : nat_eq (bit_xor (value env c) v) 1 ≡ not (nat_eq (value env c) 1) = ap (λ k. nat_eq (bit_xor (value env c) k) 1) e ∙ opposite (value env c) bit in
-            exchanged (nat_eq (value env c) 1) (value env x) (value env y) ∙ sym (ap (λ b. if b then value env x else value env y) test);
+            let test : nat_eq (bit_xor (value env c) v) 1 ≡ not (nat_eq (value env c) 1) =
+            ap (λ k. nat_eq (bit_xor (value env c) k) 1) e ∙ opposite (value env c) bit in
+            exchanged (nat_eq (value env c) 1) (value env x) (value env y)
+            ∙ sym (ap (λ b. if b then value env x else value env y) test);
       };
       falls = inl (omega arith);
     }

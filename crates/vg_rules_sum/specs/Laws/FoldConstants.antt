@@ -22,8 +22,10 @@ constant-fixed (one op w k x) h e f = absurd (cc)
 constant-fixed (two op w x y) h e f = absurd (cc)
 constant-fixed (sel w c x y) h e f = absurd (cc)
 
-pub two-fixed : (x y : Tree) → is_constant x ≡ true → is_constant y ≡ true → (e f : Env) (g : ℕ → ℕ → ℕ) → g (value e x) (value e y) ≡ g (value f x) (value f y)
-two-fixed x y h k e f g = ap (λ v. g v (value e y)) (constant-fixed x h e f) ∙ ap (g (value f x)) (constant-fixed y k e f)
+pub two-fixed : (x y : Tree) → is_constant x ≡ true → is_constant y ≡ true → (e f : Env) (g : ℕ → ℕ → ℕ) →
+    g (value e x) (value e y) ≡ g (value f x) (value f y)
+two-fixed x y h k e f g =
+    ap (λ v. g v (value e y)) (constant-fixed x h e f) ∙ ap (g (value f x)) (constant-fixed y k e f)
 
 value-fixed : (t : Tree) → is_over_constants t ≡ true → (e f : Env) → value e t ≡ value f t
 value-fixed (one op w k x) h e f = ap (one_value op w k (width_of x)) (constant-fixed x h e f)
@@ -33,7 +35,8 @@ value-fixed (two op w x y) h e f =
 value-fixed (sel w c x y) h e f =
     let all = and_parts (is_constant c) _ h in
     let both = and_parts (is_constant x) (is_constant y) all.1 in
-    ap (λ v. if nat_eq v 1 then value e x else value e y) (constant-fixed c all.0 e f) ∙ two-fixed x y both.0 both.1 e f (λ a b. if nat_eq (value f c) 1 then a else b)
+    ap (λ v. if nat_eq v 1 then value e x else value e y) (constant-fixed c all.0 e f)
+    ∙ two-fixed x y both.0 both.1 e f (λ a b. if nat_eq (value f c) 1 then a else b)
 value-fixed (leaf w k) h e f = absurd (cc)
 value-fixed (constant w v) h e f = absurd (cc)
 
@@ -48,6 +51,7 @@ pub fold_constants-sound : IsSound fold_constants
 unfolding fold_constants
 fold_constants-sound old new g e =
     given_if (is_over_constants old) old (folded old) new (λ t. record {
-      keeps = record { well_formed = (width_range old g, value-below nothing old g); width = refl; value = λ env. value-fixed old t nothing env };
+      keeps =
+          record { well_formed = (width_range old g, value-below nothing old g); width = refl; value = λ env. value-fixed old t nothing env };
       falls = inl (folded-falls old t g);
     }) e

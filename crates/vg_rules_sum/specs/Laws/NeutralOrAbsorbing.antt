@@ -39,7 +39,8 @@ absorbing_chains Cat w v h = absurd (cc)
 at_number : (op : TwoOp) (w a c v : ℕ) → nat_eq c v ≡ true → two_value op w w a c ≡ c → two_value op w w a v ≡ v
 at_number op w a c v h e = subst (λ n. two_value op w w a n ≡ n) (eqb-true c v h) e
 
-pub absorbing_right : (op : TwoOp) (w a v : ℕ) → 0 < w → a < 2 ^ w → is_absorbing op w v ≡ true → two_value op w w a v ≡ v
+pub absorbing_right : (op : TwoOp) (w a v : ℕ) → 0 < w → a < 2 ^ w → is_absorbing op w v ≡ true →
+    two_value op w w a v ≡ v
 absorbing_right Mul w a v h p e = at_number Mul w a 0 v e (ap (λ n. n % 2 ^ w) (omega arith) ∙ mod-eq_of_lt (pow_pos w))
 absorbing_right And w a v h p e = at_number And w a 0 v e (and_zero_r a)
 absorbing_right Or w a v h p e = at_number Or w a _ v e (or_ones w a p)
@@ -54,7 +55,8 @@ absorbing_right Slt w a v h p e = absurd (cc)
 absorbing_right Ult w a v h p e = absurd (cc)
 absorbing_right Cat w a v h p e = absurd (cc)
 
-neutral-keeps : (op : TwoOp) (w n v : ℕ) (x : Tree) → is_neutral op w v ≡ true → WellFormed (two op w x (constant n v)) → Keeps (two op w x (constant n v)) x
+neutral-keeps : (op : TwoOp) (w n v : ℕ) (x : Tree) → is_neutral op w v ≡ true →
+    WellFormed (two op w x (constant n v)) → Keeps (two op w x (constant n v)) x
 neutral-keeps op w n v x t g =
     let tests = and_parts (makes_chains op) _ t in
     let fits = chain_fits op w (width_of x) n tests.0 g.1 in
@@ -67,7 +69,8 @@ neutral-keeps op w n v x t g =
           ∙ ap (two_value op w w (value env x)) is ∙ ap (λ m. two_value op w m (value env x) v) (sym fits.1);
     }
 
-absorbing-keeps : (op : TwoOp) (w n v : ℕ) (x : Tree) → is_absorbing op w v ≡ true → WellFormed (two op w x (constant n v)) → Keeps (two op w x (constant n v)) (constant n v)
+absorbing-keeps : (op : TwoOp) (w n v : ℕ) (x : Tree) → is_absorbing op w v ≡ true →
+    WellFormed (two op w x (constant n v)) → Keeps (two op w x (constant n v)) (constant n v)
 absorbing-keeps op w n v x t g =
     let fits = chain_fits op w (width_of x) n (absorbing_chains op w v t) g.1 in
     record {

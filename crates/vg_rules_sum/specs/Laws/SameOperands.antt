@@ -19,15 +19,18 @@ use Rattle.vg_terms.specs.Table.{Promises, IsSound}
 use Rattle.vg_terms.proofs.Tables.{given, tested}
 
 -- the term of the operation on x twice, of width w as x is
-keeps_itself : (op : TwoOp) (w : ℕ) (x : Tree) → twice op w x ≡ x → makes_chains op ≡ true → WellFormed (two op w x x) → ((a : ℕ) → two_value op w w a a ≡ a) → Promises (two op w x x) (twice op w x)
+keeps_itself : (op : TwoOp) (w : ℕ) (x : Tree) → twice op w x ≡ x → makes_chains op ≡ true →
+    WellFormed (two op w x x) → ((a : ℕ) → two_value op w w a a ≡ a) → Promises (two op w x x) (twice op w x)
 keeps_itself op w x e c g same =
     let fits = chain_fits op w (width_of x) (width_of x) c g.1 in
     subst (Promises (two op w x x)) (sym e) (record {
-      keeps = record { well_formed = g.2; width = fits.0; value = λ env. sym (ap (λ n. two_value op w n (value env x) (value env x)) fits.0 ∙ same (value env x)) };
+      keeps =
+          record { well_formed = g.2; width = fits.0; value = λ env. sym (ap (λ n. two_value op w n (value env x) (value env x)) fits.0 ∙ same (value env x)) };
       falls = falls_to_first op w x x;
     })
 
-twice-promises : (op : TwoOp) (w : ℕ) (x : Tree) → is_known_twice op ≡ true → WellFormed (two op w x x) → Promises (two op w x x) (twice op w x)
+twice-promises : (op : TwoOp) (w : ℕ) (x : Tree) → is_known_twice op ≡ true → WellFormed (two op w x x) →
+    Promises (two op w x x) (twice op w x)
 twice-promises And w x h g = keeps_itself And w x refl refl g and_self
 twice-promises Or w x h g = keeps_itself Or w x refl refl g or_self
 twice-promises Xor w x h g = record {

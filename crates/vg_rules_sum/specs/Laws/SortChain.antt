@@ -9,8 +9,10 @@ use Rattle.vg_rules_sum.specs.Rules.{put_in_order, sort_chain}
 use Rattle.vg_terms.specs.Table.{Promises, IsSound}
 use Rattle.vg_terms.proofs.Tables.{given_if}
 
-chain-promises : (op : TwoOp) (w : ℕ) (x y : Tree) → makes_chains op ≡ true → WellFormed (two op w x y) → is_disordered (two op w x y) ≡ true → Promises (two op w x y) (chain_of op w (sorted (parts op (two op w x y))))
-chain-promises op w x y c g d = record { keeps = sorted-keeps op w (two op w x y) c g.0.0 g refl; falls = sorted-falls op w x y c g d }
+chain-promises : (op : TwoOp) (w : ℕ) (x y : Tree) → makes_chains op ≡ true → WellFormed (two op w x y) →
+    is_disordered (two op w x y) ≡ true → Promises (two op w x y) (chain_of op w (sorted (parts op (two op w x y))))
+chain-promises op w x y c g d =
+    record { keeps = sorted-keeps op w (two op w x y) c g.0.0 g refl; falls = sorted-falls op w x y c g d }
 
 in_order-promises : (t : Tree) → WellFormed t → is_disordered t ≡ true → Promises t (put_in_order t)
 in_order-promises (two Add w x y) g d = chain-promises Add w x y refl g d

@@ -55,24 +55,32 @@ module _ (old : Tree) (op : TwoOp) (w m : ℕ) (x y : Tree) (h : Narrows old op 
       let ly : n ≤ width_of y = omega (arith, h.second) in
       low_two-formed op n n x y (some, most) (h.fits n) some lx ly h.formed.2 h.formed.3
 
-  part-value : (env : Env) (n : ℕ) → n < w → value env (low_two op n n x y) ≡ two_value op n n (value env x % 2 ^ n) (value env y % 2 ^ n)
+  part-value : (env : Env) (n : ℕ) → n < w →
+      value env (low_two op n n x y) ≡ two_value op n n (value env x % 2 ^ n) (value env y % 2 ^ n)
   part-value env n less =
       let lx : n ≤ width_of x = omega (arith, h.first) in
       let ly : n ≤ width_of y = omega (arith, h.second) in
       low_two-value env op n n x y lx ly h.formed.2 h.formed.3
 
-  part-unsigned : (env : Env) (n : ℕ) → n < w → value env (two op w x y) < 2 ^ n → value env (low_two op n n x y) ≡ value env (two op w x y)
+  part-unsigned : (env : Env) (n : ℕ) → n < w → value env (two op w x y) < 2 ^ n →
+      value env (low_two op n n x y) ≡ value env (two op w x y)
   part-unsigned env n less b =
       let l : n ≤ w = omega arith in
-      part-value env n less ∙ narrow-unsigned op w n (value env x) (value env y) h.low l (subst (λ v. v < 2 ^ n) (at_w env) b) ∙ sym (at_w env)
+      part-value env n less
+      ∙ narrow-unsigned op w n (value env x) (value env y) h.low l (subst (λ v. v < 2 ^ n) (at_w env) b)
+      ∙ sym (at_w env)
 
-  part-signed : (env : Env) (n : ℕ) → 0 < n → n < w → magnitude (signed_at w (value env (two op w x y))) < 2 ^ (n - 1) → signed_at n (value env (low_two op n n x y)) ≡ signed_at w (value env (two op w x y))
+  part-signed : (env : Env) (n : ℕ) → 0 < n → n < w →
+      magnitude (signed_at w (value env (two op w x y))) < 2 ^ (n - 1) →
+      signed_at n (value env (low_two op n n x y)) ≡ signed_at w (value env (two op w x y))
   part-signed env n some less b =
       let l : n ≤ w = omega arith in
       let below = subst (λ v. v < 2 ^ w) (at_w env) (value-below env (two op w x y) h.formed) in
-      ap (signed_at n) (part-value env n less) ∙ narrow-signed op w n (value env x) (value env y) h.low some l below (subst (λ v. magnitude (signed_at w v) < 2 ^ (n - 1)) (at_w env) b) ∙ sym (ap (signed_at w) (at_w env))
+      ap (signed_at n) (part-value env n less)
+      ∙ narrow-signed op w n (value env x) (value env y) h.low some l below (subst (λ v. magnitude (signed_at w v) < 2 ^ (n - 1)) (at_w env) b) ∙ sym (ap (signed_at w) (at_w env))
 
-  unsigned-promises : (n : ℕ) → 0 < n → n < w → ((env : Env) → value env old ≡ value env (two op w x y)) → ((env : Env) → value env (two op w x y) < 2 ^ n) → Promises old (extended_operation Zext m op n x y)
+  unsigned-promises : (n : ℕ) → 0 < n → n < w → ((env : Env) → value env old ≡ value env (two op w x y)) →
+      ((env : Env) → value env (two op w x y) < 2 ^ n) → Promises old (extended_operation Zext m op n x y)
   unsigned-promises n some less same b =
       let wider : n < m = omega (arith, h.wide) in
       record {
@@ -84,7 +92,10 @@ module _ (old : Tree) (op : TwoOp) (w m : ℕ) (x y : Tree) (h : Narrows old op 
         falls = inl (omega (arith, low_two-weight op n n x y, h.own n, h.heavy));
       }
 
-  signed-promises : (n : ℕ) → 0 < n → n < w → ((env : Env) → value env old ≡ residue m (signed_at w (value env (two op w x y)))) → ((env : Env) → magnitude (signed_at w (value env (two op w x y))) < 2 ^ (n - 1)) → Promises old (extended_operation Sext m op n x y)
+  signed-promises : (n : ℕ) → 0 < n → n < w →
+      ((env : Env) → value env old ≡ residue m (signed_at w (value env (two op w x y)))) →
+      ((env : Env) → magnitude (signed_at w (value env (two op w x y))) < 2 ^ (n - 1)) →
+      Promises old (extended_operation Sext m op n x y)
   signed-promises n some less same b =
       let wider : n < m = omega (arith, h.wide) in
       record {
@@ -96,29 +107,35 @@ module _ (old : Tree) (op : TwoOp) (w m : ℕ) (x y : Tree) (h : Narrows old op 
         falls = inl (omega (arith, low_two-weight op n n x y, h.own n, h.heavy));
       }
 
-  narrowed-promises : (new : Tree) → ((env : Env) → value env old ≡ residue m (signed_at w (value env (two op w x y)))) → narrowed (known (two op w x y)) w m op x y ≡ Some new → Promises old new
+  narrowed-promises : (new : Tree) →
+      ((env : Env) → value env old ≡ residue m (signed_at w (value env (two op w x y)))) →
+      narrowed (known (two op w x y)) w m op x y ≡ Some new → Promises old new
   narrowed-promises new same e =
       let k = known (two op w x y) in
       let holds = λ (env : Env). known-holds env (two op w x y) h.formed in
       given_else (nat_lt k.unsigned w) (nat_lt k.signed w) old _ _ new
       (λ t. let less = ltb-true k.unsigned w t in
-      unsigned-promises k.unsigned (known_some (two op w x y) h.formed).0 less (λ env. same env ∙ extended_low w m k.unsigned (value env (two op w x y)) (holds env).below less h.wide) (λ env. (holds env).below))
+      unsigned-promises k.unsigned (known_some (two op w x y) h.formed).0 less (λ env. same env
+      ∙ extended_low w m k.unsigned (value env (two op w x y)) (holds env).below less h.wide) (λ env. (holds env).below))
       (λ t. signed-promises k.signed (known_some (two op w x y) h.formed).1 (ltb-true k.signed w t) same (λ env. (holds env).within)) e
 
 pub narrow_product-sound : IsSound narrow_product
 unfolding narrow_product
 narrow_product-sound (two Mul w x y) new f e =
-    let h : Narrows (two Mul w x y) Mul w w x y = record { low = refl; fits = λ n. (refl, refl); own = λ n. refl; first = f.1.0; second = f.1.1; formed = f; wide = omega arith; width = f.0; is = refl; heavy = omega arith } in
+    let h : Narrows (two Mul w x y) Mul w w x y =
+    record { low = refl; fits = λ n. (refl, refl); own = λ n. refl; first = f.1.0; second = f.1.1; formed = f; wide = omega arith; width = f.0; is = refl; heavy = omega arith } in
     narrowed-promises (two Mul w x y) Mul w w x y h new (λ env. sym (residue-signed w (value env (two Mul w x y)) (value-below env (two Mul w x y) f))) e
 narrow_product-sound _ new f e = absurd (cc)
 
 pub narrow_extended_sum-sound : IsSound narrow_extended_sum
 unfolding narrow_extended_sum
 narrow_extended_sum-sound (one Sext m z (two Add w x y)) new f e =
-    let h : Narrows (one Sext m z (two Add w x y)) Add w m x y = record { low = refl; fits = λ n. (refl, refl); own = λ n. refl; first = f.2.1.0; second = f.2.1.1; formed = f.2; wide = omega (arith, f.1.0); width = f.0; is = refl; heavy = omega arith } in
+    let h : Narrows (one Sext m z (two Add w x y)) Add w m x y =
+    record { low = refl; fits = λ n. (refl, refl); own = λ n. refl; first = f.2.1.0; second = f.2.1.1; formed = f.2; wide = omega (arith, f.1.0); width = f.0; is = refl; heavy = omega arith } in
     narrowed-promises (one Sext m z (two Add w x y)) Add w m x y h new (λ env. refl) e
 narrow_extended_sum-sound (one Zext m z (two Add w x y)) new f e =
-    let h : Narrows (one Zext m z (two Add w x y)) Add w m x y = record { low = refl; fits = λ n. (refl, refl); own = λ n. refl; first = f.2.1.0; second = f.2.1.1; formed = f.2; wide = omega (arith, f.1.0); width = f.0; is = refl; heavy = omega arith } in
+    let h : Narrows (one Zext m z (two Add w x y)) Add w m x y =
+    record { low = refl; fits = λ n. (refl, refl); own = λ n. refl; first = f.2.1.0; second = f.2.1.1; formed = f.2; wide = omega (arith, f.1.0); width = f.0; is = refl; heavy = omega arith } in
     let u = (known (two Add w x y)).unsigned in
     let holds = λ (env : Env). known-holds env (two Add w x y) f.2 in
     given_if (nat_lt u w) _ _ new (λ t. unsigned-promises (one Zext m z (two Add w x y)) Add w m x y h u (known_some (two Add w x y) f.2).0 (ltb-true u w t) (λ env. refl) (λ env. (holds env).below)) e

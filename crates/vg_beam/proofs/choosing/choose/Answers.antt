@@ -1,5 +1,5 @@
 use Rattle.std.proofs.Common.{map}
-use Rattle.vg_packing.specs.Fed.{unfed}
+use Rattle.vg_kernel_plans.specs.Fed.{unfed}
 use Rattle.vg_shapes.specs.Description.{description_of}
 use Rattle.vg_beam.proofs.Chosen.{by-search, is-chosen, short-by}
 use Rattle.vg_beam.proofs.choosing.choose.Goals as goal

@@ -1,7 +1,7 @@
 use Rattle.std.proofs.Common.{◌∙◌, ap, subst, sym}
 use Rattle.std.proofs.lemmas.List.{drop_all}
-use Rattle.vg_packing.specs.Completed.{turns_of}
-use Rattle.vg_packing.specs.Fed.{IsPlanBy}
+use Rattle.vg_kernel_plans.specs.Completed.{turns_of}
+use Rattle.vg_kernel_plans.specs.Fed.{IsPlanBy}
 use Rattle.vg_plans.specs.Completed.{careful_with_all}
 use Rattle.vg_plans.specs.Crowded.{empty}
 use Rattle.vg_plans.specs.Members.{Has}

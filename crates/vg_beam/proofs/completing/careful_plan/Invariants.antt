@@ -1,6 +1,6 @@
 use Rattle.std.proofs.Common.{◌≡◌, [], drop}
-use Rattle.vg_packing.specs.Completed.{turns_of}
-use Rattle.vg_packing.specs.Fed.{IsPlanBy}
+use Rattle.vg_kernel_plans.specs.Completed.{turns_of}
+use Rattle.vg_kernel_plans.specs.Fed.{IsPlanBy}
 use Rattle.vg_plans.specs.Completed.{careful_with_all}
 use Rattle.vg_beam.specs.SearchSpace.{choice_of, cost_in, described, world_of}
 use Rattle.vg_beam.proofs.completing.careful_plan.Given as goal

@@ -1,8 +1,8 @@
 use Rattle.std.proofs.Common.{◌∙◌, subst, sym}
 use Rattle.std.specs.List.{AllByRecursion}
-use Rattle.vg_packing.specs.Completed.{turns_of}
-use Rattle.vg_packing.specs.Fed.{IsPlanBy}
-use Rattle.vg_packing.specs.Taken.{IsShort}
+use Rattle.vg_kernel_plans.specs.Completed.{turns_of}
+use Rattle.vg_kernel_plans.specs.Fed.{IsPlanBy}
+use Rattle.vg_kernel_plans.specs.Taken.{IsShort}
 use Rattle.vg_beam.specs.SearchSpace.{choice_of, cost_in, described, world_of}
 use Rattle.vg_beam.proofs.Completion.{careful-none, careful-some, group-plan, lesser-is, none-completed, some-completed}
 use Rattle.vg_beam.proofs.completing.careful_with.Goals as goal

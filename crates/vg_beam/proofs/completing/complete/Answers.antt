@@ -1,7 +1,7 @@
 use Rattle.std.proofs.Common.{◌∙◌, subst, sym}
 use Rattle.std.specs.List.{AllByRecursion}
-use Rattle.vg_packing.specs.Completed.{turns_of}
-use Rattle.vg_packing.specs.Taken.{IsShort}
+use Rattle.vg_kernel_plans.specs.Completed.{turns_of}
+use Rattle.vg_kernel_plans.specs.Taken.{IsShort}
 use Rattle.vg_plans.proofs.Completed.{completed-plan}
 use Rattle.vg_beam.specs.SearchSpace.{world_of}
 use Rattle.vg_beam.proofs.completing.complete.Goals as goal

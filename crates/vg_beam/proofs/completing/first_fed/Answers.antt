@@ -1,7 +1,7 @@
 use Rattle.std.proofs.Common.{◌∙◌, ◌∷◌, [], ap, subst, sym}
 use Rattle.std.specs.List.{AllByRecursion}
-use Rattle.vg_packing.specs.Completed.{turns_of}
-use Rattle.vg_packing.specs.Taken.{IsShort}
+use Rattle.vg_kernel_plans.specs.Completed.{turns_of}
+use Rattle.vg_kernel_plans.specs.Taken.{IsShort}
 use Rattle.vg_plans.proofs.Plain.{plain-plan}
 use Rattle.vg_plans.specs.Completed.{careful_with_all}
 use Rattle.vg_plans.specs.Levels.{first_least}

@@ -1,8 +1,8 @@
 use Rattle.std.proofs.Common.{◌∙◌, [], ap, arith, refl, subst, sym}
-use Rattle.vg_packing.specs.Completed.{turns_of}
-use Rattle.vg_packing.specs.Fed.{IsPlanBy}
+use Rattle.vg_kernel_plans.specs.Completed.{turns_of}
+use Rattle.vg_kernel_plans.specs.Fed.{IsPlanBy}
 use Rattle.vg_plans.specs.Completed.{completed}
-use Rattle.vg_beam.specs.Kept.{plan_at, plan_of, plans_of}
+use Rattle.vg_beam.specs.BeamPlan.{plan_at, plan_of, plans_of}
 use Rattle.vg_beam.specs.SearchSpace.{choice_of, cost_in, described, world_of}
 use Rattle.vg_beam.proofs.Completion.{completed-end, completed-more}
 use Rattle.vg_beam.proofs.Numbers.{every-any, length-map}

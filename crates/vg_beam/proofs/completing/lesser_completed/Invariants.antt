@@ -1,8 +1,8 @@
 use Rattle.std.proofs.Common.{◌≡◌, map, take}
-use Rattle.vg_packing.specs.Completed.{turns_of}
+use Rattle.vg_kernel_plans.specs.Completed.{turns_of}
 use Rattle.vg_plans.specs.Completed.{completed}
 use Rattle.vg_plans.specs.Levels.{first_least}
-use Rattle.vg_beam.specs.Kept.{plans_of}
+use Rattle.vg_beam.specs.BeamPlan.{plans_of}
 use Rattle.vg_beam.specs.SearchSpace.{cost_in, world_of}
 use Rattle.vg_beam.proofs.completing.lesser_completed.Given as goal
 

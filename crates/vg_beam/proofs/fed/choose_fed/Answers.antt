@@ -1,6 +1,6 @@
 use Rattle.std.proofs.Common.{map}
-use Rattle.vg_packing.specs.Completed.{turns_of}
-use Rattle.vg_packing.specs.Fed.{fed_aligned, packing_by}
+use Rattle.vg_kernel_plans.specs.Completed.{turns_of}
+use Rattle.vg_kernel_plans.specs.Fed.{fed_aligned, packing_by}
 use Rattle.vg_plans.specs.Completed.{careful_plan}
 use Rattle.vg_plans.specs.PlainPlan.{plain_plan}
 use Rattle.vg_shapes.specs.Description.{description_of}

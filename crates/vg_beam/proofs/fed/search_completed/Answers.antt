@@ -1,7 +1,7 @@
 use Rattle.std.proofs.Common.{◌≡◌, ◌∙◌, ◌++◌, ◌∷◌, [], ap, arith, map, subst, sym}
 use Rattle.std.proofs.lemmas.Bool.Decides.{nat_tests}
-use Rattle.vg_packing.specs.Completed.{turns_of}
-use Rattle.vg_packing.specs.Fed.{IsPlanBy}
+use Rattle.vg_kernel_plans.specs.Completed.{turns_of}
+use Rattle.vg_kernel_plans.specs.Fed.{IsPlanBy}
 use Rattle.vg_plans.specs.Completed.{completed}
 use Rattle.vg_plans.specs.Crowded.{empty}
 use Rattle.vg_plans.specs.Levels.{candidates, first_least, kept_of, kept_within, met_within}
@@ -9,7 +9,7 @@ use Rattle.vg_plans.specs.Members.{Every}
 use Rattle.vg_plans.specs.World.{follows, same_packs}
 use Rattle.vg_beam.specs.declared.priced_plan.PricedPlan.{PricedPlan}
 use Rattle.vg_beam.specs.SearchSpace.{choice_of, cost_in, described, world_of}
-use Rattle.vg_beam.specs.Kept.{IsKept, plans_of}
+use Rattle.vg_beam.specs.BeamPlan.{IsKept, plans_of}
 use Rattle.vg_beam.proofs.Chosen.{beside}
 use Rattle.vg_beam.proofs.Growing.{first-kept, first-level, first-met, least-priced, next-kept, next-level, next-met, none-found}
 use Rattle.vg_beam.proofs.fed.search_completed.Goals as goal
@@ -31,8 +31,8 @@ sizes-init c =
     let one = c.in_ok-push.ensures.items ∙ ap (λ l. l ++ c.in_ok-empty.empty ∷ []) c.new-level.ensures.items in
     let first = ap plans_of one ∙ ap (λ p. p ∷ []) c.in_ok-empty.ensures.plan in
     record {
-      board = c.in_ok-empty.ensures.board;
-      kept = subst (Every (IsKept (choice_of s) (described s) s.table.now s.ssa.now c.empty_plan.new.board.packs.items)) (sym one) (c.in_ok-empty.ensures.kept, tt);
+      pack_table = c.in_ok-empty.ensures.pack_table;
+      kept = subst (Every (IsKept (choice_of s) (described s) s.table.now s.ssa.now c.empty_plan.new.pack_table.packs.items)) (sym one) (c.in_ok-empty.ensures.kept, tt);
       plans = subst (Every (IsPlanBy (choice_of s) (described s) s.table.now s.ssa.now s.deps.now)) (sym first) (empty, tt);
       level = first-level (follows w) (same_packs w) (cost_in s) c.args.width (plans_of c.push.new.self.items) first;
       best = first-met (follows w) (same_packs w) (cost_in s) c.args.width c.args.first.plan;
@@ -59,7 +59,7 @@ sizes-preserved c =
     let level = next-level (follows w) (same_packs w) cost c.args.width c.sizes._size (plans_of c.sizes.level.items) _ i.level kept in
     let whole = completed w (turns_of s.ssa.now) in
     record {
-      board = t.board;
+      pack_table = t.pack_table;
       kept = t.kept;
       plans = t.plans;
       level = level;

@@ -1,7 +1,7 @@
 use Rattle.std.proofs.Common.{◌∙◌, ◌*◌, ◌∷◌, [], ap, length, subst, sym}
 use Rattle.std.specs.List.{AllByRecursion}
-use Rattle.vg_packing.specs.Packing.{packing, plain_of}
-use Rattle.vg_packing.specs.Taken.{IsShort}
+use Rattle.vg_kernel_plans.specs.Packing.{packing, plain_of}
+use Rattle.vg_kernel_plans.specs.Taken.{IsShort}
 use Rattle.vg_plans.proofs.Plain.{plain-plan}
 use Rattle.vg_plans.specs.Levels.{first_least}
 use Rattle.vg_beam.specs.SearchSpace.{cost_in, described}

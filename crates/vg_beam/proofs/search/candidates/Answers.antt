@@ -1,9 +1,9 @@
 use Rattle.std.proofs.Common.{[], arith, ap, refl}
-use Rattle.vg_packing.specs.Fed.{IsPlanBy}
+use Rattle.vg_kernel_plans.specs.Fed.{IsPlanBy}
 use Rattle.vg_plans.specs.World.{follows, same_packs}
 use Rattle.vg_beam.specs.SearchSpace.{choice_of, described, world_of}
 use Rattle.vg_beam.specs.Candidate.{grown_plans}
-use Rattle.vg_beam.specs.Kept.{plan_at, plan_of, plans_of}
+use Rattle.vg_beam.specs.BeamPlan.{plan_at, plan_of, plans_of}
 use Rattle.vg_beam.proofs.Candidates.{met-first}
 use Rattle.vg_beam.proofs.Growing.{plans-end, plans-step}
 use Rattle.vg_beam.proofs.Numbers.{every-any, length-map}
@@ -11,9 +11,9 @@ use Rattle.vg_beam.proofs.search.candidates.Goals as goal
 
 pub plans-init : goal.plans-init
 plans-init c = record {
-  met = met-first (choice_of c.args.space.now) (described c.args.space.now) c.args.space.now.table.now c.args.space.now.ssa.now c.args.space.now.deps.now c.args.board.now.packs.items c.args.level.now
+  met = met-first (choice_of c.args.space.now) (described c.args.space.now) c.args.space.now.table.now c.args.space.now.ssa.now c.args.space.now.deps.now c.args.pack_table.now.packs.items c.args.level.now
       c.new-met.result c.new-met.ensures.candidates c.new-met.ensures.keys;
-  plans = ap (grown_plans c.args.board.now.packs.items c.args.level.now) c.new-met.ensures.candidates;
+  plans = ap (grown_plans c.args.pack_table.now.packs.items c.args.level.now) c.new-met.ensures.candidates;
 }
 
 pub meet_all-requires-clause-plan : goal.meet_all-requires-clause-plan

@@ -1,5 +1,5 @@
 use Rattle.std.proofs.Common.{◌≡◌, ◌∙◌, ap, subst, sym}
-use Rattle.vg_packing.specs.Fed.{IsPlanBy}
+use Rattle.vg_kernel_plans.specs.Fed.{IsPlanBy}
 use Rattle.vg_plans.proofs.Lists.{every-kept}
 use Rattle.vg_plans.specs.Levels.{first_least, kept_of}
 use Rattle.vg_plans.specs.Members.{Every}
@@ -15,21 +15,21 @@ use Rattle.vg_beam.proofs.turn.turn.Goals as goal
 pub lesser-requires : goal.lesser-requires
 lesser-requires c =
     let s = c.args.space.now in
-    subst (Every (IsPlaced c.args.board.now.packs.items c.args.level.now)) (sym c.as_slice.ensures.value)
-    (all-placed (choice_of s) (described s) s.table.now s.ssa.now s.deps.now c.args.board.now.packs.items c.args.level.now c.in_ok-met.met.items c.in_ok-met.ensures.candidates)
+    subst (Every (IsPlaced c.args.pack_table.now.packs.items c.args.level.now)) (sym c.as_slice.ensures.value)
+    (all-placed (choice_of s) (described s) s.table.now s.ssa.now s.deps.now c.args.pack_table.now.packs.items c.args.level.now c.in_ok-met.met.items c.in_ok-met.ensures.candidates)
 
 pub grow_all-requires-clause-candidates : goal.grow_all-requires-clause-candidates
 grow_all-requires-clause-candidates c =
     let s = c.args.space.now in
-    let can = CanGrow (choice_of s) (described s) s.table.now s.ssa.now c.args.board.now.packs.items c.args.level.now in
+    let can = CanGrow (choice_of s) (described s) s.table.now s.ssa.now c.args.pack_table.now.packs.items c.args.level.now in
     subst (Every can) (sym (c.as_slice-2.ensures.value ∙ c.in_ok-kept.ensures))
     (every-kept can (λ (q : Candidate). q.cost) c.args.width c.in_ok-met.met.items
-    (all-growing (choice_of s) (described s) s.table.now s.ssa.now s.deps.now c.args.board.now.packs.items c.args.level.now c.requires.short c.in_ok-met.met.items c.in_ok-met.ensures.candidates))
+    (all-growing (choice_of s) (described s) s.table.now s.ssa.now s.deps.now c.args.pack_table.now.packs.items c.args.level.now c.requires.short c.in_ok-met.met.items c.in_ok-met.ensures.candidates))
 
 pub returns : goal.returns
 returns c =
     let s = c.args.space.now in
-    let packs = c.args.board.now.packs.items in
+    let packs = c.args.pack_table.now.packs.items in
     let plans = c.args.level.now in
     let met = c.in_ok-met.met.items in
     let cost = cost_in s in
@@ -49,7 +49,7 @@ returns c =
     ∙ ap (first_least cost c.args.best.plan) (plans-priced packs plans met ∙ c.in_ok-met.ensures.plans)
     in
     record {
-      board = c.in_ok-next.ensures.board;
+      pack_table = c.in_ok-next.ensures.pack_table;
       kept = c.in_ok-next.ensures.kept;
       plans = subst (Every (IsPlanBy (choice_of s) (described s) s.table.now s.ssa.now s.deps.now)) (sym last)
           (all-plans (choice_of s) (described s) s.table.now s.ssa.now s.deps.now packs plans _

@@ -4,7 +4,7 @@ use Rattle.vg_catalog.specs.Catalogs.{entries_in}
 use Rattle.vg_catalog.specs.Extensions.{bits_in}
 use Rattle.vg_kernel.specs.Tree.{tree_of}
 use Rattle.vg_shapes.specs.Description.{description_of}
-use Rattle.vg_instances.proofs.Proper.{catalog-proper}
+use Rattle.vg_descriptions.proofs.Proper.{catalog-proper}
 use Rattle.vg_compile.proofs.Whole.{compiled-whole}
 use Rattle.vg_compile.proofs.compiling.compile.Goals as goal
 

@@ -6,7 +6,7 @@ use Rattle.vg_catalog.specs.Extensions.{bits_in}
 use Rattle.vg_kernel.specs.Tree.{tree_of}
 use Rattle.vg_shapes.specs.Description.{description_of}
 use Rattle.vg_emission.specs.Truth.{IsCallable}
-use Rattle.vg_instances.proofs.Proper.{catalog-proper}
+use Rattle.vg_descriptions.proofs.Proper.{catalog-proper}
 use Rattle.vg_compile.proofs.MorePrograms.{more-known, more-grows, more-compiled}
 use Rattle.vg_compile.proofs.Whole.{all-callable}
 use Rattle.vg_compile.proofs.compiling.compile_more.Goals as goal

@@ -1,5 +1,5 @@
 use Rattle.std.proofs.Common.{◌∙◌, ◌+◌, ℕ, List, ap, map}
-use Rattle.vg_packing.specs.Packing.{packing}
+use Rattle.vg_kernel_plans.specs.Packing.{packing}
 use Rattle.vg_plans.specs.World.{plan_cost}
 use Rattle.vg_shapes.specs.Description.{description_of}
 use Rattle.vg_cost.proofs.Sums.{all_parts, whatever}

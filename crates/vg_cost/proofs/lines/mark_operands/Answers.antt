@@ -1,4 +1,4 @@
-use Rattle.vg_packing.specs.Wants.{value_of}
+use Rattle.vg_kernel_plans.specs.Wants.{value_of}
 use Rattle.vg_cost.proofs.Marking.{marked_three}
 use Rattle.vg_cost.proofs.lines.mark_operands.Goals as goal
 

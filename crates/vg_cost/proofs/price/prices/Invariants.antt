@@ -1,6 +1,6 @@
 use Rattle.std.proofs.Common.{◌≡◌, map, take}
 use Rattle.std.specs.Prelude.{sum_by}
-use Rattle.vg_packing.specs.Packing.{price_of}
+use Rattle.vg_kernel_plans.specs.Packing.{price_of}
 use Rattle.vg_shapes.specs.Description.{description_of}
 use Rattle.vg_cost.proofs.price.prices.Given as goal
 

@@ -1,7 +1,7 @@
 use Rattle.std.proofs.Common.{◌≡◌, ◌∙◌, subst}
 use Rattle.std.specs.Result.{IfOk}
 use Rattle.vg_cost.specs.LongerPlan.{described}
-use Rattle.vg_packing.specs.Shuffles.{shuffles}
+use Rattle.vg_kernel_plans.specs.Shuffles.{shuffles}
 use Rattle.vg_cost.specs.Had.{costs_had}
 use Rattle.vg_cost.proofs.recipe_cost.costs_behind.Goals as goal
 

@@ -1,5 +1,5 @@
 use Rattle.std.proofs.Common.{◌≡◌, map, take}
-use Rattle.vg_packing.specs.Shuffles.{shuffles}
+use Rattle.vg_kernel_plans.specs.Shuffles.{shuffles}
 use Rattle.vg_shapes.specs.Description.{description_of}
 use Rattle.vg_cost.specs.Had.{costs_had}
 use Rattle.vg_cost.proofs.recipes.costs_had.Given as goal

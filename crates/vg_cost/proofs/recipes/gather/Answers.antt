@@ -1,5 +1,5 @@
 use Rattle.std.proofs.Common.{[], map, refl}
-use Rattle.vg_packing.specs.Packing.{packing}
+use Rattle.vg_kernel_plans.specs.Packing.{packing}
 use Rattle.vg_plans.specs.World.{inserted, recipe_cost}
 use Rattle.vg_shapes.specs.Description.{description_of}
 use Rattle.vg_cost.proofs.Steps.{flat_more, sum_more}

@@ -1,6 +1,6 @@
 use Rattle.std.proofs.Common.{◌≡◌, [], map, take}
 use Rattle.std.specs.Prelude.{flat_map, sum_by}
-use Rattle.vg_packing.specs.Packing.{packing}
+use Rattle.vg_kernel_plans.specs.Packing.{packing}
 use Rattle.vg_plans.specs.World.{inserted, recipe_cost}
 use Rattle.vg_shapes.specs.Description.{description_of}
 use Rattle.vg_cost.proofs.recipes.gather.Given as goal

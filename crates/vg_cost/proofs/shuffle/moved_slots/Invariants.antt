@@ -1,6 +1,6 @@
 use Rattle.std.proofs.Common.{◌≡◌, take}
 use Rattle.std.specs.Prelude.{flat_map}
-use Rattle.vg_packing.specs.Shuffles.{moved_from}
+use Rattle.vg_kernel_plans.specs.Shuffles.{moved_from}
 use Rattle.vg_shapes.specs.Description.{description_of}
 use Rattle.vg_cost.proofs.shuffle.moved_slots.Given as goal
 

@@ -1,5 +1,5 @@
 use Rattle.std.proofs.Common.{◌≡◌, ◌++◌, drop}
-use Rattle.vg_packing.specs.Shuffles.{parts_from}
+use Rattle.vg_kernel_plans.specs.Shuffles.{parts_from}
 use Rattle.vg_cost.proofs.shuffle.parts_of.Given as goal
 
 abbrev pub invariant-params : goal.invariant-params

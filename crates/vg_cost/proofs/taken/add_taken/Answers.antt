@@ -2,7 +2,7 @@ use Rattle.std.proofs.Common.{◌∙◌, ◌++◌, ap, map}
 use Rattle.std.specs.List.{list_any}
 use Rattle.std.specs.Prelude.{◌||◌}
 use Rattle.vg_cost.specs.LongerPlan.{all_packs, described}
-use Rattle.vg_packing.specs.SameAs.{same_operand}
+use Rattle.vg_kernel_plans.specs.SameAs.{same_operand}
 use Rattle.vg_cost.specs.Taken.{kept_for, taken_for, taken_of}
 use Rattle.vg_cost.proofs.Growing.{added_fresh, not_added, there}
 use Rattle.vg_cost.proofs.taken.add_taken.Goals as goal

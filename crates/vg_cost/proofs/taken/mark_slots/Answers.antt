@@ -3,7 +3,7 @@ use Rattle.std.specs.List.{filter_map}
 use Rattle.std.proofs.lemmas.List.Elements.{filter_map-append}
 use Rattle.vg_shapes.specs.declared.operand.Slot.{Slot}
 use Rattle.vg_shapes.specs.declared.wanted.Wanted.TheVariants.{Value}
-use Rattle.vg_packing.specs.Wants.{slot, value_of}
+use Rattle.vg_kernel_plans.specs.Wants.{slot, value_of}
 use Rattle.vg_cost.proofs.Marking.{marked_all, marked_none, marked_step}
 use Rattle.vg_cost.proofs.taken.mark_slots.Goals as goal
 

@@ -1,6 +1,6 @@
 use Rattle.std.proofs.Common.{take}
 use Rattle.std.specs.Prelude.{filter_map}
-use Rattle.vg_packing.specs.Wants.{value_of}
+use Rattle.vg_kernel_plans.specs.Wants.{value_of}
 use Rattle.vg_cost.specs.Marks.{Marked}
 use Rattle.vg_cost.proofs.taken.mark_slots.Given as goal
 

@@ -2,10 +2,10 @@ use Rattle.std.proofs.Common.{◌≡◌, ◌∙◌, ◌++◌, ◌∷◌, [], sub
 use Rattle.std.specs.Prelude.{IsTrue}
 use Rattle.vg_plans.specs.Members.{Has}
 use Rattle.vg_plans.specs.World.{follows}
-use Rattle.vg_packing.proofs.FedPlans.{may-be-fed}
-use Rattle.vg_packing.specs.Fed.{unfed}
-use Rattle.vg_packing.specs.Laws.{IsPlanFor}
-use Rattle.vg_packing.specs.Packing.{packing}
+use Rattle.vg_kernel_plans.proofs.FedPlans.{may-be-fed}
+use Rattle.vg_kernel_plans.specs.Fed.{unfed}
+use Rattle.vg_kernel_plans.specs.Laws.{IsPlanFor}
+use Rattle.vg_kernel_plans.specs.Packing.{packing}
 use Rattle.vg_packs.specs.Walk.{IsFree}
 use Rattle.vg_cost_cases.proofs.Grown.{free-more, plan-more}
 use Rattle.vg_cost_cases.proofs.running.grown.Goals as goal

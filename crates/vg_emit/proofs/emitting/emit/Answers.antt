@@ -3,7 +3,7 @@ use Rattle.vg_plans.specs.World.{plan_cost}
 use Rattle.vg_program.specs.Cost.{cost_of}
 use Rattle.vg_program.specs.Valid.{KeepsRules}
 use Rattle.vg_shapes.specs.Description.{description_of}
-use Rattle.vg_packing.specs.Packing.{packing}
+use Rattle.vg_kernel_plans.specs.Packing.{packing}
 use Rattle.std.specs.Prelude.{◌≡◌}
 use Rattle.vg_emission.specs.Fit.{CallsDescribed}
 use Rattle.vg_emission.specs.Laws.{MeansUnits}

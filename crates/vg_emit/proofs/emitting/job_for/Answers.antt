@@ -2,7 +2,7 @@ use Rattle.std.proofs.Common.{◌∙◌, ap, subst, map}
 use Rattle.std.specs.Prelude.{◌+◌, length}
 use Rattle.vg_shapes.specs.Description.{description_of}
 use Rattle.vg_shapes.specs.Units.{arguments}
-use Rattle.vg_packing.specs.Packing.{falling_units}
+use Rattle.vg_kernel_plans.specs.Packing.{falling_units}
 use Rattle.vg_emission.specs.Program.{all_inserted, needed_behind, takes_in}
 use Rattle.vg_emit.specs.Marks.{Mark}
 use Rattle.vg_emit.proofs.JobIs.{job-is}

@@ -1,7 +1,7 @@
 use Rattle.std.proofs.Common.{◌≡◌, ◌∙◌, ap, sym, subst}
 use Rattle.std.specs.Prelude.{false, replicate}
 use Rattle.vg_shapes.specs.Nodes.{packed}
-use Rattle.vg_packing.specs.Packing.{falling_units}
+use Rattle.vg_kernel_plans.specs.Packing.{falling_units}
 use Rattle.vg_emission.specs.Program.{all_inserted, needed_behind}
 use Rattle.vg_emit.specs.Marks.{Mark, marked, with_uses_below}
 use Rattle.vg_emit.proofs.Marking.{needed-marks}

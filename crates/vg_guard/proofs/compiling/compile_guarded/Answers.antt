@@ -4,7 +4,7 @@ use Rattle.vg_catalog.specs.Extensions.{bits_in}
 use Rattle.vg_compile.specs.Compiled.{IsCompiled}
 use Rattle.vg_kernel.specs.Tree.{tree_of}
 use Rattle.vg_kernel.specs.WellFormed.{IsWellFormed}
-use Rattle.vg_instances.proofs.Proper.{catalog-proper}
+use Rattle.vg_descriptions.proofs.Proper.{catalog-proper}
 use Rattle.vg_guard.proofs.NoaliasLaws.{noalias-is-well_formed}
 use Rattle.vg_guard.proofs.Whole.{compiled-guarded}
 use Rattle.vg_guard.proofs.compiling.compile_guarded.Goals as goal

@@ -2,7 +2,7 @@ use Rattle.std.proofs.Common.{refl, sym, ap, subst, ◌∙◌}
 use Rattle.vg_catalog.specs.Catalogs.{entries_in}
 use Rattle.vg_catalog.specs.Extensions.{bits_in}
 use Rattle.vg_compile.specs.Compiled.{IsCompiled}
-use Rattle.vg_instances.proofs.Proper.{catalog-proper}
+use Rattle.vg_descriptions.proofs.Proper.{catalog-proper}
 use Rattle.vg_loop_laws.specs.Unrolled.{unrolled}
 use Rattle.vg_loops.specs.View.{loop_of}
 use Rattle.vg_loops.proofs.Whole.{compiled-loop}

@@ -1,5 +1,5 @@
 use Rattle.std.proofs.Common.{◌∙◌}
-use Rattle.vg_machine.specs.Kept.{instances_of}
+use Rattle.vg_machine.specs.ReadyInstance.{instances_of}
 use Rattle.vg_machine.proofs.Calls.{call_is}
 use Rattle.vg_machine.proofs.calling.call.Goals as goal
 

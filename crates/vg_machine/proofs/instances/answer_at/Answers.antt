@@ -1,5 +1,5 @@
 use Rattle.std.proofs.Common.{arith}
-use Rattle.vg_machine.specs.Kept.{kept_of}
+use Rattle.vg_machine.specs.ReadyInstance.{kept_of}
 use Rattle.vg_machine.proofs.Calls.{map-set, map-within}
 use Rattle.vg_machine.proofs.instances.answer_at.Goals as goal
 

@@ -3,7 +3,7 @@ use Rattle.vg_program.specs.declared.line.Line.{Line}
 use Rattle.vg_catalog.specs.Entries.{Entry, entry_of}
 use Rattle.vg_catalog.specs.Written.{AllWritten}
 use Rattle.vg_machine.specs.declared.instances.KeptInstance.{KeptInstance}
-use Rattle.vg_machine.specs.Kept.{Instances, ArePlanned, IsCalled, kept_of}
+use Rattle.vg_machine.specs.ReadyInstance.{Instances, ArePlanned, IsCalled, kept_of}
 use Rattle.vg_machine.specs.Planner.{planned_of}
 use Rattle.vg_machine.proofs.Planning.{PlannedUpTo, planned_begins, planned_turn, planned_ends, called_first, called_rest}
 use Rattle.vg_machine.proofs.planner.planned_lines.Goals as goal

@@ -1,6 +1,6 @@
 use Rattle.std.proofs.Common.{◌≡◌, length, map}
 use Rattle.vg_catalog.specs.Entries.{entry_of}
-use Rattle.vg_machine.specs.Kept.{AreCalled}
+use Rattle.vg_machine.specs.ReadyInstance.{AreCalled}
 use Rattle.vg_machine.specs.Planner.{IsSound, planned_of}
 use Rattle.vg_machine.proofs.Planning.{PlannedUpTo}
 use Rattle.vg_machine.proofs.planner.planned_lines.Given as goal

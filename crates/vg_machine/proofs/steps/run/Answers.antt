@@ -1,7 +1,7 @@
 use Rattle.std.proofs.Common.{◌≡◌, Some, subst, sym, ◌∙◌, arith}
 use Rattle.vg_program.specs.Meaning.{step}
 use Rattle.vg_catalog.specs.Called.{called_by}
-use Rattle.vg_machine.specs.Kept.{Instances, instances_of}
+use Rattle.vg_machine.specs.ReadyInstance.{Instances, instances_of}
 use Rattle.vg_machine.specs.State.{state_of, AreRunnable}
 use Rattle.vg_machine.proofs.Runnable.{run_turn, runnable_turn}
 use Rattle.vg_machine.proofs.steps.run.Goals as goal

@@ -1,7 +1,7 @@
 use Rattle.std.proofs.Common.{◌≡◌, ◌+◌, ◌≤◌, length, vec_len, vec_capacity}
 use Rattle.vg_program.specs.Meaning.{run}
 use Rattle.vg_catalog.specs.Called.{called_by}
-use Rattle.vg_machine.specs.Kept.{instances_of}
+use Rattle.vg_machine.specs.ReadyInstance.{instances_of}
 use Rattle.vg_machine.specs.State.{state_of, AreRunnable}
 use Rattle.vg_machine.proofs.steps.run.Given as goal
 

@@ -3,7 +3,7 @@ use Rattle.std.specs.Prelude.{slice_index_or}
 use Rattle.std.proofs.lemmas.Result.{err_from_is_err_and}
 use Rattle.vg_shapes.specs.declared.order.Node.{Node}
 use Rattle.vg_shapes.specs.declared.order.Node.TheVariants.{UnitAt}
-use Rattle.vg_shapes.specs.declared.pack.Pack.{Pack as Packed}
+use Rattle.vg_shapes.specs.declared.pack.Pack.{Pack}
 use Rattle.vg_order.specs.ByList.{IsOrderBy}
 use Rattle.vg_order.specs.Graphs.{IsGraphOf}
 use Rattle.vg_order.proofs.Dependences.{is-graph}
@@ -17,7 +17,7 @@ place_all-requires c =
 pub returns-in_err-numbers-clause-cycle : goal.returns-in_err-numbers-clause-cycle
 returns-in_err-numbers-clause-cycle c =
     let g = c.in_ok-graph.graph in
-    let is = subst (λ (l : List Packed). IsGraphOf c.args.ssa.now c.args.table.now l g) c.as_slice.ensures c.in_ok-graph.ensures in
+    let is = subst (λ (l : List Pack). IsGraphOf c.args.ssa.now c.args.table.now l g) c.as_slice.ensures c.in_ok-graph.ensures in
     let told = err_from_is_err_and c.from_residual-in_err-numbers.result c.from_residual-in_err-numbers.ensures.1 in
     rw (told.1, told.2) (graph-tells c.args.deps.now c.args.ssa.now c.args.table.now c.args.plan.now g _ is c.requires.units c.in_err-numbers.ensures.cycle)
 
@@ -29,7 +29,7 @@ returns-clause-order c =
     let packs = c.args.plan.now in
     let g = c.in_ok-graph.graph in
     let order = c.in_ok-numbers.numbers.items in
-    let is : IsGraphOf ssa table packs g = subst (λ (l : List Packed). IsGraphOf ssa table l g) c.as_slice.ensures c.in_ok-graph.ensures in
+    let is : IsGraphOf ssa table packs g = subst (λ (l : List Pack). IsGraphOf ssa table l g) c.as_slice.ensures c.in_ok-graph.ensures in
     let found : c.from_vec.result ≡ map (λ n. slice_index_or g.nodes n (UnitAt 0)) order =
     c.from_vec.ensures ∙ c.in_ok-nodes.ensures
     ∙ (λ i. map (λ n. slice_index_or (c.as_slice-2.ensures i) n (UnitAt 0)) (c.as_slice-3.ensures.value i)) in
@@ -43,7 +43,7 @@ returns-clause-numbers c =
     let packs = c.args.plan.now in
     let g = c.in_ok-graph.graph in
     let order = c.in_ok-numbers.numbers.items in
-    let is : IsGraphOf ssa table packs g = subst (λ (l : List Packed). IsGraphOf ssa table l g) c.as_slice.ensures c.in_ok-graph.ensures in
+    let is : IsGraphOf ssa table packs g = subst (λ (l : List Pack). IsGraphOf ssa table l g) c.as_slice.ensures c.in_ok-graph.ensures in
     let found : c.from_vec.result ≡ map (λ n. slice_index_or g.nodes n (UnitAt 0)) order =
     c.from_vec.ensures ∙ c.in_ok-nodes.ensures
     ∙ (λ i. map (λ n. slice_index_or (c.as_slice-2.ensures i) n (UnitAt 0)) (c.as_slice-3.ensures.value i)) in

@@ -1,5 +1,5 @@
 use Rattle.std.proofs.Common.{◌≡◌, List, ℕ, true, ap, subst, sym, ◌∙◌}
-use Rattle.vg_shapes.specs.declared.pack.Pack.{Pack as Packed}
+use Rattle.vg_shapes.specs.declared.pack.Pack.{Pack}
 use Rattle.vg_shapes.specs.DepList.{pairs_from}
 use Rattle.vg_shapes.specs.Nodes.{ArePacks}
 use Rattle.vg_order.specs.ByList.{NameUnits}
@@ -9,7 +9,7 @@ use Rattle.vg_order_cases.proofs.inputs.unpacked.Goals as goal
 
 pub schedule-requires-clause-packs : goal.schedule-requires-clause-packs
 schedule-requires-clause-packs c =
-    subst (λ (l : List Packed). ArePacks c.in_ok-ssa.ssa l) (sym (c.from_vec-plan.ensures ∙ c.new.ensures.items)) (no-packs c.in_ok-ssa.ssa)
+    subst (λ (l : List Pack). ArePacks c.in_ok-ssa.ssa l) (sym (c.from_vec-plan.ensures ∙ c.new.ensures.items)) (no-packs c.in_ok-ssa.ssa)
 
 pub schedule-requires-clause-units : goal.schedule-requires-clause-units
 schedule-requires-clause-units c =

@@ -1,5 +1,5 @@
 use Rattle.std.proofs.Common.{◌≡◌, ◌++◌, List, ℕ, true, ap, subst, sym, ◌∙◌}
-use Rattle.vg_shapes.specs.declared.pack.Pack.{Pack as Packed}
+use Rattle.vg_shapes.specs.declared.pack.Pack.{Pack}
 use Rattle.vg_shapes.specs.DepList.{pairs_from}
 use Rattle.vg_shapes.specs.Nodes.{ArePacks}
 use Rattle.vg_order.specs.ByList.{NameUnits}
@@ -14,7 +14,7 @@ schedule-requires-clause-packs c =
     let all : c.as_slice.result.now ≡ first ++ second =
     c.as_slice.ensures.value ∙ c.in_ok-extend_from_slice.ensures.items ∙ ap (λ (l : List ℕ). l ++ second) c.in_ok-all.ensures.items in
     let once : are_once c.args.count (first ++ second) ≡ true = sym (c.are_once.ensures ∙ ap (are_once c.args.count) all) ∙ c.if-not-are_once.false in
-    subst (λ (l : List Packed). ArePacks c.in_ok-ssa.ssa l) (sym c.in_ok-plan.ensures) (two-packs c.in_ok-ssa.ssa c.args.count first second c.in_ok-ssa.ensures once)
+    subst (λ (l : List Pack). ArePacks c.in_ok-ssa.ssa l) (sym c.in_ok-plan.ensures) (two-packs c.in_ok-ssa.ssa c.args.count first second c.in_ok-ssa.ensures once)
 
 pub schedule-requires-clause-units : goal.schedule-requires-clause-units
 schedule-requires-clause-units c =

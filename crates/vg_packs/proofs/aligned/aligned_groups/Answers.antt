@@ -1,6 +1,6 @@
 use Rattle.std.proofs.Common.{◌∙◌, ap}
 use Rattle.std.specs.Prelude.{filter}
-use Rattle.vg_packing.specs.Groups.{is_aligned}
+use Rattle.vg_kernel_plans.specs.Groups.{is_aligned}
 use Rattle.vg_packs.specs.Aligned.{aheads_of}
 use Rattle.vg_packs.proofs.Ahead.{all-aligned}
 use Rattle.vg_packs.proofs.aligned.aligned_groups.Goals as goal

@@ -1,6 +1,6 @@
 use Rattle.std.proofs.Common.{◌∙◌, ap, map}
-use Rattle.vg_packing.specs.Completed.{turns_of}
-use Rattle.vg_packing.specs.Fed.{packing_by}
+use Rattle.vg_kernel_plans.specs.Completed.{turns_of}
+use Rattle.vg_kernel_plans.specs.Fed.{packing_by}
 use Rattle.vg_plans.specs.Completed.{completed}
 use Rattle.vg_shapes.specs.Description.{description_of}
 use Rattle.vg_packs.proofs.Completion.{in-turn}

@@ -1,5 +1,5 @@
 use Rattle.std.proofs.Common.{◌∙◌, map}
-use Rattle.vg_packing.proofs.Tables.{fed-by}
+use Rattle.vg_kernel_plans.proofs.Tables.{fed-by}
 use Rattle.vg_shapes.specs.Description.{description_of}
 use Rattle.vg_packs.proofs.Completion.{is-fed, not-fed}
 use Rattle.vg_packs.proofs.Turns.{settled-by}

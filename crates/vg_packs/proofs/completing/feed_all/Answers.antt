@@ -1,6 +1,6 @@
 use Rattle.std.proofs.Common.{◌≡◌, ◌∙◌, ◌∷◌, ap, map, rules, sym}
 use Rattle.std.specs.Vec.Iter.{into_iter_items}
-use Rattle.vg_packing.specs.Fed.{packing_by}
+use Rattle.vg_kernel_plans.specs.Fed.{packing_by}
 use Rattle.vg_plans.specs.Completed.{fed_for_all}
 use Rattle.vg_shapes.specs.Description.{description_of}
 use Rattle.vg_packs.proofs.Completion.{fed-more}

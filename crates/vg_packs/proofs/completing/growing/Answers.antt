@@ -1,6 +1,6 @@
 use Rattle.std.proofs.Common.{◌≡◌, ◌∙◌, ◌++◌, ◌∷◌, [], ap, get_or, subst, sym, true}
 use Rattle.std.proofs.lemmas.List.{take_more}
-use Rattle.vg_packing.specs.Packing.{packing}
+use Rattle.vg_kernel_plans.specs.Packing.{packing}
 use Rattle.vg_plans.proofs.Lists.{take-whole}
 use Rattle.vg_plans.specs.World.{stays_plan}
 use Rattle.vg_packs.proofs.Completion.{next-stays}

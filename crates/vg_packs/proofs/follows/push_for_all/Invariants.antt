@@ -1,5 +1,5 @@
 use Rattle.std.proofs.Common.{◌≡◌, ◌++◌, [], flat_map, map, take}
-use Rattle.vg_packing.specs.Fed.{packing_by}
+use Rattle.vg_kernel_plans.specs.Fed.{packing_by}
 use Rattle.vg_plans.specs.World.{tried_for}
 use Rattle.vg_shapes.specs.Description.{description_of}
 use Rattle.vg_packs.proofs.follows.push_for_all.Given as goal

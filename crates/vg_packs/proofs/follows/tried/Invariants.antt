@@ -1,5 +1,5 @@
 use Rattle.std.proofs.Common.{◌≡◌, [], map, take}
-use Rattle.vg_packing.specs.Fed.{packing_by, unfed}
+use Rattle.vg_kernel_plans.specs.Fed.{packing_by, unfed}
 use Rattle.vg_plans.specs.World.{tried}
 use Rattle.vg_shapes.specs.Description.{description_of}
 use Rattle.vg_packs.proofs.follows.tried.Given as goal

@@ -1,5 +1,5 @@
 use Rattle.std.proofs.Common.{◌≡◌, length}
-use Rattle.vg_packing.specs.Producers.{agree}
+use Rattle.vg_kernel_plans.specs.Producers.{agree}
 use Rattle.vg_packs.proofs.lanes.agree.Given as goal
 
 abbrev pub invariant-slots : goal.invariant-slots

@@ -1,5 +1,5 @@
 use Rattle.std.proofs.Common.{◌≡◌, length}
-use Rattle.vg_packing.specs.Producers.{all_differ}
+use Rattle.vg_kernel_plans.specs.Producers.{all_differ}
 use Rattle.vg_packs.proofs.lanes.all_differ.Given as goal
 
 abbrev pub invariant-numbers : goal.invariant-numbers

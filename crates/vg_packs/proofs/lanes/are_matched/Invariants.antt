@@ -1,5 +1,5 @@
 use Rattle.std.proofs.Common.{◌≡◌, drop}
-use Rattle.vg_packing.specs.Producers.{are_matched}
+use Rattle.vg_kernel_plans.specs.Producers.{are_matched}
 use Rattle.vg_packs.proofs.lanes.are_matched.Given as goal
 
 abbrev pub invariant-lanes : goal.invariant-lanes

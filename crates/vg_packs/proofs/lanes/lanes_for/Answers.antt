@@ -1,5 +1,5 @@
 use Rattle.std.proofs.Common.{◌+◌, ap, arith}
-use Rattle.vg_packing.specs.Producers.{lanes_for}
+use Rattle.vg_kernel_plans.specs.Producers.{lanes_for}
 use Rattle.vg_packs.proofs.LaneLists.{for-more}
 use Rattle.vg_packs.proofs.lanes.lanes_for.Goals as goal
 

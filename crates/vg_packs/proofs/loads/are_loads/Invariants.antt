@@ -1,5 +1,5 @@
 use Rattle.std.proofs.Common.{◌≡◌, ◌*◌, ◌^◌, ◌≤◌, drop}
-use Rattle.vg_packing.specs.Producers.{are_loads}
+use Rattle.vg_kernel_plans.specs.Producers.{are_loads}
 use Rattle.vg_shapes.specs.Pack.{behind}
 use Rattle.vg_packs.proofs.loads.are_loads.Given as goal
 

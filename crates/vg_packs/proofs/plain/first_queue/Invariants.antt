@@ -1,5 +1,5 @@
 use Rattle.std.proofs.Common.{◌≡◌, flat_map, map, take}
-use Rattle.vg_packing.specs.Taken.{operands_of}
+use Rattle.vg_kernel_plans.specs.Taken.{operands_of}
 use Rattle.vg_shapes.specs.Description.{description_of}
 use Rattle.vg_packs.proofs.plain.first_queue.Given as goal
 

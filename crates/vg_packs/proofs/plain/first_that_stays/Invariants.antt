@@ -1,7 +1,7 @@
 use Rattle.std.proofs.Common.{◌≡◌, []}
 use Rattle.std.specs.Prelude.{find}
 use Rattle.std.specs.Vec.Iter.{into_iter_items}
-use Rattle.vg_packing.specs.Packing.{packing}
+use Rattle.vg_kernel_plans.specs.Packing.{packing}
 use Rattle.vg_plans.specs.World.{stays_plan}
 use Rattle.vg_packs.proofs.plain.first_that_stays.Given as goal
 

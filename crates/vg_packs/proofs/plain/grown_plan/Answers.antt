@@ -1,6 +1,6 @@
 use Rattle.std.proofs.Common.{map}
-use Rattle.vg_packing.specs.Completed.{turns_of}
-use Rattle.vg_packing.specs.Fed.{unfed}
+use Rattle.vg_kernel_plans.specs.Completed.{turns_of}
+use Rattle.vg_kernel_plans.specs.Fed.{unfed}
 use Rattle.vg_shapes.specs.Description.{description_of}
 use Rattle.vg_packs.proofs.Completion.{among}
 use Rattle.vg_packs.proofs.plain.grown_plan.Goals as goal

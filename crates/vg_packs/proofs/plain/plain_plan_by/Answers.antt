@@ -1,5 +1,5 @@
 use Rattle.std.proofs.Common.{◌∙◌, map}
-use Rattle.vg_packing.specs.Completed.{turns_of}
+use Rattle.vg_kernel_plans.specs.Completed.{turns_of}
 use Rattle.vg_shapes.specs.Description.{description_of}
 use Rattle.vg_packs.proofs.Completion.{plain-by}
 use Rattle.vg_packs.proofs.plain.plain_plan_by.Goals as goal

@@ -1,7 +1,7 @@
 use Rattle.std.proofs.Common.{◌∙◌, ap, flat_map, map}
-use Rattle.vg_packing.specs.Completed.{turns_of}
-use Rattle.vg_packing.specs.Packing.{packing}
-use Rattle.vg_packing.specs.Taken.{operands_of}
+use Rattle.vg_kernel_plans.specs.Completed.{turns_of}
+use Rattle.vg_kernel_plans.specs.Packing.{packing}
+use Rattle.vg_kernel_plans.specs.Taken.{operands_of}
 use Rattle.vg_plans.specs.PlainPlan.{walk}
 use Rattle.vg_shapes.specs.Description.{description_of}
 use Rattle.vg_packs.proofs.plain.produced.Goals as goal

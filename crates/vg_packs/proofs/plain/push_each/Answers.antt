@@ -1,6 +1,6 @@
 use Rattle.std.proofs.Common.{◌≡◌, ◌∙◌, [], ◌∷◌, ap, rules, sym}
 use Rattle.std.specs.Vec.Iter.{into_iter_items}
-use Rattle.vg_packing.specs.Packing.{packing}
+use Rattle.vg_kernel_plans.specs.Packing.{packing}
 use Rattle.vg_plans.specs.PlainPlan.{with_groups}
 use Rattle.vg_packs.proofs.Turns.{groups-step}
 use Rattle.vg_packs.proofs.plain.push_each.Goals as goal

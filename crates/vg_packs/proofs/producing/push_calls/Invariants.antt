@@ -1,5 +1,5 @@
 use Rattle.std.proofs.Common.{◌≡◌, ◌++◌, drop, map}
-use Rattle.vg_packing.specs.Producers.{call_producers}
+use Rattle.vg_kernel_plans.specs.Producers.{call_producers}
 use Rattle.vg_shapes.specs.Description.{description_of}
 use Rattle.vg_packs.proofs.producing.push_calls.Given as goal
 

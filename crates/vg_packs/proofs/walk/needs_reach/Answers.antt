@@ -1,5 +1,5 @@
 use Rattle.std.proofs.Common.{◌<◌, ◌∙◌, All, length, sym, subst}
-use Rattle.vg_packing.specs.Packing.{needs_of}
+use Rattle.vg_kernel_plans.specs.Packing.{needs_of}
 use Rattle.vg_packs.proofs.Cycles.{all-from}
 use Rattle.vg_packs.proofs.NodeUnits.{pack-units}
 use Rattle.vg_packs.proofs.walk.needs_reach.Goals as goal

@@ -1,5 +1,5 @@
 use Rattle.std.proofs.Common.{ℕ, Bool, ◌+◌, ◌<◌, ◌∙◌, length, refl, subst, sym}
-use Rattle.vg_packing.specs.Packing.{needs_of}
+use Rattle.vg_kernel_plans.specs.Packing.{needs_of}
 use Rattle.vg_plans.specs.World.{is_in}
 use Rattle.vg_shapes.specs.Pack.{units_of}
 use Rattle.vg_shapes.specs.Units.{arguments}

@@ -1,6 +1,6 @@
 use Rattle.std.proofs.Common.{◌≡◌, ℕ, ◌∙◌, true, [], sym, subst, refl}
 use Rattle.std.specs.Prelude.{◌&&◌, ◌||◌, nat_eq, nat_lt}
-use Rattle.vg_packing.specs.Taken.{AreNear, MatchesNear}
+use Rattle.vg_kernel_plans.specs.Taken.{AreNear, MatchesNear}
 use Rattle.vg_shapes.specs.declared.match_table.Match.{Match}
 use Rattle.vg_shapes.specs.MatchTable.{IsTable, stands_before}
 use Rattle.vg_packs_cases.proofs.producing.table.Goals as goal

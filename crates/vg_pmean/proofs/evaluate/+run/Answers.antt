@@ -3,7 +3,7 @@ use Rattle.vg_script.specs.Cells.{after, entered, numbers_given}
 use Rattle.vg_script.specs.Formed.{ScriptFormed}
 use Rattle.vg_script.specs.Views.{given_of, script_of}
 use Rattle.vg_pmean.specs.Held.{Alike, filled, held, widths_in}
-use Rattle.vg_pmean.specs.Room.{Suffices, given_room, script_room, no_room}
+use Rattle.vg_pmean.specs.FrameRoom.{Suffices, given_room, script_room, no_room}
 use Rattle.vg_pmean.proofs.Entering.{filled_past, filled_entered, filled_widths, entered_widths, entered_length, suffices_given, suffices_script}
 use Rattle.vg_pmean.proofs.evaluate.+run.Goals as goal
 

@@ -8,7 +8,7 @@ use Rattle.vg_script.specs.declared.script.Low.{size-Low}
 use Rattle.vg_script.specs.declared.script.Given.{size-Given}
 use Rattle.vg_script.specs.declared.script.Script.{size-Script}
 use Rattle.vg_pmean.specs.Held.{Alike, filled, widths_in}
-use Rattle.vg_pmean.specs.Room.{Suffices, given_room, script_room}
+use Rattle.vg_pmean.specs.FrameRoom.{Suffices, given_room, script_room}
 use Rattle.vg_pmean.proofs.evaluate.+run.Given as goal
 
 abbrev pub decreases-value : goal.decreases-value

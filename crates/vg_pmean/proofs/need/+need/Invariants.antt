@@ -5,7 +5,7 @@ use Rattle.vg_script.specs.declared.script.Word.{size-Word}
 use Rattle.vg_script.specs.declared.script.Low.{size-Low}
 use Rattle.vg_script.specs.declared.script.Given.{size-Given}
 use Rattle.vg_script.specs.declared.script.Script.{size-Script}
-use Rattle.vg_pmean.specs.Room.{either, given_room, script_room}
+use Rattle.vg_pmean.specs.FrameRoom.{either, given_room, script_room}
 use Rattle.vg_pmean.proofs.need.+need.Given as goal
 
 abbrev pub decreases-add_word : goal.decreases-add_word

@@ -4,7 +4,7 @@ use Rattle.vg_base.specs.Gives.{FailsBy}
 use Rattle.vg_interval.specs.Views.{told}
 use Rattle.vg_names.specs.Views.{resolved_of}
 use Rattle.vg_range.specs.Acceptance.{judged_from}
-use Rattle.vg_range.specs.Seen.{stand_view}
+use Rattle.vg_range.specs.Seen.{state_view}
 use Rattle.vg_range.proofs.Immediates.{judged_done, judged_fails, judged_step}
 use Rattle.vg_range.proofs.accepting.judged_from.Goals as goal
 
@@ -21,7 +21,7 @@ returns-in_err-instance_at c =
 pub immediates-preserved : goal.immediates-preserved
 immediates-preserved c =
     judged_step (resolved_of c.args.resolved.now) c.args.range.now.lo c.immediates.step c.count_of-count.result
-    (stand_view c.in_ok-instance_at.field-0.value) c.immediates-test.true c.in_ok-instance_at.ensures
+    (state_view c.in_ok-instance_at.field-0.value) c.immediates-test.true c.in_ok-instance_at.ensures
     ∙ c.immediates.invariant
 
 pub returns : goal.returns

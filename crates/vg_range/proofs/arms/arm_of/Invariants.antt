@@ -1,7 +1,7 @@
 -- the arms that are left have what all of them have
 use Rattle.std.proofs.Common.{◌≡◌, ◌≤◌}
 use Rattle.vg_names.specs.Views.{code_view}
-use Rattle.vg_range.specs.Met.{arm_of}
+use Rattle.vg_range.specs.Steps.{arm_of}
 use Rattle.vg_range.specs.Weight.{code_weight}
 use Rattle.vg_range.proofs.arms.arm_of.Given as goal
 

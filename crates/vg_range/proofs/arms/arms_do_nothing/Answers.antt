@@ -1,6 +1,6 @@
 use Rattle.std.proofs.Common.{◌∙◌, refl}
 use Rattle.vg_script.specs.Views.{script_of}
-use Rattle.vg_range.specs.Met.{arm_view}
+use Rattle.vg_range.specs.Steps.{arm_view}
 use Rattle.vg_range.specs.Walk.{is_empty}
 use Rattle.vg_range.proofs.ArmsLeft.{nothing_is}
 use Rattle.vg_range.proofs.arms.arms_do_nothing.Goals as goal

@@ -3,7 +3,7 @@ use Rattle.std.proofs.Common.{◌≡◌, map, length}
 use Rattle.std.specs.Prelude.{reverse}
 use Rattle.vg_script.specs.Script.{stop}
 use Rattle.vg_script.specs.Views.{script_of}
-use Rattle.vg_range.specs.Met.{arm_view}
+use Rattle.vg_range.specs.Steps.{arm_view}
 use Rattle.vg_range.specs.Walk.{arms_in_front}
 use Rattle.vg_range.proofs.arms.arms_in_front.Given as goal
 

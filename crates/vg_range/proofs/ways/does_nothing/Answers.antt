@@ -2,7 +2,7 @@ use Rattle.std.proofs.Common.{◌∙◌, refl, sym, ap}
 use Rattle.std.specs.Prelude.{◌&&◌}
 use Rattle.std.specs.List.{list_all}
 use Rattle.vg_script.specs.Views.{script_of}
-use Rattle.vg_range.specs.Met.{way_view}
+use Rattle.vg_range.specs.Steps.{way_view}
 use Rattle.vg_range.specs.Walk.{is_empty}
 use Rattle.vg_range.proofs.WaysLeft.{nothing_is}
 use Rattle.vg_range.proofs.ways.does_nothing.Goals as goal

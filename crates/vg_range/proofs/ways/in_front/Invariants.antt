@@ -2,7 +2,7 @@
 use Rattle.std.proofs.Common.{◌≡◌, map, length}
 use Rattle.std.specs.Prelude.{reverse}
 use Rattle.vg_script.specs.Views.{script_of}
-use Rattle.vg_range.specs.Met.{way_view}
+use Rattle.vg_range.specs.Steps.{way_view}
 use Rattle.vg_range.specs.Walk.{in_front}
 use Rattle.vg_range.proofs.ways.in_front.Given as goal
 

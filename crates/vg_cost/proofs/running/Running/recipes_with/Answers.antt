@@ -1,7 +1,7 @@
 use Rattle.std.proofs.Common.{[], ◌≡◌, ◌∙◌, ◌++◌, append-nil, ap, map, subst, sym}
 use Rattle.std.specs.List.{AllByRecursion, flat_map, sum_by}
 use Rattle.vg_plans.specs.World.{operands}
-use Rattle.vg_packing.specs.Packing.{packing}
+use Rattle.vg_kernel_plans.specs.Packing.{packing}
 use Rattle.vg_cost.specs.LongerPlan.{all_packs, described}
 use Rattle.vg_cost.specs.Marks.{Marked}
 use Rattle.vg_cost.specs.Running.{taken_by}

@@ -10,7 +10,7 @@ use Rattle.vg_cost.specs.Touch.{MarkUnits}
 use Rattle.vg_cost.proofs.Growing.{costs-longer, stands-longer}
 use Rattle.vg_cost.proofs.MarkTests.{marked_longer, own_count}
 use Rattle.vg_cost.proofs.running.Running.with.Goals as goal
-use Rattle.vg_cost.specs.Room.{IsRoomFor}
+use Rattle.vg_cost.specs.PriceScratch.{IsScratchFor}
 use Rattle.vg_cost.specs.Running.{taken_by}
 
 pub taken_with-requires-clause-plan : goal.taken_with-requires-clause-plan
@@ -18,13 +18,13 @@ taken_with-requires-clause-plan c =
     let ssa = c.args.ssa.now in
     let p = c.args.pack.now in
     let plan = c.as_slice-plan.result.now in
-    let room : IsRoomFor ssa plan c.as_slice-before.result.now =
-    subst (λ m. IsRoomFor ssa plan m) (sym (c.as_slice-before.ensures.value ∙ c.room.view_is)) c.in_ok-room.ensures
+    let scratch : IsScratchFor ssa plan c.as_slice-before.result.now =
+    subst (λ m. IsScratchFor ssa plan m) (sym (c.as_slice-before.ensures.value ∙ c.scratch.view_is)) c.in_ok-scratch.ensures
     in
     record {
       shuffles = c.requires.stands.shuffles;
       marks = subst (MarkUnits (plan ++ p ∷ [])) (sym c.as_slice-marks.ensures.value)
-          (own_count _ _ _ (marked_longer (arguments ssa + length ssa.units) plan p _ _ room c.enter.ensures.longer));
+          (own_count _ _ _ (marked_longer (arguments ssa + length ssa.units) plan p _ _ scratch c.enter.ensures.longer));
       own = subst (λ l. Has (length l) (units_of p) l) (sym c.as_slice-own.ensures.value) (own_count _ _ _ c.enter.ensures.own);
     }
 
@@ -35,9 +35,9 @@ returns-clause-stands c =
     let ssa = c.args.ssa.now in
     let p = c.args.pack.now in
     let plan = c.args.self.now.packs.items in
-    let room : IsRoomFor ssa plan c.as_slice-before.result.now =
-    subst (λ m. IsRoomFor ssa plan m) (sym (c.as_slice-before.ensures.value ∙ c.room.view_is))
-    (subst (λ l. IsRoomFor ssa l c.in_ok-room.room) c.as_slice-plan.ensures.value c.in_ok-room.ensures)
+    let scratch : IsScratchFor ssa plan c.as_slice-before.result.now =
+    subst (λ m. IsScratchFor ssa plan m) (sym (c.as_slice-before.ensures.value ∙ c.scratch.view_is))
+    (subst (λ l. IsScratchFor ssa l c.in_ok-scratch.scratch) c.as_slice-plan.ensures.value c.in_ok-scratch.ensures)
     in
     let taken : c.as_slice.result.now ≡ taken_by ds matches ssa (plan ++ p ∷ []) = c.as_slice.ensures.value ∙ c.in_ok-taken.ensures
     ∙ ap (λ q. taken_by ds matches ssa (q ++ p ∷ [])) c.as_slice-plan.ensures.value in
@@ -49,9 +49,9 @@ returns-clause-stands c =
     (c.in_ok-taken.ensures ∙ ap (λ q. taken_by ds matches ssa (q ++ p ∷ [])) c.as_slice-plan.ensures.value) paid
     (λ deps.
     costs-longer ds matches ssa deps c.args.self.now p c.enter.new.self.longer.items c.as_mut_slice-needed.result.now
-    c.recipes_cost.new.needed c.in_ok-price.price c.in_ok-recipes.recipes c.in_ok-cost.cost (length c.room.inside.tried.needed.items)
-    c.requires.stands (c.room.invariant.needed ∙ ap length (sym c.as_slice-before.ensures.value) ∙ room.long)
-    (marked_longer (arguments ssa + length ssa.units) plan p _ _ room c.enter.ensures.longer)
+    c.recipes_cost.new.needed c.in_ok-price.price c.in_ok-recipes.recipes c.in_ok-cost.cost (length c.scratch.inside.tried.needed.items)
+    c.requires.stands (c.scratch.invariant.needed ∙ ap length (sym c.as_slice-before.ensures.value) ∙ scratch.long)
+    (marked_longer (arguments ssa + length ssa.units) plan p _ _ scratch c.enter.ensures.longer)
     (c.as_mut_slice-needed.ensures.value ∙ c.enter.ensures.needed)
     (subst (λ l. Marked (flat_map inserted_for l) c.as_mut_slice-needed.result.now c.recipes_cost.new.needed) taken c.in_ok-recipes.ensures.marks)
     paid

@@ -4,7 +4,7 @@ use Rattle.std.proofs.lemmas.List.{map-append}
 use Rattle.indexmap.proofs.CallerLemmas.{insert_entry-new}
 use Rattle.vg_catalog.specs.Entries.{Entry, entry_of}
 use Rattle.vg_machine.specs.declared.instances.KeptInstance.{KeptInstance}
-use Rattle.vg_machine.specs.Kept.{Kept, Placed, AreKept, AreFound, kept_of}
+use Rattle.vg_machine.specs.ReadyInstance.{ReadyInstance, Placed, AreKept, AreFound, kept_of}
 use Rattle.vg_machine.proofs.Calls.{map-length}
 use Rattle.vg_machine.proofs.Planning.{written_at, same_key, found_stands, placed_new, is_kept, kept_more, found_more}
 use Rattle.vg_machine.proofs.planner.Planner.place.Goals as goal
@@ -26,7 +26,7 @@ returns-clause-placed c =
     let one : KeptInstance = record { called = c.args.called; prepared = c.in_ok-prepared.prepared } in
     let grown : map kept_of c.push.new.self.items ≡ map kept_of all ++ kept_of one ∷ [] = ap (map kept_of) c.in_ok-push.ensures.items ∙ map-append kept_of all (one ∷ []) in
     let count = ap length c.as_slice-place.ensures.value ∙ sym (map-length kept_of all) in
-    subst (λ (ks : List Kept). Placed (record { entries = es; kept = map kept_of all }) (record { entries = es; kept = ks }) c.args.called (length c.as_slice-place.result.now)) (sym grown)
+    subst (λ (ks : List ReadyInstance). Placed (record { entries = es; kept = map kept_of all }) (record { entries = es; kept = ks }) c.args.called (length c.as_slice-place.result.now)) (sym grown)
     (placed_new es (map kept_of all) (kept_of one) (length c.as_slice-place.result.now) count)
 
 pub returns-clause-sound : goal.returns-clause-sound
@@ -39,6 +39,6 @@ returns-clause-sound c =
     let table = c.in_ok-insert.ensures.entries ∙ insert_entry-new _ c.args.self.now.places c.args.called (length c.as_slice-place.result.now) (sym c.in_default.ensures.value) in
     let kept = kept_more es (map kept_of all) (kept_of one) c.requires.sound.0 (is_kept es (kept_of one) (entry_of c.entry_at-checked.result.now) c.entry_at-checked.ensures c.in_ok-prepared.ensures) in
     let found = found_more c.args.self.now.places.entries c.insert.new.self.entries (map kept_of all) (kept_of one) (length c.as_slice-place.result.now) count table c.requires.sound.1 in (
-      subst (λ (ks : List Kept). AreKept es ks) (sym grown) kept,
-      subst (λ (ks : List Kept). AreFound c.insert.new.self.entries ks) (sym grown) found,
+      subst (λ (ks : List ReadyInstance). AreKept es ks) (sym grown) kept,
+      subst (λ (ks : List ReadyInstance). AreFound c.insert.new.self.entries ks) (sym grown) found,
     )

@@ -2,7 +2,7 @@ use Rattle.std.proofs.Common.{◌≡◌, ap, sym, subst, ◌∙◌, true, Ok}
 use Rattle.vg_base.specs.Gives.{FailsBy}
 use Rattle.vg_interval.specs.Views.{told}
 use Rattle.vg_names.specs.Views.{resolved_of}
-use Rattle.vg_range.specs.Seen.{stand_view}
+use Rattle.vg_range.specs.Seen.{state_view}
 use Rattle.vg_range.specs.Checks.{header_in, operation_in}
 use Rattle.vg_range.specs.Immediates.{has_instance}
 use Rattle.vg_range.specs.Unrolled.{IsFormedEntry, MeansEntry, unrolled}
@@ -25,7 +25,7 @@ pub returns-clause-is : goal.returns-clause-is
 returns-clause-is c =
     let entry = c.args.self.now in
     let r = resolved_of entry.resolved in
-    let w = stand_view c.in-Ok.stand.value in
+    let w = state_view c.in-Ok.state.value in
     let has =
     ap (λ h. has_instance h.imm c.args.imm) (sym c.header.ensures.header)
     ∙ sym c.has_instance.ensures ∙ c.if-not-has_instance.false in
@@ -39,7 +39,7 @@ pub returns-clause-formed : goal.returns-clause-formed
 returns-clause-formed c =
     let entry = c.args.self.now in
     let r = resolved_of entry.resolved in
-    let w = stand_view c.in-Ok.stand.value in
+    let w = state_view c.in-Ok.state.value in
     let has =
     ap (λ h. has_instance h.imm c.args.imm) (sym c.header.ensures.header)
     ∙ sym c.has_instance.ensures ∙ c.if-not-has_instance.false in
@@ -51,7 +51,7 @@ pub returns-clause-means : goal.returns-clause-means
 returns-clause-means c =
     let entry = c.args.self.now in
     let r = resolved_of entry.resolved in
-    let w = stand_view c.in-Ok.stand.value in
+    let w = state_view c.in-Ok.state.value in
     let has =
     ap (λ h. has_instance h.imm c.args.imm) (sym c.header.ensures.header)
     ∙ sym c.has_instance.ensures ∙ c.if-not-has_instance.false in

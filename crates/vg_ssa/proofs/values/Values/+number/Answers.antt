@@ -1,7 +1,7 @@
 use Rattle.std.proofs.Common.{[], ◌∷◌, ◌++◌, arith}
 use Rattle.vg_kernel.specs.Tree.{expression_of}
-use Rattle.vg_shapes.specs.declared.unit.Operator.TheVariants.{Select}
-use Rattle.vg_shapes.specs.declared.unit.Unit.TheVariants.{Operation}
+use Rattle.vg_shapes.specs.declared.ssa_unit.Operator.TheVariants.{Select}
+use Rattle.vg_shapes.specs.declared.ssa_unit.SsaUnit.TheVariants.{Operation}
 use Rattle.vg_shapes.specs.declared.wanted.Wanted.TheVariants.{Nothing}
 use Rattle.vg_ssa.specs.Built.{built, numbered_in}
 use Rattle.vg_ssa.specs.Numbering.{operands}

@@ -1,6 +1,6 @@
 use Rattle.std.proofs.Common.{[], ◌∷◌}
 use Rattle.vg_kernel.specs.Tree.{expression_of}
-use Rattle.vg_shapes.specs.declared.unit.Unit.TheVariants.{Store}
+use Rattle.vg_shapes.specs.declared.ssa_unit.SsaUnit.TheVariants.{Store}
 use Rattle.vg_ssa.specs.Built.{built, numbered_in}
 use Rattle.vg_ssa.proofs.Building.{can-push, pushed, take-front}
 use Rattle.vg_ssa.proofs.values.Values.number_store.Goals as goal

@@ -1,9 +1,0 @@
--- Marks of a pack that is tried after a plan.
-use Rattle.std.specs.Prelude.{◌≡◌, ℕ, length}
-use Rattle.vg_cost.specs.declared.tried.Tried.{Tried}
-
--- so many marks of each kind
-pub record AreMarksFor (count : ℕ) (tried : Tried) : Type 0 where
-  pub longer : length tried.longer.items ≡ count
-  pub own : length tried.own.items ≡ count
-  pub needed : length tried.needed.items ≡ count

@@ -1,0 +1,11 @@
+use Rattle.std.proofs.Common.{rules}
+use Rattle.std.proofs.lemmas.List.Sorted.{answers_always, IsNonDecreasingBy-from_sort}
+use Rattle.vg_plans.proofs.Sorting.{stable-one}
+use Rattle.vg_kernel_plans.specs.LoadGroups.{above_least}
+use Rattle.vg_kernel_plans.proofs.runs.by_offset.Goals as goal
+
+pub returns : goal.returns
+returns c =
+    stable-one (λ l. above_least l.address.offset) c.args.loads.items c.sort_by_key.new.self.items
+    (IsNonDecreasingBy-from_sort (λ l. above_least l.address.offset) _ (c.in_ok-sort_by_key.ensures.sorted (λ l. above_least l.address.offset) (answers_always _ _ _ (λ f a r g h. search rules))))
+    (c.in_ok-sort_by_key.ensures.stable (λ l. above_least l.address.offset) (answers_always _ _ _ (λ f a r g h. search rules)))

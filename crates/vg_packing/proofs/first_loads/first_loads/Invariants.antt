@@ -1,6 +1,0 @@
-use Rattle.std.proofs.Common.{◌≡◌}
-use Rattle.vg_packing.proofs.FirstLoads.{loads_among}
-use Rattle.vg_packing.proofs.first_loads.first_loads.Given as goal
-
-abbrev pub invariant-units : goal.invariant-units
-invariant-units l = l.loads.items ≡ loads_among l.ssa l.first l.index

@@ -1,5 +1,0 @@
-use Rattle.vg_packing.proofs.FedPlans.{fed-optimal}
-use Rattle.vg_packing.proofs.law.chosen_fed_plans_are_optimal.Goals as goal
-
-pub returns : goal.returns
-returns c ds matches ssa deps width plan m short free = fed-optimal ds matches ssa deps width plan m short free

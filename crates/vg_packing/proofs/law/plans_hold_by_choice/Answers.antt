@@ -1,5 +1,0 @@
-use Rattle.vg_packing.proofs.FedPlans.{hold-by}
-use Rattle.vg_packing.proofs.law.plans_hold_by_choice.Goals as goal
-
-pub returns : goal.returns
-returns c choice ds matches ssa deps = hold-by ds matches ssa deps choice

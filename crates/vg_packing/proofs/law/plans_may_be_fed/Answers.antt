@@ -1,6 +1,0 @@
-use Rattle.vg_packing.specs.Fed.{unfed}
-use Rattle.vg_packing.proofs.FedPlans.{may-be-fed}
-use Rattle.vg_packing.proofs.law.plans_may_be_fed.Goals as goal
-
-pub returns : goal.returns
-returns c ds matches ssa deps plan m = may-be-fed ds matches ssa deps unfed plan m
