@@ -5,6 +5,7 @@ ghost use Rattle.vg_kernel.specs.Tree.{expression_of, statement_of, tree_of};
 
 use crate::expression::KExpr;
 use crate::kernel::Kernel;
+use crate::operations::{make_compare, make_resize, make_select, make_shift, make_two};
 use crate::parameter::KParam;
 use crate::statement::KStmt;
 use std::alloc::{AllocError, Global};
@@ -13,96 +14,59 @@ use vg_base::Items;
 fn copy_expression(alloc: Global, expression: &KExpr) -> Result<KExpr, AllocError>
     ensures { IfOk result (λ copy. expression_of copy ≡ expression_of expression.now) }
 {
-    match expression {
-        KExpr::Argument { number, width } => Ok(KExpr::Argument {
-            number: *number,
-            width: *width,
-        }),
-        KExpr::Assigned { number, value_type } => Ok(KExpr::Assigned {
-            number: *number,
-            value_type: *value_type,
-        }),
-        KExpr::Literal { width, number } => Ok(KExpr::Literal {
-            width: *width,
-            number: *number,
-        }),
-        KExpr::Load { width, address } => Ok(KExpr::Load {
-            width: *width,
-            address: *address,
-        }),
+    match *expression {
+        KExpr::Argument { number, width } => Ok(KExpr::Argument { number, width }),
+        KExpr::Assigned { number, value_type } => Ok(KExpr::Assigned { number, value_type }),
+        KExpr::Literal { width, number } => Ok(KExpr::Literal { width, number }),
+        KExpr::Load { width, address } => Ok(KExpr::Load { width, address }),
         KExpr::Two {
             op,
             width,
-            left,
-            right,
+            ref left,
+            ref right,
         } => {
             let left = copy_expression(alloc, left)?;
             let right = copy_expression(alloc, right)?;
-            Ok(KExpr::Two {
-                op: *op,
-                width: *width,
-                left: Box::new(alloc, left)?,
-                right: Box::new(alloc, right)?,
-            })
+            make_two(alloc, op, width, left, right)
         }
         KExpr::Shift {
             op,
             width,
             amount,
-            operand,
+            ref operand,
         } => {
             let operand = copy_expression(alloc, operand)?;
-            Ok(KExpr::Shift {
-                op: *op,
-                width: *width,
-                amount: *amount,
-                operand: Box::new(alloc, operand)?,
-            })
+            make_shift(alloc, op, width, amount, operand)
         }
         KExpr::Resize {
             op,
             width,
             from,
-            operand,
+            ref operand,
         } => {
             let operand = copy_expression(alloc, operand)?;
-            Ok(KExpr::Resize {
-                op: *op,
-                width: *width,
-                from: *from,
-                operand: Box::new(alloc, operand)?,
-            })
+            make_resize(alloc, op, width, from, operand)
         }
         KExpr::Compare {
             op,
             width,
-            left,
-            right,
+            ref left,
+            ref right,
         } => {
             let left = copy_expression(alloc, left)?;
             let right = copy_expression(alloc, right)?;
-            Ok(KExpr::Compare {
-                op: *op,
-                width: *width,
-                left: Box::new(alloc, left)?,
-                right: Box::new(alloc, right)?,
-            })
+            make_compare(alloc, op, width, left, right)
         }
         KExpr::Select {
             width,
-            condition,
-            first,
-            second,
+            ref condition,
+            ref first,
+            ref second,
         } => {
             let condition = copy_expression(alloc, condition)?;
             let first = copy_expression(alloc, first)?;
             let second = copy_expression(alloc, second)?;
-            Ok(KExpr::Select {
-                width: *width,
-                condition: Box::new(alloc, condition)?,
-                first: Box::new(alloc, first)?,
-                second: Box::new(alloc, second)?,
-            })
+            make_select(alloc, width, condition, first, second)
         }
     }
 }

@@ -17,6 +17,7 @@ pub mod kernel;
 mod names;
 mod nodes;
 mod operands;
+mod operations;
 pub mod parameter;
 mod parser;
 pub mod reading;

@@ -11,6 +11,7 @@ ghost use Rattle.vg_kernel.specs.Tree.{expression_of};
 use crate::expression::KExpr;
 use crate::fault::KernelFault;
 use crate::function::Function;
+use crate::operations::{make_compare, make_resize, make_select, make_shift, make_two};
 use crate::reading::{expect, next};
 use crate::scan::{Part, Scan};
 use crate::value_type::ValueType;
@@ -71,28 +72,8 @@ pub(crate) fn pair_node(
         return Err(KernelFault::WidthMismatch { place });
     };
     match function {
-        Function::Two(op) => {
-            let left = Box::new(alloc, left)?;
-            let right = Box::new(alloc, right)?;
-            let node = KExpr::Two {
-                op,
-                width,
-                left,
-                right,
-            };
-            Ok((node, more))
-        }
-        Function::Compare(op) => {
-            let left = Box::new(alloc, left)?;
-            let right = Box::new(alloc, right)?;
-            let node = KExpr::Compare {
-                op,
-                width,
-                left,
-                right,
-            };
-            Ok((node, more))
-        }
+        Function::Two(op) => Ok((make_two(alloc, op, width, left, right)?, more)),
+        Function::Compare(op) => Ok((make_compare(alloc, op, width, left, right)?, more)),
         _ => Err(KernelFault::WidthMismatch { place }),
     }
 }
@@ -126,13 +107,7 @@ fn resize_node(
     if !is_resize(op, width, from) {
         return Err(KernelFault::WidthMismatch { place });
     }
-    let operand = Box::new(alloc, operand)?;
-    let node = KExpr::Resize {
-        op,
-        width,
-        from,
-        operand,
-    };
+    let node = make_resize(alloc, op, width, from, operand)?;
     Ok((node, more))
 }
 
@@ -175,15 +150,7 @@ fn select_node(
     let Some(width) = common_width(&first, &second) else {
         return Err(KernelFault::WidthMismatch { place });
     };
-    let condition = Box::new(alloc, condition)?;
-    let first = Box::new(alloc, first)?;
-    let second = Box::new(alloc, second)?;
-    let node = KExpr::Select {
-        width,
-        condition,
-        first,
-        second,
-    };
+    let node = make_select(alloc, width, condition, first, second)?;
     Ok((node, more))
 }
 
@@ -288,13 +255,7 @@ pub(crate) fn shift_end<'a>(
     let (width, used) = shift_width(place, scan.used, &operand.expression)?;
     let comma = expect(b",", scan.lexer)?;
     let (amount, rest) = amount(width, comma)?;
-    let operand = Box::new(alloc, operand.expression)?;
-    let node = KExpr::Shift {
-        op,
-        width,
-        amount,
-        operand,
-    };
+    let node = make_shift(alloc, op, width, amount, operand.expression)?;
     closed(node, depth, rest, used)
 }
 
