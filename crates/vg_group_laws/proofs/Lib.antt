@@ -1,6 +1,10 @@
 pub mod Addresses
+pub mod Back
 pub mod Cutting
 pub mod Listed
+pub mod Parted
 pub mod Runs
 pub mod Starts
+pub mod Stored
+pub mod Tiles
 pub mod Unrepeated

@@ -26,7 +26,7 @@ use Rattle.vg_shapes.specs.declared.ssa_unit.SsaUnit.TheVariants.{Load, Store, O
 use Rattle.vg_shapes.specs.Order.{numbers_from}
 use Rattle.vg_shapes.specs.Units.{arguments, unit_at}
 
-abbrev made : ℕ → Address → Width → PlacedLoad
+abbrev pub made : ℕ → Address → Width → PlacedLoad
 made v a w = record { unit = v; address = a; width = w }
 
 -- ---- places
@@ -35,7 +35,7 @@ made v a w = record { unit = v; address = a; width = w }
 abbrev Same : PlacedLoad → PlacedLoad → Type 0
 Same l m = (l.address ≡ m.address) × (l.width ≡ m.width)
 
-own-place : (l : PlacedLoad) → same_place l l ≡ true
+pub own-place : (l : PlacedLoad) → same_place l l ≡ true
 own-place l = rw (eq-itself l.address.pointer, (Decides-int_eq l.address.offset l.address.offset).1 refl, eq-itself (bits_of l.width)) refl
 
 pub stands-at : (a : Address) (w : Width) (l : PlacedLoad) → l.address ≡ a → l.width ≡ w → loads_at a w l ≡ true
@@ -74,7 +74,7 @@ rising ssa f (suc n) = put (unit_at ssa f) (loads-from ssa f (f + 1) n (omega ar
     put (Some (Operation op w k xs)) e r = r
 
 -- of the number of a unit
-unit-bounds : (ssa : Ssa) (v : ℕ) (u : SsaUnit) → unit_at ssa v ≡ Some u → (arguments ssa ≤ v) × (v < arguments ssa + length ssa.units)
+pub unit-bounds : (ssa : Ssa) (v : ℕ) (u : SsaUnit) → unit_at ssa v ≡ Some u → (arguments ssa ≤ v) × (v < arguments ssa + length ssa.units)
 unit-bounds ssa v u e = elim (cases_Bool (nat_lt v (arguments ssa))) [
   | inl t ↦ absurd (let f : None ≡ Some u = rw t at e in cc)
   | inr f ↦
@@ -84,7 +84,7 @@ unit-bounds ssa v u e = elim (cases_Bool (nat_lt v (arguments ssa))) [
       (le, omega (arith, h, le))
 ]
 
-number-has : (u f n : ℕ) → f ≤ u → u < f + n → Has u (numbers_from f n)
+pub number-has : (u f n : ℕ) → f ≤ u → u < f + n → Has u (numbers_from f n)
 number-has u f zero a b = absurd (omega (arith, a, b))
 number-has u f (suc n) a b = elim (cases_Bool (nat_eq f u)) [
   | inl t ↦ inl (grind (arith, nat_tests, t))

@@ -1,12 +1,15 @@
 -- What runs of loads and load groups promise.
-use Rattle.std.specs.Prelude.{◌≡◌, ℕ, List, Some, slice_get}
+use Rattle.std.specs.Prelude.{◌≡◌, ℕ, List, length, Some, slice_get}
 use Rattle.vg_base.specs.declared.address.Address.{Address}
 use Rattle.vg_base.specs.declared.width.Width.{Width}
 use Rattle.vg_group_laws.specs.Cuts.{AreCutFrom}
 use Rattle.vg_group_laws.specs.Runs.{IsFirstLoad, IsWholeRun, PlacedLoad}
+use Rattle.vg_group_laws.specs.Tiles.{IsTile}
+use Rattle.vg_kernel_plans.specs.Groups.{aligned_groups}
 use Rattle.vg_kernel_plans.specs.LoadGroups.{first_loads, groups_in, load_groups, run_begins, run_of}
 use Rattle.vg_plans.specs.Members.{Has}
 use Rattle.vg_shapes.specs.declared.pack.Pack.{Pack}
+use Rattle.vg_shapes.specs.declared.pack.Pack.TheVariants.{Stores}
 use Rattle.vg_shapes.specs.declared.ssa.Ssa.{Ssa}
 use Rattle.vg_shapes.specs.Pack.{units_of}
 
@@ -57,3 +60,16 @@ pub record AreApart (groups : List Pack) : Type 0 where
 
 abbrev pub LoadGroupsAreApart : Type 0
 LoadGroupsAreApart = (ssa : Ssa) (register : ℕ) → AreApart (load_groups ssa register)
+
+-- each aligned group is stores beside each other that begin a multiple of as many places behind the place
+-- where their run begins
+abbrev pub AlignedGroupsAreTiles : Type 0
+AlignedGroupsAreTiles =
+    (ssa : Ssa) (p : Pack) → Has p (aligned_groups ssa)
+    → (us : List ℕ) × (p ≡ Stores us) × IsTile ssa us
+
+-- two aligned groups of as many stores are the same or have no unit in common
+abbrev pub AlignedGroupsTile : Type 0
+AlignedGroupsTile =
+    (ssa : Ssa) (p q : Pack) (v : ℕ) → Has p (aligned_groups ssa) → Has q (aligned_groups ssa)
+    → length (units_of p) ≡ length (units_of q) → Has v (units_of p) → Has v (units_of q) → p ≡ q

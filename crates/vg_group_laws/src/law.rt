@@ -1,6 +1,6 @@
 //! The laws on runs of loads and on load groups.
 
-ghost use Rattle.vg_group_laws.specs.Laws.{FirstLoadsAreInRuns, GroupsAreCutFromRuns, LoadGroupsAreApart, RunsCannotBeLonger};
+ghost use Rattle.vg_group_laws.specs.Laws.{AlignedGroupsAreTiles, AlignedGroupsTile, FirstLoadsAreInRuns, GroupsAreCutFromRuns, LoadGroupsAreApart, RunsCannotBeLonger};
 
 /// A law that costs nothing to call: the run that a load begins begins with it, each unit of it is the
 /// first that loads from its place, right behind the place of the one before, and no load of that pointer
@@ -24,4 +24,15 @@ pub fn groups_are_cut_from_runs()
 /// A law: no unit stands in two load groups of a register, or twice in one.
 pub fn load_groups_are_apart()
     ensures { LoadGroupsAreApart }
+{}
+
+/// A law: each aligned store group is stores of one rank beside each other, which begin a multiple of as
+/// many places behind the place where their run begins.
+pub fn aligned_groups_are_tiles()
+    ensures { AlignedGroupsAreTiles }
+{}
+
+/// A law: two aligned store groups of as many stores are the same or have no unit in common.
+pub fn aligned_groups_tile()
+    ensures { AlignedGroupsTile }
 {}

@@ -1,4 +1,4 @@
-use Rattle.vg_group_laws.proofs.Starts.{groups-apart}
+use Rattle.vg_group_laws.proofs.Parted.{groups-apart}
 use Rattle.vg_group_laws.proofs.law.load_groups_are_apart.Goals as goal
 
 pub returns : goal.returns
