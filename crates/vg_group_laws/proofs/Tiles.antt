@@ -5,7 +5,7 @@ use Rattle.std.specs.Prelude.{◌&&◌, if◌then◌else◌, is_some, nat_eq, na
 use Rattle.std.specs.List.{filter_map, list_all}
 use Rattle.std.proofs.lemmas.Bool.{cases_Bool}
 use Rattle.std.proofs.lemmas.Bool.Decides.{nat_tests}
-use Rattle.std.proofs.Math.Nat.{add-mul, mul-div_cancel, mul_assoc, suc-mul}
+use Rattle.std.proofs.Math.Nat.{add-mul, mul-div_cancel, mul-mod_left, mul_assoc, suc-mul}
 use Rattle.std.proofs.lemmas.Nat.{div-add-mod', div-mul-add}
 use Rattle.vg_base.specs.declared.address.Address.{Address}
 use Rattle.vg_base.specs.declared.width.Width.{Width}
@@ -21,7 +21,7 @@ use Rattle.vg_kernel_plans.proofs.SameTests.{both-true}
 use Rattle.vg_plans.specs.Members.{Every, Has}
 use Rattle.vg_plans.proofs.Disjoint.{unique-length}
 use Rattle.vg_plans.proofs.Lists.{every-has, every-implies}
-use Rattle.vg_plans.proofs.Members.{Includes, Unique, from-filter, from-flat_map}
+use Rattle.vg_plans.proofs.Members.{Includes, Unique, from-filter, from-flat_map, has-filter}
 use Rattle.vg_shapes.specs.declared.pack.Pack.{Pack}
 use Rattle.vg_shapes.specs.declared.pack.Pack.TheVariants.{Stores, Loads, Call}
 use Rattle.vg_shapes.specs.declared.ssa.Ssa.{Ssa}
@@ -289,20 +289,24 @@ whole-turns w count m e =
     cancel W32 x e = omega (arith, e)
     cancel W64 x e = omega (arith, e)
 
-tile-of : (ssa : Ssa) (w : Width) (rank : ℕ) (a : Address) (us : List ℕ) → AreRanked ssa w rank a us → is_aligned ssa (Stores us) ≡ true → Tile ssa w rank us
-tile-of ssa w rank a [] r t = absurd (cc)
-tile-of ssa w rank a (u ∷ us) r t =
-    let s = store-of ssa a w rank u r.0 in
+-- whether stores beside each other are aligned
+aligned-by : (ssa : Ssa) (w : Width) (rank : ℕ) (a : Address) (u : ℕ) (us : List ℕ) → IsStoreOf ssa a w rank u
+    → is_aligned ssa (Stores (u ∷ us)) ≡ nat_eq (stores_ahead ssa a w rank (length ssa.units) * size_of w % (length (u ∷ us) * size_of w)) 0
+aligned-by ssa w rank a u us s =
     let m = length (u ∷ us) in
     let size : m * first_width ssa (u ∷ us) / 8 ≡ m * size_of w =
     ap (λ o. m * unit_width o / 8) s.store ∙ bytes-of w m
     in
-    let count = stores_ahead ssa a w rank (length ssa.units) in
-    let same : nat_eq ((count * size_of w) % (m * size_of w)) 0 ≡ true =
-    sym (aligned-as ssa (m * first_width ssa (u ∷ us) / 8) u (unit_at ssa u) a w s.value s.store
+    aligned-as ssa (m * first_width ssa (u ∷ us) / 8) u (unit_at ssa u) a w s.value s.store
     ∙ ap (λ k. nat_eq ((stores_ahead ssa a w k (length ssa.units) * size_of w) % (m * first_width ssa (u ∷ us) / 8)) 0) s.before
-    ∙ ap (λ b. nat_eq ((count * size_of w) % b) 0) size) ∙ t
-    in
+    ∙ ap (λ b. nat_eq ((stores_ahead ssa a w rank (length ssa.units) * size_of w) % b) 0) size
+
+tile-of : (ssa : Ssa) (w : Width) (rank : ℕ) (a : Address) (us : List ℕ) → AreRanked ssa w rank a us → is_aligned ssa (Stores us) ≡ true → Tile ssa w rank us
+tile-of ssa w rank a [] r t = absurd (cc)
+tile-of ssa w rank a (u ∷ us) r t =
+    let m = length (u ∷ us) in
+    let count = stores_ahead ssa a w rank (length ssa.units) in
+    let same : nat_eq (count * size_of w % (m * size_of w)) 0 ≡ true = sym (aligned-by ssa w rank a u us (store-of ssa a w rank u r.0)) ∙ t in
     let whole = whole-turns w count m (eq-is (count * size_of w % (m * size_of w)) 0 same) in
     let k = count-ahead ssa w rank (length ssa.units) u a [] r.0 tt (λ x h. absurd h) tt (omega arith) in
     record {
@@ -382,3 +386,45 @@ groups-tile ssa p q v h k l i j =
     let moved : Tile ssa x.width x.rank y.units = subst (λ w. Tile ssa w x.rank y.units) same.1 (subst (λ r. Tile ssa y.width r y.units) same.2 s) in
     let lengths : length x.units ≡ length y.units = ap (λ g. length (units_of g)) (sym x.pack) ∙ l ∙ ap (λ g. length (units_of g)) y.pack in
     x.pack ∙ ap Stores (two-tiles ssa x.width x.rank x.units y.units v t moved lengths has_x has_y) ∙ sym y.pack
+
+-- ---- tiles are aligned
+
+-- places that are taken, from one on
+back-of : (Taken : Address → Type 0) (s n : ℕ) (a : Address) → ((j : ℕ) → j < n → Taken (behind a (j * s))) → Back Taken s n (behind a (n * s)) a
+back-of Taken s zero a f =
+    let z : 0 ≡ 0 * s = omega arith in
+    subst (λ b. Back Taken s zero b a) (sym (behind-none a) ∙ ap (behind a) z) (here a)
+back-of Taken s (suc n) a f =
+    let m : suc n * s ≡ n * s + s = suc-mul n s in
+    let place : behind a (n * s) ≡ ahead (behind a (suc n * s)) s =
+    sym (ahead-behind (behind a (n * s)) s) ∙ ap (λ c. ahead c s) (behind-behind a (n * s) s ∙ ap (behind a) (sym m))
+    in
+    more n (behind a (suc n * s)) a (subst Taken place (f n (omega arith)))
+    (subst (λ b. Back Taken s n b a) place (back-of Taken s n a (λ j l. f j (omega (arith, l)))))
+
+is-tile-aligned : (ssa : Ssa) (us : List ℕ) → IsTile ssa us → is_aligned ssa (Stores us) ≡ true
+is-tile-aligned ssa [] t = let l = t.some in absurd (omega (arith, l))
+is-tile-aligned ssa (u ∷ us) t =
+    let w = t.width in
+    let m = length (u ∷ us) in
+    let a = behind t.start (t.turns * m * size_of w) in
+    let z : t.turns * m + 0 ≡ t.turns * m = omega arith in
+    let s : IsStoreOf ssa a w t.rank u = subst (λ n. IsStoreOf ssa (behind t.start (n * size_of w)) w t.rank u) z (t.stores 0 u refl) in
+    let at_rank = store-at ssa a w t.rank u s in
+    let k = count-ahead ssa w t.rank (length ssa.units) u a [] at_rank tt (λ x h. absurd h) tt (omega arith) in
+    let back : Back (Stands ssa w t.rank) (size_of w) (t.turns * m) a t.start =
+    back-of (Stands ssa w t.rank) (size_of w) (t.turns * m) t.start (λ j l.
+    let q = t.between j l in (q.0, store-at ssa (behind t.start (j * size_of w)) w t.rank q.0 q.1))
+    in
+    let none : Stands ssa w t.rank (ahead t.start (size_of w)) → ⊥ =
+    λ q. t.none_ahead (q.0, store-of ssa (ahead t.start (size_of w)) w t.rank q.0 q.1)
+    in
+    let count = stores_ahead ssa a w t.rank (length ssa.units) in
+    let same = one-start (Stands ssa w t.rank) (size_of w) count (t.turns * m) a k.start t.start k.back back k.none none in
+    let whole : count * size_of w % (m * size_of w) ≡ 0 =
+    ap (λ n. n * size_of w % (m * size_of w)) same.1 ∙ ap (λ n. n % (m * size_of w)) (mul_assoc t.turns m (size_of w)) ∙ mul-mod_left t.turns (m * size_of w)
+    in
+    aligned-by ssa w t.rank a u us s ∙ ap (λ n. nat_eq n 0) whole
+
+pub tiles-are-aligned : (ssa : Ssa) (us : List ℕ) → Has (Stores us) (store_groups ssa) → IsTile ssa us → Has (Stores us) (aligned_groups ssa)
+tiles-are-aligned ssa us h t = has-filter (is_aligned ssa) (Stores us) (store_groups ssa) h (is-tile-aligned ssa us t)

@@ -5,7 +5,7 @@ use Rattle.vg_base.specs.declared.width.Width.{Width}
 use Rattle.vg_group_laws.specs.Cuts.{AreCutFrom}
 use Rattle.vg_group_laws.specs.Runs.{IsFirstLoad, IsWholeRun, PlacedLoad}
 use Rattle.vg_group_laws.specs.Tiles.{IsTile}
-use Rattle.vg_kernel_plans.specs.Groups.{aligned_groups}
+use Rattle.vg_kernel_plans.specs.Groups.{aligned_groups, store_groups}
 use Rattle.vg_kernel_plans.specs.LoadGroups.{first_loads, groups_in, load_groups, run_begins, run_of}
 use Rattle.vg_plans.specs.Members.{Has}
 use Rattle.vg_shapes.specs.declared.pack.Pack.{Pack}
@@ -61,12 +61,17 @@ pub record AreApart (groups : List Pack) : Type 0 where
 abbrev pub LoadGroupsAreApart : Type 0
 LoadGroupsAreApart = (ssa : Ssa) (register : ℕ) → AreApart (load_groups ssa register)
 
--- each aligned group is stores beside each other that begin a multiple of as many places behind the place
--- where their run begins
+-- the aligned groups are the store groups that begin a multiple of as many places behind the place where
+-- their run begins
+pub record AreTiles (ssa : Ssa) : Type 0 where
+  pub tiles :
+      (p : Pack) → Has p (aligned_groups ssa) → (us : List ℕ) × (p ≡ Stores us) × IsTile ssa us
+  pub all :
+      (us : List ℕ) → Has (Stores us) (store_groups ssa) → IsTile ssa us
+      → Has (Stores us) (aligned_groups ssa)
+
 abbrev pub AlignedGroupsAreTiles : Type 0
-AlignedGroupsAreTiles =
-    (ssa : Ssa) (p : Pack) → Has p (aligned_groups ssa)
-    → (us : List ℕ) × (p ≡ Stores us) × IsTile ssa us
+AlignedGroupsAreTiles = (ssa : Ssa) → AreTiles ssa
 
 -- two aligned groups of as many stores are the same or have no unit in common
 abbrev pub AlignedGroupsTile : Type 0

@@ -26,8 +26,8 @@ pub fn load_groups_are_apart()
     ensures { LoadGroupsAreApart }
 {}
 
-/// A law: each aligned store group is stores of one rank beside each other, which begin a multiple of as
-/// many places behind the place where their run begins.
+/// A law: the aligned store groups are those store groups that begin a multiple of as many places behind the
+/// place where their run begins, the run of the stores of one width and rank beside each other.
 pub fn aligned_groups_are_tiles()
     ensures { AlignedGroupsAreTiles }
 {}
