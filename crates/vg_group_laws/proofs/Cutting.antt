@@ -1,6 +1,6 @@
 -- Groups are cut from the front of a run, each the largest part.
 use Rattle.std.proofs.Common.{◌≡◌, ℕ, zero, suc, ◌+◌, ◌*◌, ◌/◌, ◌≤◌, Bool, true, false, List, [], ◌∷◌, ◌++◌, take, drop, length, refl, sym, ◌∙◌, ap, subst, inl, inr, arith, append_assoc, length-append}
-use Rattle.std.specs.Prelude.{◌&&◌, filter, find, nat_eq, nat_le, Option, Some, None}
+use Rattle.std.specs.Prelude.{filter, find, nat_eq, nat_le, Option, Some, None}
 use Rattle.std.specs.List.{flat_map}
 use Rattle.std.proofs.lemmas.Bool.{cases_Bool}
 use Rattle.std.proofs.lemmas.Bool.Decides.{nat_tests}
@@ -16,7 +16,7 @@ use Rattle.vg_kernel_plans.specs.Taken.{register_of_bytes}
 use Rattle.vg_kernel_plans.proofs.LoadPacks.{found-is}
 use Rattle.vg_kernel_plans.proofs.SameTests.{both-true, eq-itself}
 use Rattle.vg_plans.specs.Members.{Every, Has}
-use Rattle.vg_plans.proofs.Lists.{every-filter, every-has, take-whole}
+use Rattle.vg_plans.proofs.Lists.{every-filter, every-has}
 use Rattle.vg_plans.proofs.Members.{any-found, from-filter, has-filter}
 use Rattle.vg_shapes.specs.declared.pack.Pack.{Pack}
 use Rattle.vg_shapes.specs.declared.pack.Pack.TheVariants.{Loads}

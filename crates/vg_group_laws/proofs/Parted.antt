@@ -1,5 +1,5 @@
 -- No unit is in two load groups of a register: groups are parts of runs, and runs have no unit in common.
-use Rattle.std.proofs.Common.{◌≡◌, ℕ, List, sym, subst}
+use Rattle.std.proofs.Common.{ℕ, List, sym, subst}
 use Rattle.std.specs.List.{flat_map}
 use Rattle.vg_group_laws.specs.Laws.{AreApart}
 use Rattle.vg_group_laws.specs.Runs.{PlacedLoad}

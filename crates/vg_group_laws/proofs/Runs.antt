@@ -14,7 +14,6 @@ use Rattle.vg_plans.proofs.Disjoint.{unique-length}
 use Rattle.vg_plans.proofs.Lists.{every-has, every-implies}
 use Rattle.vg_plans.proofs.Members.{Includes, Unique}
 use Rattle.vg_shapes.specs.declared.ssa.Ssa.{Ssa}
-use Rattle.vg_shapes.specs.declared.ssa_unit.SsaUnit.TheVariants.{Load}
 use Rattle.vg_shapes.specs.Pack.{behind}
 use Rattle.vg_shapes.specs.Units.{unit_at}
 
@@ -98,7 +97,7 @@ whole-run ssa l h =
     record {
       begins = begins-with ssa l b.0 (run_of (first_loads ssa) l) (run-whole ssa l);
       none_ahead = none-ahead ssa l b.1;
-      none_behind = run-whole ssa l;
+      goes_on = run-whole ssa l;
     }
 
 -- ---- units of runs

@@ -8,8 +8,8 @@ use Rattle.vg_group_laws.specs.Laws.{AreInRuns, IsInOneRun}
 use Rattle.vg_group_laws.specs.Runs.{IsFirstLoad, IsLoaded, PlacedLoad, RunOn}
 use Rattle.vg_group_laws.proofs.Addresses.{ahead-behind, behind-ahead, behind-behind, not-behind, size-some}
 use Rattle.vg_group_laws.proofs.Back.{Back, here, more, one-start}
-use Rattle.vg_group_laws.proofs.Listed.{Listed, ahead-none, begin-listed, first-at, first-same, found-none, listed-at, listed-begin, listed-loaded, loaded-at, member-first, member-same, none-ahead, one-load, stands-at}
-use Rattle.vg_group_laws.proofs.Runs.{AreElsewhere, one-more, run-place, run-unique, run-whole, used-less}
+use Rattle.vg_group_laws.proofs.Listed.{ahead-none, begin-listed, first-at, first-same, found-none, listed-at, listed-begin, listed-loaded, loaded-at, member-first, member-same, none-ahead, one-load, stands-at}
+use Rattle.vg_group_laws.proofs.Runs.{AreElsewhere, one-more, run-place, run-whole, used-less}
 use Rattle.vg_kernel_plans.specs.Groups.{ahead}
 use Rattle.vg_kernel_plans.specs.LoadGroups.{first_loads, loads_at, run_begins, run_of}
 use Rattle.vg_kernel_plans.proofs.LoadPacks.{at-place, found-is}

@@ -1,6 +1,6 @@
 -- Lists in which nothing stands twice.
 use Rattle.std.proofs.Common.{◌≡◌, ℕ, zero, suc, Bool, true, false, List, [], ◌∷◌, ◌++◌, refl, sym, ◌∙◌, ap, subst, inl, inr}
-use Rattle.std.specs.Prelude.{◌⊎◌, filter, nat_le, slice_get, Option, Some, None}
+use Rattle.std.specs.Prelude.{◌⊎◌, filter, nat_le, slice_get, Some}
 use Rattle.std.specs.List.{flat_map, list_any}
 use Rattle.std.proofs.lemmas.Bool.{cases_Bool}
 use Rattle.std.proofs.lemmas.Grind.{flat_map-append}

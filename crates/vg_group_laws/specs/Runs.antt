@@ -37,4 +37,4 @@ RunOn ssa w a (u ∷ us) = IsFirstLoad ssa a w u × RunOn ssa w (behind a (size_
 pub record IsWholeRun (ssa : Ssa) (l : PlacedLoad) (run : List ℕ) : Type 0 where
   pub begins : (others : List ℕ) × (run ≡ l.unit ∷ others)
   pub none_ahead : IsLoaded ssa (ahead l.address (size_of l.width)) l.width → ⊥
-  pub none_behind : RunOn ssa l.width l.address run
+  pub goes_on : RunOn ssa l.width l.address run
