@@ -1,4 +1,4 @@
--- What runs of loads and load groups promise.
+-- What runs of loads, load groups and aligned store groups promise.
 use Rattle.std.specs.Prelude.{◌≡◌, ℕ, List, length, Some, slice_get}
 use Rattle.vg_base.specs.declared.address.Address.{Address}
 use Rattle.vg_base.specs.declared.width.Width.{Width}

@@ -1,4 +1,4 @@
-//! The laws on runs of loads and on load groups.
+//! The laws on runs of loads, on load groups and on aligned store groups.
 
 ghost use Rattle.vg_group_laws.specs.Laws.{AlignedGroupsAreTiles, AlignedGroupsTile, FirstLoadsAreInRuns, GroupsAreCutFromRuns, LoadGroupsAreApart, RunsCannotBeLonger};
 
