@@ -121,86 +121,21 @@ impl Expr {
     }
 
     /// The same in parentheses that begin at a place.
-    pub(crate) fn with_outer(self, place: Place) -> Expr
+    pub(crate) fn with_outer(mut self, place: Place) -> Expr
         ensures { expression_of result ≡ with_outer place (expression_of self) }
     {
-        match self {
-            Expr::Number { spot, value } => Expr::Number {
-                spot: spot.around(place),
-                value,
-            },
-            Expr::Name { spot, name } => Expr::Name {
-                spot: spot.around(place),
-                name,
-            },
-            Expr::Slice {
-                spot,
-                name,
-                high,
-                low,
-            } => Expr::Slice {
-                spot: spot.around(place),
-                name,
-                high,
-                low,
-            },
-            Expr::Bit { spot, name, index } => Expr::Bit {
-                spot: spot.around(place),
-                name,
-                index,
-            },
-            Expr::Element {
-                spot,
-                name,
-                size,
-                index,
-            } => Expr::Element {
-                spot: spot.around(place),
-                name,
-                size,
-                index,
-            },
-            Expr::Part { spot, name, size } => Expr::Part {
-                spot: spot.around(place),
-                name,
-                size,
-            },
-            Expr::Unary { spot, op, operand } => Expr::Unary {
-                spot: spot.around(place),
-                op,
-                operand,
-            },
-            Expr::Binary {
-                spot,
-                op,
-                left,
-                right,
-            } => Expr::Binary {
-                spot: spot.around(place),
-                op,
-                left,
-                right,
-            },
-            Expr::Choice {
-                spot,
-                condition,
-                first,
-                second,
-            } => Expr::Choice {
-                spot: spot.around(place),
-                condition,
-                first,
-                second,
-            },
-            Expr::Call {
-                spot,
-                name,
-                arguments,
-            } => Expr::Call {
-                spot: spot.around(place),
-                name,
-                arguments,
-            },
+        match &mut self {
+            Expr::Number { spot, .. } => *spot = spot.around(place),
+            Expr::Name { spot, .. } => *spot = spot.around(place),
+            Expr::Slice { spot, .. } => *spot = spot.around(place),
+            Expr::Bit { spot, .. } => *spot = spot.around(place),
+            Expr::Element { spot, .. } => *spot = spot.around(place),
+            Expr::Part { spot, .. } => *spot = spot.around(place),
+            Expr::Unary { spot, .. } => *spot = spot.around(place),
+            Expr::Binary { spot, .. } => *spot = spot.around(place),
+            Expr::Choice { spot, .. } => *spot = spot.around(place),
+            Expr::Call { spot, .. } => *spot = spot.around(place),
         }
+        self
     }
 }

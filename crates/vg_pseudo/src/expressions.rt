@@ -1,22 +1,19 @@
 //! Reads an expression. The level tells how loose the operators outside of calls, parentheses and brackets may bind: 0
 //! for none, 1 for `*` alone, up to 7 for all, 8 for `?` too. The room tells how many nodes may stand one below the other.
 
-ghost use Rattle.std.specs.Prelude.{◌≡◌, ◌≤◌, ◌+◌, [], ◌∷◌, map, Ok, OnOk, IfOk, codes};
+ghost use Rattle.std.specs.Prelude.{◌≡◌, ◌≤◌, ◌+◌, [], ◌∷◌, map, OnOk, IfOk, codes};
 ghost use Rattle.std.specs.List.{All};
 ghost use Rattle.vg_text.specs.Lexing.{reading, spelled_of};
-ghost use Rattle.vg_pseudo.specs.Reads.{Gives, Reads};
-ghost use Rattle.vg_base.specs.Bind.{or_fault};
+ghost use Rattle.vg_pseudo.specs.Reads.{Reads};
 ghost use Rattle.vg_pseudo.specs.Reader.{accept_at, items_behind, unread};
-ghost use Rattle.vg_pseudo.specs.Spots.{spot_at};
-ghost use Rattle.vg_pseudo.specs.Tree.{name, part};
-ghost use Rattle.vg_pseudo.specs.declared.fault.PseudoFault.TheVariants.{Shape};
 ghost use Rattle.vg_pseudo.specs.Views.{part_of};
-ghost use Rattle.vg_pseudo.specs.Expressions.{leaf, index_in, slice_end, bracket_at, element_end, element_at, form_at, parenthesised_at, prefixed_at, arguments_at, function_of, function_at, counted, takes, call_at, free_at, named_at, plain_at, operand_at, operator_of, operator_at, join_at, joined_one, joined_at, compared_at, choice_at, chosen_at, behind_at, level_at, too_deep_at, expression_at, whole_at};
+ghost use Rattle.vg_pseudo.specs.Expressions.{index_in, slice_end, bracket_at, element_end, element_at, form_at, parenthesised_at, prefixed_at, arguments_at, function_at, call_at, free_at, named_at, plain_at, operand_at, operator_of, operator_at, join_at, joined_one, joined_at, compared_at, choice_at, chosen_at, behind_at, level_at, too_deep_at, expression_at, whole_at};
 
-use crate::definitions::{Callee, Definitions};
+use crate::calls::{counted, function_node, takes};
+use crate::definitions::Definitions;
 use crate::expression::Expr;
 use crate::fault::PseudoFault;
-use crate::nodes::{binary, bit, call_node, choice, element, slice, unary};
+use crate::nodes::{binary, bit, call_node, choice, element, name_leaf, part_leaf, slice, unary};
 use crate::operators::{BinaryOp, UnaryOp};
 use crate::parts::{Part, leaf};
 use crate::reading::{accept, expect, next};
@@ -26,7 +23,7 @@ use crate::words::{
     operator_named, prefix_named,
 };
 use std::alloc::Global;
-use vg_base::{Name, Width};
+use vg_base::Width;
 use vg_text::byte::is_text;
 use vg_text::lexer::Word;
 use vg_text::{Lexer, Place};
@@ -79,90 +76,6 @@ fn operator(level: u32, lexer: &mut Lexer<'_>) -> Result<Option<BinaryOp>, Pseud
             Ok(Some(op))
         }
         None => Ok(None),
-    }
-}
-
-/// A name that stands alone.
-fn name_leaf(alloc: Global, word: Word<'_>) -> Result<Part, PseudoFault>
-    ensures node { Gives part_of result (Ok (leaf (name (spot_at word.entry.place)
-        word.entry.bytes.now))) }
-    ensures deep { IfOk result (λ p. p.depth ≡ 1) }
-{
-    let name = Name::new(alloc, word.bytes)?;
-    Ok(leaf(Expr::Name {
-        spot: Spot::at(word.place),
-        name,
-    }))
-}
-
-/// `name.elem`
-fn part_leaf(alloc: Global, word: Word<'_>, size: Width) -> Result<Part, PseudoFault>
-    ensures node { Gives part_of result (Ok (leaf (part (spot_at word.entry.place)
-        word.entry.bytes.now size))) }
-    ensures deep { IfOk result (λ p. p.depth ≡ 1) }
-{
-    let name = Name::new(alloc, word.bytes)?;
-    Ok(leaf(Expr::Part {
-        spot: Spot::at(word.place),
-        name,
-        size,
-    }))
-}
-
-/// What a call counts for.
-fn counted(
-    definitions: &Definitions,
-    callee: Option<Callee>,
-    place: Place,
-) -> Result<u8, PseudoFault>
-    ensures { Gives (λ n. n) result (counted definitions.now callee place) }
-{
-    let Some(callee) = callee else {
-        return Ok(0);
-    };
-    if !definitions.is_inside() {
-        return Ok(0);
-    }
-    if callee.depth < 64 {
-        Ok(callee.depth as u8)
-    } else {
-        Err(PseudoFault::NestingTooDeep { place })
-    }
-}
-
-/// Whether a call has as many arguments as its DEFINE has parameters.
-fn takes(callee: Option<Callee>, count: usize) -> bool
-    ensures { result ≡ takes callee count }
-{
-    match callee {
-        Some(callee) => count == callee.arity,
-        None => true,
-    }
-}
-
-/// A function of as many arguments as it takes. None where there are more or fewer.
-fn function_node(
-    alloc: Global,
-    function: Function,
-    place: Place,
-    parts: Vec<Part>,
-    room: u32,
-) -> Result<Part, PseudoFault>
-    requires few { room ≤ 63 }
-    requires deep { All (λ p. p.depth ≤ room) parts.items }
-    ensures node { Gives part_of result (or_fault (function_of function place (map part_of
-        parts.items)) (Shape place)) }
-    ensures deep { IfOk result (λ p. p.depth ≤ room + 1) }
-{
-    let mut parts = parts;
-    let count = parts.len();
-    let (Some(last), before) = (parts.pop(), parts.pop()) else {
-        return Err(PseudoFault::Shape { place });
-    };
-    match (function, before) {
-        (Function::One(op), None) => unary(alloc, op, place, last),
-        (Function::Two(op), Some(first)) if count == 2 => binary(alloc, op, place, first, last),
-        _ => Err(PseudoFault::Shape { place }),
     }
 }
 

@@ -6,6 +6,7 @@
 #![tactic(auto)]
 
 mod blocks;
+mod calls;
 mod definitions;
 pub mod expression;
 mod expressions;

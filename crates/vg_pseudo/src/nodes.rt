@@ -1,11 +1,11 @@
-//! Expressions above those that were read.
+//! Expressions of names, and expressions above those that were read.
 
 ghost use Rattle.std.specs.Prelude.{◌≡◌, ◌≤◌, ◌<◌, ◌+◌, ◌^◌, max, map, Ok, IfOk, IfSome};
 ghost use Rattle.std.specs.List.{All};
 ghost use Rattle.vg_text.specs.Lexing.{spelled_of};
 ghost use Rattle.vg_pseudo.specs.Reads.{Gives};
 ghost use Rattle.vg_pseudo.specs.Spots.{spot_at, outer_of};
-ghost use Rattle.vg_pseudo.specs.Tree.{bit, slice, element, unary, binary, choice};
+ghost use Rattle.vg_pseudo.specs.Tree.{name, part, bit, slice, element, unary, binary, choice};
 ghost use Rattle.vg_pseudo.specs.Views.{part_of, linked_of};
 ghost use Rattle.vg_pseudo.specs.Expressions.{leaf, above_one, above_two, above_three, linked_one, linked_none, linked, call_of};
 
@@ -18,6 +18,33 @@ use std::alloc::Global;
 use vg_base::{Name, Width};
 use vg_text::Place;
 use vg_text::lexer::Word;
+
+/// A name that stands alone.
+pub(crate) fn name_leaf(alloc: Global, word: Word<'_>) -> Result<Part, PseudoFault>
+    ensures node { Gives part_of result (Ok (leaf (name (spot_at word.entry.place)
+        word.entry.bytes.now))) }
+    ensures deep { IfOk result (λ p. p.depth ≡ 1) }
+{
+    let name = Name::new(alloc, word.bytes)?;
+    Ok(leaf(Expr::Name {
+        spot: Spot::at(word.place),
+        name,
+    }))
+}
+
+/// `name.elem`
+pub(crate) fn part_leaf(alloc: Global, word: Word<'_>, size: Width) -> Result<Part, PseudoFault>
+    ensures node { Gives part_of result (Ok (leaf (part (spot_at word.entry.place)
+        word.entry.bytes.now size))) }
+    ensures deep { IfOk result (λ p. p.depth ≡ 1) }
+{
+    let name = Name::new(alloc, word.bytes)?;
+    Ok(leaf(Expr::Part {
+        spot: Spot::at(word.place),
+        name,
+        size,
+    }))
+}
 
 /// `name[index]`
 pub(crate) fn bit(alloc: Global, word: Word<'_>, index: Part) -> Result<Part, PseudoFault>

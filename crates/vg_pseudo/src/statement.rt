@@ -149,96 +149,20 @@ impl Drop for Stmt {
 
 impl Stmt {
     /// One statement, way or arm, with these after it in place of its own.
-    pub(crate) fn followed(self, next: Stmt) -> Stmt
+    pub(crate) fn followed(mut self, next: Stmt) -> Stmt
         ensures { statements_of result ≡ followed (statements_of self) (statements_of next) }
     {
-        match self {
-            Stmt::End => Stmt::End,
-            Stmt::Assign {
-                place,
-                target,
-                value,
-                mut rest,
-            } => {
-                *rest = next;
-                Stmt::Assign {
-                    place,
-                    target,
-                    value,
-                    rest,
-                }
-            }
-            Stmt::AssignAbove {
-                place,
-                name,
-                low,
-                value,
-                mut rest,
-            } => {
-                *rest = next;
-                Stmt::AssignAbove {
-                    place,
-                    name,
-                    low,
-                    value,
-                    rest,
-                }
-            }
-            Stmt::For {
-                place,
-                variable,
-                first,
-                last,
-                body,
-                mut rest,
-            } => {
-                *rest = next;
-                Stmt::For {
-                    place,
-                    variable,
-                    first,
-                    last,
-                    body,
-                    rest,
-                }
-            }
-            Stmt::If { ways, mut rest } => {
-                *rest = next;
-                Stmt::If { ways, rest }
-            }
-            Stmt::Way {
-                condition,
-                body,
-                mut ways,
-            } => {
-                *ways = next;
-                Stmt::Way {
-                    condition,
-                    body,
-                    ways,
-                }
-            }
-            Stmt::Else { body } => Stmt::Else { body },
-            Stmt::Case {
-                selector,
-                arms,
-                mut rest,
-            } => {
-                *rest = next;
-                Stmt::Case {
-                    selector,
-                    arms,
-                    rest,
-                }
-            }
-            Stmt::Arm {
-                number,
-                body,
-                mut arms,
-            } => {
-                *arms = next;
-                Stmt::Arm { number, body, arms }
-            }
+        match &mut self {
+            Stmt::End => {}
+            Stmt::Assign { rest, .. } => **rest = next,
+            Stmt::AssignAbove { rest, .. } => **rest = next,
+            Stmt::For { rest, .. } => **rest = next,
+            Stmt::If { rest, .. } => **rest = next,
+            Stmt::Way { ways, .. } => **ways = next,
+            Stmt::Else { .. } => {}
+            Stmt::Case { rest, .. } => **rest = next,
+            Stmt::Arm { arms, .. } => **arms = next,
         }
+        self
     }
 }
