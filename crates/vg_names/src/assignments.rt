@@ -146,15 +146,15 @@ pub(crate) fn collect<'a>(
 {
     let mut left = code;
     'statements: loop {
-        match first(alloc, given, turns, left, found) {
-            Ok(Some(rest)) => left = rest,
-            Ok(None) => return Ok(()),
-            Err(error) => return Err(error),
+        first(alloc, given, turns, left, found)?;
+        match behind(left) {
+            Some(rest) => left = rest,
+            None => return Ok(()),
         }
     }
 }
 
-/// The assignments of the first statement of these, and what stands after it.
+/// The assignments of the first statement of these.
 #[cycle(assignments)]
 fn first<'a>(
     alloc: Global,
@@ -162,60 +162,43 @@ fn first<'a>(
     turns: &[&'a [u8]],
     code: &'a Stmt,
     found: &mut Vec<Assignment<'a>>,
-) -> Result<Option<&'a Stmt>, AllocError>
-    ensures found { OnOk result (map assignment_view found.new.items ≡ map assignment_view
-        found.old.items ++ filter (is_local given.now) (first_assigned (map (λ t. t.now) turns.now)
-        (statements_of code.now))) }
-    ensures rest { IfOk result (λ o. option_map (λ s. statements_of s.now) o ≡ behind_first
-        (statements_of code.now)) }
-    ensures inside { IfOk result (λ o. IfSome o (λ s. size-Stmt s.now < size-Stmt code.now)) }
+) -> Result<(), AllocError>
+    ensures { OnOk result (map assignment_view found.new.items ≡ map assignment_view found.old.items
+        ++ filter (is_local given.now) (first_assigned (map (λ t. t.now) turns.now) (statements_of
+        code.now))) }
 {
     match code {
-        Stmt::End => Ok(None),
-        Stmt::Assign {
-            target,
-            value,
-            rest,
-            ..
-        } => {
-            assigned(alloc, given, turns, target, value, found)?;
-            Ok(Some(rest))
+        Stmt::End => Ok(()),
+        Stmt::Assign { target, value, .. } => assigned(alloc, given, turns, target, value, found),
+        Stmt::AssignAbove { name, value, .. } => {
+            unhidden(alloc, given, turns, name.bytes(), Form::Other, value, found)
         }
-        Stmt::AssignAbove {
-            name,
-            value,
-            rest,
-            ..
-        } => {
-            unhidden(alloc, given, turns, name.bytes(), Form::Other, value, found)?;
-            Ok(Some(rest))
-        }
-        Stmt::For {
-            variable,
-            body,
-            rest,
-            ..
-        } => {
-            inside(alloc, given, turns, variable, body, found)?;
-            Ok(Some(rest))
-        }
-        Stmt::If { ways, rest } => {
-            collect(alloc, given, turns, ways, found)?;
-            Ok(Some(rest))
-        }
-        Stmt::Way { body, ways, .. } => {
-            collect(alloc, given, turns, body, found)?;
-            Ok(Some(ways))
-        }
-        Stmt::Else { body } => Ok(Some(body)),
-        Stmt::Case { arms, rest, .. } => {
-            collect(alloc, given, turns, arms, found)?;
-            Ok(Some(rest))
-        }
-        Stmt::Arm { body, arms, .. } => {
-            collect(alloc, given, turns, body, found)?;
-            Ok(Some(arms))
-        }
+        Stmt::For { variable, body, .. } => inside(alloc, given, turns, variable, body, found),
+        Stmt::If { ways, .. } => collect(alloc, given, turns, ways, found),
+        Stmt::Way { body, .. } => collect(alloc, given, turns, body, found),
+        Stmt::Else { .. } => Ok(()),
+        Stmt::Case { arms, .. } => collect(alloc, given, turns, arms, found),
+        Stmt::Arm { body, .. } => collect(alloc, given, turns, body, found),
+    }
+}
+
+/// What stands after the first statement of these, or after a way or an arm that stands there; what
+/// stands in an ELSE. Nothing at their end.
+pub(crate) fn behind(code: &Stmt) -> Option<&Stmt>
+    ensures rest { option_map (λ s. statements_of s.now) result ≡ behind_first (statements_of
+        code.now) }
+    ensures inside { IfSome result (λ s. size-Stmt s.now < size-Stmt code.now) }
+{
+    match code {
+        Stmt::End => None,
+        Stmt::Assign { rest, .. } => Some(rest),
+        Stmt::AssignAbove { rest, .. } => Some(rest),
+        Stmt::For { rest, .. } => Some(rest),
+        Stmt::If { rest, .. } => Some(rest),
+        Stmt::Way { ways, .. } => Some(ways),
+        Stmt::Else { body } => Some(body),
+        Stmt::Case { rest, .. } => Some(rest),
+        Stmt::Arm { arms, .. } => Some(arms),
     }
 }
 

@@ -8,7 +8,6 @@ ghost use Rattle.vg_pseudo.specs.Tree.{expression_of, arguments_of};
 ghost use Rattle.vg_pseudo.specs.Tree as tree;
 ghost use Rattle.vg_pseudo.specs.Resolve.{read_name, register_of, resolved, all_resolved};
 ghost use Rattle.vg_pseudo.specs.Resolved.{end};
-ghost use Rattle.vg_pseudo.specs.Resolved as node;
 ghost use Rattle.vg_names.specs.Naming.{Gives, list_behind, next_argument_of};
 ghost use Rattle.vg_names.specs.Registers.{register_view};
 ghost use Rattle.vg_names.specs.Scopes.{meaning_view};
@@ -21,7 +20,7 @@ use crate::same::spread;
 use crate::scope::{Meaning, Scope};
 use std::alloc::Global;
 use vg_base::Width;
-use vg_pseudo::{Arguments, BinaryOp, Expr, Spot};
+use vg_pseudo::{Arguments, BinaryOp, Expr, Spot, UnaryOp};
 use vg_text::Place;
 
 /// A bare name that is read.
@@ -71,21 +70,7 @@ pub(crate) fn resolved(alloc: Global, scope: &Scope, expr: &Expr) -> Result<Reso
             name,
             high,
             low,
-        } => {
-            let (register, facts) = register_of(spot.inner, scope.named(name.bytes()))?;
-            let spread = spread(high, low);
-            let high = resolved(alloc, scope, high)?;
-            let low = resolved(alloc, scope, low)?;
-            slice(
-                alloc,
-                *spot,
-                facts.signed_slices,
-                register,
-                spread,
-                high,
-                low,
-            )
-        }
+        } => slice(alloc, scope, *spot, name.bytes(), high, low),
         Expr::Bit { spot, name, index } => bit(alloc, scope, *spot, name.bytes(), index),
         Expr::Element {
             spot,
@@ -94,35 +79,19 @@ pub(crate) fn resolved(alloc: Global, scope: &Scope, expr: &Expr) -> Result<Reso
             index,
         } => element(alloc, scope, *spot, name.bytes(), *size, index),
         Expr::Part { spot, name, size } => part(scope, *spot, name.bytes(), *size),
-        Expr::Unary { spot, op, operand } => {
-            let operand = Box::new(alloc, resolved(alloc, scope, operand)?)?;
-            Ok(ResolvedExpr::Unary {
-                spot: *spot,
-                op: *op,
-                operand,
-            })
-        }
+        Expr::Unary { spot, op, operand } => unary(alloc, scope, *spot, *op, operand),
         Expr::Binary {
             spot,
             op,
             left,
             right,
-        } => {
-            let left = resolved(alloc, scope, left)?;
-            let right = resolved(alloc, scope, right)?;
-            binary(alloc, *spot, *op, left, right)
-        }
+        } => binary(alloc, scope, *spot, *op, left, right),
         Expr::Choice {
             spot,
             condition,
             first,
             second,
-        } => {
-            let condition = resolved(alloc, scope, condition)?;
-            let first = resolved(alloc, scope, first)?;
-            let second = resolved(alloc, scope, second)?;
-            choice(alloc, *spot, condition, first, second)
-        }
+        } => choice(alloc, scope, *spot, condition, first, second),
         Expr::Call {
             spot,
             name,
@@ -132,23 +101,25 @@ pub(crate) fn resolved(alloc: Global, scope: &Scope, expr: &Expr) -> Result<Reso
 }
 
 /// `name[high:low]`
+#[cycle(expressions)]
 fn slice(
     alloc: Global,
+    scope: &Scope,
     spot: Spot,
-    is_signed: bool,
-    register: usize,
-    spread: Option<u128>,
-    high: ResolvedExpr,
-    low: ResolvedExpr,
+    name: &[u8],
+    high: &Expr,
+    low: &Expr,
 ) -> Result<ResolvedExpr, NameFault>
-    ensures { Gives expr_of result (Ok (node.slice spot is_signed register spread (expr_of high)
-        (expr_of low))) }
+    ensures { Gives expr_of result (resolved scope.now (tree.slice spot name.now (expression_of
+        high.now) (expression_of low.now))) }
 {
-    let high = Box::new(alloc, high)?;
-    let low = Box::new(alloc, low)?;
+    let (register, facts) = register_of(spot.inner, scope.named(name))?;
+    let spread = spread(high, low);
+    let high = Box::new(alloc, resolved(alloc, scope, high)?)?;
+    let low = Box::new(alloc, resolved(alloc, scope, low)?)?;
     Ok(ResolvedExpr::Slice {
         spot,
-        is_signed,
+        is_signed: facts.signed_slices,
         register,
         spread,
         high,
@@ -216,18 +187,37 @@ fn part(scope: &Scope, spot: Spot, name: &[u8], size: Width) -> Result<ResolvedE
     })
 }
 
-/// An operator and its operands.
+/// An operator and its operand.
+#[cycle(expressions)]
+fn unary(
+    alloc: Global,
+    scope: &Scope,
+    spot: Spot,
+    op: UnaryOp,
+    operand: &Expr,
+) -> Result<ResolvedExpr, NameFault>
+    ensures { Gives expr_of result (resolved scope.now (tree.unary spot op (expression_of
+        operand.now))) }
+{
+    let operand = Box::new(alloc, resolved(alloc, scope, operand)?)?;
+    Ok(ResolvedExpr::Unary { spot, op, operand })
+}
+
+/// An operator and its two operands.
+#[cycle(expressions)]
 fn binary(
     alloc: Global,
+    scope: &Scope,
     spot: Spot,
     op: BinaryOp,
-    left: ResolvedExpr,
-    right: ResolvedExpr,
+    left: &Expr,
+    right: &Expr,
 ) -> Result<ResolvedExpr, NameFault>
-    ensures { Gives expr_of result (Ok (node.binary spot op (expr_of left) (expr_of right))) }
+    ensures { Gives expr_of result (resolved scope.now (tree.binary spot op (expression_of left.now)
+        (expression_of right.now))) }
 {
-    let left = Box::new(alloc, left)?;
-    let right = Box::new(alloc, right)?;
+    let left = Box::new(alloc, resolved(alloc, scope, left)?)?;
+    let right = Box::new(alloc, resolved(alloc, scope, right)?)?;
     Ok(ResolvedExpr::Binary {
         spot,
         op,
@@ -237,19 +227,21 @@ fn binary(
 }
 
 /// `condition ? first : second`
+#[cycle(expressions)]
 fn choice(
     alloc: Global,
+    scope: &Scope,
     spot: Spot,
-    condition: ResolvedExpr,
-    first: ResolvedExpr,
-    second: ResolvedExpr,
+    condition: &Expr,
+    first: &Expr,
+    second: &Expr,
 ) -> Result<ResolvedExpr, NameFault>
-    ensures { Gives expr_of result (Ok (node.choice spot (expr_of condition) (expr_of first)
-        (expr_of second))) }
+    ensures { Gives expr_of result (resolved scope.now (tree.choice spot
+        (expression_of condition.now) (expression_of first.now) (expression_of second.now))) }
 {
-    let condition = Box::new(alloc, condition)?;
-    let first = Box::new(alloc, first)?;
-    let second = Box::new(alloc, second)?;
+    let condition = Box::new(alloc, resolved(alloc, scope, condition)?)?;
+    let first = Box::new(alloc, resolved(alloc, scope, first)?)?;
+    let second = Box::new(alloc, resolved(alloc, scope, second)?)?;
     Ok(ResolvedExpr::Choice {
         spot,
         condition,

@@ -1,13 +1,10 @@
 //! The names of a body that stand with brackets or with an element.
 
-ghost use Rattle.std.specs.Prelude.{◌≡◌, ◌<◌, ◌∷◌, map, OnOk, IfOk, IfSome};
-ghost use Rattle.std.specs.Option.{option_map};
+ghost use Rattle.std.specs.Prelude.{◌≡◌, ◌∷◌, map, OnOk};
 ghost use Rattle.vg_pseudo.specs.Tree.{expression_of, arguments_of, statements_of};
-ghost use Rattle.vg_pseudo.specs.declared.statement.Stmt.{size-Stmt};
-ghost use Rattle.vg_names.specs.Assigned.{behind_first};
 ghost use Rattle.vg_names.specs.Marks.{with_seen, marked, all_marked, marked_in, first_marked};
 
-use crate::assignments::{around, has_name};
+use crate::assignments::{around, behind, has_name};
 use crate::names::Names;
 use std::alloc::{AllocError, Global};
 use vg_base::Name;
@@ -114,92 +111,67 @@ pub(crate) fn mark_in<'a>(
 {
     let mut left = code;
     'statements: loop {
-        match mark_first(alloc, turns, left, names) {
-            Ok(Some(rest)) => left = rest,
-            Ok(None) => return Ok(()),
-            Err(error) => return Err(error),
+        mark_first(alloc, turns, left, names)?;
+        match behind(left) {
+            Some(rest) => left = rest,
+            None => return Ok(()),
         }
     }
 }
 
-/// Those of the first statement of these, and what stands after it.
+/// Those of the first statement of these.
 #[cycle(marks_in)]
 fn mark_first<'a>(
     alloc: Global,
     turns: &[&'a [u8]],
     code: &'a Stmt,
     names: &mut Names,
-) -> Result<Option<&'a Stmt>, AllocError>
-    ensures marked { OnOk result (names.new ≡ first_marked (map (λ t. t.now) turns.now)
-        (statements_of code.now) names.old) }
-    ensures rest { IfOk result (λ o. option_map (λ s. statements_of s.now) o ≡ behind_first
-        (statements_of code.now)) }
-    ensures inside { IfOk result (λ o. IfSome o (λ s. size-Stmt s.now < size-Stmt code.now)) }
+) -> Result<(), AllocError>
+    ensures { OnOk result (names.new ≡ first_marked (map (λ t. t.now) turns.now) (statements_of
+        code.now) names.old) }
 {
     match code {
-        Stmt::End => Ok(None),
-        Stmt::Assign {
-            target,
-            value,
-            rest,
-            ..
-        } => {
+        Stmt::End => Ok(()),
+        Stmt::Assign { target, value, .. } => {
             mark(alloc, turns, target, names)?;
-            mark(alloc, turns, value, names)?;
-            Ok(Some(rest))
+            mark(alloc, turns, value, names)
         }
         Stmt::AssignAbove {
             name,
             low,
             value,
-            rest,
             ..
         } => {
             mark_name(alloc, turns, name, names)?;
             mark(alloc, turns, low, names)?;
-            mark(alloc, turns, value, names)?;
-            Ok(Some(rest))
+            mark(alloc, turns, value, names)
         }
         Stmt::For {
             variable,
             first,
             last,
             body,
-            rest,
             ..
         } => {
             mark(alloc, turns, first, names)?;
             mark(alloc, turns, last, names)?;
-            mark_inside(alloc, turns, variable, body, names)?;
-            Ok(Some(rest))
+            mark_inside(alloc, turns, variable, body, names)
         }
-        Stmt::If { ways, rest } => {
-            mark_in(alloc, turns, ways, names)?;
-            Ok(Some(rest))
-        }
+        Stmt::If { ways, .. } => mark_in(alloc, turns, ways, names),
         Stmt::Way {
             condition,
             body,
-            ways,
+            ..
         } => {
             mark(alloc, turns, condition, names)?;
-            mark_in(alloc, turns, body, names)?;
-            Ok(Some(ways))
+            mark_in(alloc, turns, body, names)
         }
-        Stmt::Else { body } => Ok(Some(body)),
-        Stmt::Case {
-            selector,
-            arms,
-            rest,
-        } => {
+        Stmt::Else { .. } => Ok(()),
+        Stmt::Case { selector, arms, .. } => {
             mark(alloc, turns, selector, names)?;
-            mark_in(alloc, turns, arms, names)?;
-            Ok(Some(rest))
+            mark_in(alloc, turns, arms, names)
         }
-        Stmt::Arm { body, arms, .. } => {
-            mark_in(alloc, turns, body, names)?;
-            Ok(Some(arms))
-        }
+        Stmt::Arm { body, .. } => mark_in(alloc, turns, body, names),
     }
 }
 
