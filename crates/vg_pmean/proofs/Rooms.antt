@@ -1,4 +1,4 @@
--- FrameRoom for several needs.
+-- Room for several needs.
 use Rattle.std.proofs.Common.{◌≡◌, arith}
 use Rattle.vg_pmean.specs.declared.frame_room.FrameRoom.{FrameRoom}
 use Rattle.vg_pmean.specs.FrameRoom.{either, no_room}

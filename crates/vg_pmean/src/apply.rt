@@ -16,7 +16,7 @@ use vg_bits::Reg;
 /// The greatest number of nodes of all scripts of an entry.
 const MAX_NODES: u64 = 16_777_216;
 
-/// FrameRoom for each of these instances.
+/// Room for each of these instances.
 fn room_of(instances: &[Instance]) -> FrameRoom
     ensures { AreReady result (map (λ i. i.whole) instances.now) }
 {

@@ -1,4 +1,4 @@
-//! FrameRoom for frames.
+//! Room for frames.
 
 ghost use Rattle.std.specs.Prelude.{◌≡◌, ◌+◌, length, IfOk};
 ghost use Rattle.vg_pmean.specs.Extent.{total};
@@ -56,7 +56,7 @@ impl FrameRoom {
         }
     }
 
-    /// FrameRoom for either need.
+    /// Room for either need.
     pub(crate) fn either(self, other: FrameRoom) -> FrameRoom
         ensures { result ≡ either self other }
     {
@@ -68,7 +68,7 @@ impl FrameRoom {
         }
     }
 
-    /// FrameRoom for a frame of these registers and so many variables, and for what it needs inside.
+    /// Room for a frame of these registers and so many variables, and for what it needs inside.
     /// Fails for want of memory where it is more than an address can say.
     pub(crate) fn around(self, widths: &[u128], variables: usize) -> Result<FrameRoom, AllocError>
         ensures { IfOk result (λ room. room ≡ around widths.now variables self) }

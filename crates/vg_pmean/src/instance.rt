@@ -23,7 +23,7 @@ use vg_script::Whole;
 pub struct Instance {
     /// Its script, with the widths of its registers.
     pub whole: Whole,
-    /// FrameRoom for its own frame and those of the calls inside it.
+    /// Room for its own frame and those of the calls inside it.
     pub room: FrameRoom,
     ghost ready: { IsReady room (whole_of whole) } by { Prim.hlevel (props, script_formed_once) },
 }
