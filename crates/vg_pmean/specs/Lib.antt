@@ -4,3 +4,4 @@ pub mod FrameRoom
 pub mod Applied
 pub mod Readied
 pub mod Entries
+pub mod Assignments

@@ -5,6 +5,7 @@ ghost use Rattle.vg_script.specs.Cells.{absolute_value, after, after_arm, behind
 ghost use Rattle.vg_script.specs.Formed.{Formed, FrameFormed, GivenFormed, LowFormed, ScriptFormed};
 ghost use Rattle.vg_script.specs.Script.{width_of};
 ghost use Rattle.vg_script.specs.Views.{frame_of, given_of, low_of, script_of, word_of};
+ghost use Rattle.vg_pmean.specs.Assignments.{IsAssignment};
 ghost use Rattle.vg_pmean.specs.Held.{Alike, filled, held, widths_in};
 ghost use Rattle.vg_pmean.specs.FrameRoom.{Suffices, frame_room, given_room, low_room, no_room, script_room, word_room};
 
@@ -234,53 +235,76 @@ pub(crate) fn run(script: &Script, own: &mut Cells, free: &mut [Cells])
                 let number = value(selector, own, free);
                 return run_arm(number, arms, own, free);
             }
-            Script::Put {
-                register,
-                low,
-                width,
-                word,
-            } => {
-                let number = value(word, own, free);
-                return own.put(*register, *low, *width, number);
-            }
-            Script::Fill {
-                register,
-                low,
-                width,
-                number,
-            } => return own.fill(*register, *low, *width, *number),
-            Script::Copy {
-                register,
-                low,
-                width,
-                from,
-                from_low,
-            } => {
-                let at = place(from_low, own, free);
-                return own.copy_within(*register, *low, *width, *from, at);
-            }
-            Script::CopyFrom {
-                register,
-                low,
-                width,
-                frame,
-                from,
-                from_low,
-            } => match free.split_first_mut() {
-                None => unreachable!(),
-                Some((cells, rest)) => {
-                    call(frame, own, cells, rest);
-                    let at = place(from_low, cells, rest);
-                    return own.copy_from(*register, *low, *width, cells, *from, at, *width);
-                }
-            },
-            Script::Give { variable, word } => {
-                let number = value(word, own, free);
-                return own.give(*variable, number);
-            }
+            Script::Put { .. } => return assign(left, own, free),
+            Script::Fill { .. } => return assign(left, own, free),
+            Script::Copy { .. } => return assign(left, own, free),
+            Script::CopyFrom { .. } => return assign(left, own, free),
+            Script::Give { .. } => return assign(left, own, free),
             Script::Stop => return,
             Script::Arm { .. } => return,
         }
+    }
+}
+
+/// What a statement that has no others inside leaves in a frame.
+#[cycle(run)]
+fn assign(statement: &Script, own: &mut Cells, free: &mut [Cells])
+    requires assignment { IsAssignment (script_of statement.now) }
+    requires formed { ScriptFormed (widths_in own.old.cells) (script_of statement.now) }
+    requires room { Suffices (script_room (script_of statement.now)) own.old.room (length
+        free.old) }
+    requires alike { Alike own.old.room free.old }
+    ensures is { own.new ≡ held (after (script_of statement.now) own.old.cells) own.old.room }
+    ensures widths { widths_in own.new.cells ≡ widths_in own.old.cells }
+    ensures kept { Alike own.old.room free.new }
+    ensures count { length free.new ≡ length free.old }
+{
+    match statement {
+        Script::Put {
+            register,
+            low,
+            width,
+            word,
+        } => {
+            let number = value(word, own, free);
+            own.put(*register, *low, *width, number)
+        }
+        Script::Fill {
+            register,
+            low,
+            width,
+            number,
+        } => own.fill(*register, *low, *width, *number),
+        Script::Copy {
+            register,
+            low,
+            width,
+            from,
+            from_low,
+        } => {
+            let at = place(from_low, own, free);
+            own.copy_within(*register, *low, *width, *from, at)
+        }
+        Script::CopyFrom {
+            register,
+            low,
+            width,
+            frame,
+            from,
+            from_low,
+        } => match free.split_first_mut() {
+            None => unreachable!(),
+            Some((cells, rest)) => {
+                call(frame, own, cells, rest);
+                let at = place(from_low, cells, rest);
+                own.copy_from(*register, *low, *width, cells, *from, at, *width)
+            }
+        },
+        Script::Give { variable, word } => {
+            let number = value(word, own, free);
+            own.give(*variable, number)
+        }
+        _ => unreachable!(),
     }
 }
 

@@ -12,25 +12,28 @@ use Rattle.vg_pmean.specs.FrameRoom.{Suffices, given_room, script_room}
 use Rattle.vg_pmean.proofs.evaluate.+run.Given as goal
 
 abbrev pub decreases-value : goal.decreases-value
-decreases-value l = 3 * size-Word l.word.now
+decreases-value l = 4 * size-Word l.word.now
 
 abbrev pub decreases-place : goal.decreases-place
-decreases-place l = 3 * size-Low l.low.now
+decreases-place l = 4 * size-Low l.low.now
 
 abbrev pub decreases-block : goal.decreases-block
-decreases-block l = 3 * max (max (size-Given l.frame.now.given) (size-Script l.frame.now.script)) (size-Word l.answer.now) + 2
+decreases-block l = 4 * max (max (size-Given l.frame.now.given) (size-Script l.frame.now.script)) (size-Word l.answer.now) + 3
 
 abbrev pub decreases-call : goal.decreases-call
-decreases-call l = 3 * max (size-Given l.frame.now.given) (size-Script l.frame.now.script) + 1
+decreases-call l = 4 * max (size-Given l.frame.now.given) (size-Script l.frame.now.script) + 2
 
 abbrev pub decreases-enter_given : goal.decreases-enter_given
-decreases-enter_given l = 3 * size-Given l.given.now
+decreases-enter_given l = 4 * size-Given l.given.now
 
 abbrev pub decreases-run : goal.decreases-run
-decreases-run l = 3 * size-Script l.script.now
+decreases-run l = 4 * size-Script l.script.now + 1
+
+abbrev pub decreases-assign : goal.decreases-assign
+decreases-assign l = 4 * size-Script l.statement.now
 
 abbrev pub decreases-run_arm : goal.decreases-run_arm
-decreases-run_arm l = 3 * size-Script l.arms.now
+decreases-run_arm l = 4 * size-Script l.arms.now
 
 abbrev pub invariant-enter_given-registers : goal.invariant-enter_given-registers
 invariant-enter_given-registers l = record {
