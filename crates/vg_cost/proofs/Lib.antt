@@ -1,3 +1,4 @@
+pub mod Counted
 pub mod Growing
 pub mod Had
 pub mod Known

@@ -14,6 +14,7 @@
 //! An `AllocError` is want of memory; nothing else is.
 #![tactic(auto)]
 
+mod apart;
 mod copies;
 mod cost;
 mod lines;

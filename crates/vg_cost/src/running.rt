@@ -1,6 +1,7 @@
 //! The cost of a plan that grows.
 
 ghost use Rattle.std.specs.Prelude.{◌≡◌, ◌+◌, ◌++◌, ◌∷◌, [], ℕ, IfOk, List, OnOk, flat_map, length, map, sum_by};
+ghost use Rattle.std.specs.List.{AllByRecursion};
 ghost use Rattle.vg_cost.specs.Lines.{Costs};
 ghost use Rattle.vg_cost.specs.LongerPlan.{IsKnown, all_packs, described};
 ghost use Rattle.vg_cost.specs.Marks.{Marked};
@@ -15,6 +16,7 @@ ghost use Rattle.vg_plans.specs.World.{plan_cost};
 ghost use Rattle.vg_shapes.specs.Description.{description_of};
 ghost use Rattle.vg_shapes.specs.Units.{arguments};
 
+use crate::apart::cost_apart;
 use crate::copies::longer;
 use crate::lines::{end_of_units, lines_below, scalar_lines};
 use crate::longer_plan::LongerPlan;
@@ -40,7 +42,7 @@ pub struct Running {
 
 /// What a plan costs whose packs and recipes cost so much, by the marks of its units and of the values
 /// that its inserts take.
-fn whole_cost(
+pub(crate) fn whole_cost(
     ssa: &Ssa,
     marks: &[bool],
     needed: &mut [bool],
@@ -255,11 +257,39 @@ impl Running {
         Ok(recipes)
     }
 
+    /// What any plan costs, by what is known of the descriptions. Fails for want of memory, and where
+    /// the cost or a unit's number has too many bits to be counted.
+    pub fn cost_of(
+        &self,
+        alloc: Global,
+        plan: &[Pack],
+        descriptions: &[Description],
+        table: &MatchTable,
+        ssa: &Ssa,
+    ) -> Result<u64, AllocError>
+        requires near { MatchesNear table.now }
+        requires short { AllByRecursion IsShort plan.now }
+        requires stands { StandsFor (map description_of descriptions.now) table.now ssa.now
+            self.now }
+        ensures cost { IfOk result (λ c. (deps : List (ℕ × ℕ)) → c ≡ plan_cost
+            (packing (map description_of descriptions.now) table.now ssa.now deps) plan.now) }
+    {
+        cost_apart(alloc, plan, descriptions, table, ssa, &self.shuffles)
+    }
+
     /// What the plan costs, as `plan_cost` counts it.
     pub fn cost(&self) -> u64
         ensures { result ≡ self.now.cost }
     {
         self.cost
+    }
+
+    /// What the lines of the packs cost. The plan, and each that has these packs, costs as much at
+    /// least.
+    pub fn price(&self) -> u64
+        ensures { result ≡ self.now.price }
+    {
+        self.price
     }
 
     /// The packs of the plan, as they were put after it.

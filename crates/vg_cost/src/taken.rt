@@ -188,3 +188,25 @@ pub(crate) fn kept_cost(
     }
     Ok(sum)
 }
+
+/// What the recipes of operands cost in a longer plan. Marks the values that their inserts take.
+pub(crate) fn operands_cost(
+    alloc: Global,
+    plan: &LongerPlan,
+    needed: &mut [bool],
+    operands: &[Operand],
+) -> Result<u64, AllocError>
+    requires { IsKnown plan.now }
+    ensures cost { IfOk result (λ c. c ≡ sum_by (λ o. (taken_for (described plan.now)
+        plan.now.ssa.now (all_packs plan.now) o).recipe.lines) operands.now) }
+    ensures marks { OnOk result (Marked (flat_map (λ o. inserted_for (taken_for (described plan.now)
+        plan.now.ssa.now (all_packs plan.now) o)) operands.now) needed.old needed.new) }
+{
+    let mut sum = 0u64;
+    'operands: for operand in operands {
+        let recipe = recipe_cost(alloc, plan, operand)?;
+        mark_inserted(needed, operand, recipe);
+        sum = plus(sum, recipe.lines)?;
+    }
+    Ok(sum)
+}
