@@ -1,6 +1,8 @@
 -- Completed plans of a level, and the careful plan, one after the other.
 use Rattle.std.proofs.Common.{◌≡◌, ℕ, zero, suc, ◌+◌, ◌<◌, ◌≤◌, true, false, List, [], ◌∷◌, ◌++◌, length, map, take, drop, get_or, refl, sym, ◌∙◌, ap, subst, inl, inr, arith}
-use Rattle.std.specs.Prelude.{Option, Some, None}
+use Rattle.std.specs.Prelude.{Option, Some, None, nat_lt}
+use Rattle.std.proofs.lemmas.Bool.{cases_Bool}
+use Rattle.std.proofs.lemmas.Bool.Decides.{nat_tests}
 use Rattle.std.proofs.lemmas.List.{drop_more, map-append, take_more}
 use Rattle.vg_kernel_plans.proofs.FedPlans.{same-cost}
 use Rattle.vg_kernel_plans.specs.declared.choice.Choice.{Choice}
@@ -42,20 +44,25 @@ lesser-is cost first second new f s e =
     let least = least-priced (λ (p : PricedPlan). p.plan) (λ (p : PricedPlan). p.cost) cost first (second ∷ []) f (s, tt) in
     (ap (λ (p : PricedPlan). p.plan) e ∙ least.0, subst (IsPriced cost) (sym e) least.1)
 
--- one completed plan more
-pub completed-more : (cost : List Pack → ℕ) (whole : List Pack → List Pack) (start : List Pack) (plans : List (List Pack)) (i : ℕ)
-    (plan : List Pack) (least other new : PricedPlan) → i < length plans → plan ≡ get_or plans i []
-    → least.plan ≡ first_least cost start (map whole (take i plans)) → IsPriced cost least
-    → other.plan ≡ whole plan → IsPriced cost other → new ≡ first_least (λ (p : PricedPlan). p.cost) least (other ∷ [])
-    → (new.plan ≡ first_least cost start (map whole (take (i + 1) plans))) × IsPriced cost new
-completed-more cost whole start plans i plan least other new l p e c o d n =
-    let k = lesser-is cost least other new c d n in
+-- one that does not cost less
+pub lesser-stays : (cost : List Pack → ℕ) (best other : List Pack) → cost best ≤ cost other
+    → best ≡ first_least cost best (other ∷ [])
+lesser-stays cost best other l = elim (cases_Bool (nat_lt (cost other) (cost best))) [
+  | inl t ↦ absurd (grind (arith, nat_tests, t, l))
+  | inr f ↦ rw f refl
+]
+
+-- one completed plan more, if it costs less
+pub completed-one : (cost : List Pack → ℕ) (whole : List Pack → List Pack) (start : List Pack) (plans : List (List Pack)) (i : ℕ)
+    (plan least new : List Pack) → i < length plans → plan ≡ get_or plans i []
+    → least ≡ first_least cost start (map whole (take i plans))
+    → new ≡ first_least cost least (whole plan ∷ [])
+    → new ≡ first_least cost start (map whole (take (i + 1) plans))
+completed-one cost whole start plans i plan least new l p e n =
     let more : take (i + 1) plans ≡ take i plans ++ plan ∷ [] = take_more plans i [] l ∙ ap (λ q. take i plans ++ q ∷ []) (sym p) in
-    let all : map whole (take (i + 1) plans) ≡ map whole (take i plans) ++ whole plan ∷ [] = ap (map whole) more ∙ map-append whole (take i plans) (plan ∷ []) in (
-      k.0 ∙ ap (λ q. first_least cost q (other.plan ∷ [])) e ∙ ap (λ q. first_least cost (first_least cost start (map whole (take i plans))) (q ∷ [])) o
-          ∙ sym (least-append cost start (map whole (take i plans)) (whole plan ∷ [])) ∙ ap (first_least cost start) (sym all),
-      k.1,
-    )
+    let all : map whole (take (i + 1) plans) ≡ map whole (take i plans) ++ whole plan ∷ [] = ap (map whole) more ∙ map-append whole (take i plans) (plan ∷ []) in
+    n ∙ ap (λ q. first_least cost q (whole plan ∷ [])) e
+    ∙ sym (least-append cost start (map whole (take i plans)) (whole plan ∷ [])) ∙ ap (first_least cost start) (sym all)
 
 pub completed-end : (cost : List Pack → ℕ) (whole : List Pack → List Pack) (start least : List Pack) (plans : List (List Pack)) (i : ℕ)
     → length plans ≤ i → least ≡ first_least cost start (map whole (take i plans)) → least ≡ first_least cost start (map whole plans)

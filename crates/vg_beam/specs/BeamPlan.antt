@@ -2,6 +2,7 @@
 use Rattle.std.specs.Prelude.{ℕ, List, [], get_or, map}
 use Rattle.vg_cost.specs.Running.{StandsFor}
 use Rattle.vg_kernel_plans.specs.Fed.{packing_by}
+use Rattle.vg_plans.specs.Members.{Every}
 use Rattle.vg_plans.specs.World.{tried}
 use Rattle.vg_kernel_plans.specs.declared.choice.Choice.{Choice}
 use Rattle.vg_shapes.specs.declared.match_table.Match.{Match}
@@ -30,3 +31,7 @@ pub record IsKept
   pub stands : StandsFor ds matches ssa k.running
   pub key : IsKey no_pack packs k.key (plan_of k)
   pub tried : Names no_pack packs k.tried (tried (packing_by ch ds matches ssa []) (plan_of k))
+
+-- by some table, what is known of the plans of a level is so
+abbrev pub AreKept : Choice → List Description → List Match → Ssa → List BeamPlan → Type 0
+AreKept ch ds matches ssa level = (packs : List Pack) × Every (IsKept ch ds matches ssa packs) level

@@ -16,6 +16,7 @@ use crate::priced_plan::{PricedPlan, first_plan};
 use crate::search_space::SearchSpace;
 use crate::turn::turn;
 use std::alloc::{AllocError, Global};
+use vg_cost::Running;
 use vg_kernel_plans::{
     Choice, LoadGroups, chosen_plans_are_optimal, chosen_plans_fit, kernel_plans_are_short,
 };
@@ -104,7 +105,8 @@ pub fn choose(
         deps,
         groups: &groups,
     };
-    let first = first_plan(alloc, &space)?;
+    let known = Running::new(alloc, descriptions, table, ssa)?;
+    let first = first_plan(alloc, &known, &space)?;
     let sizes = sizes_of(ssa);
     let width = width as usize;
     let plan = search(alloc, first, &space, width, sizes)?;

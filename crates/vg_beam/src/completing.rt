@@ -1,6 +1,7 @@
 //! Plans that are completed.
 
 ghost use Rattle.std.specs.Prelude.{◌≡◌, ◌∷◌, [], IfOk, map};
+ghost use Rattle.vg_cost.specs.Running.{StandsFor};
 ghost use Rattle.vg_kernel_plans.specs.Completed.{turns_of};
 ghost use Rattle.vg_kernel_plans.specs.Fed.{IsPlanBy, groups_by};
 ghost use Rattle.vg_kernel_plans.specs.Taken.{MatchesNear};
@@ -10,19 +11,27 @@ ghost use Rattle.vg_plans.specs.Levels.{first_least};
 ghost use Rattle.vg_plans.specs.Members.{Every, Has};
 ghost use Rattle.vg_plans.specs.PlainPlan.{plain_plan};
 ghost use Rattle.vg_beam.specs.Chosen.{HaveShortPacksBy};
-ghost use Rattle.vg_beam.specs.BeamPlan.{plans_of};
+ghost use Rattle.vg_beam.specs.BeamPlan.{AreKept, plan_of, plans_of};
 ghost use Rattle.vg_beam.specs.SearchSpace.{HasGroups, choice_of, cost_in, described, world_of};
 
 use crate::beam_plan::{BeamPlan, kept_at};
 use crate::priced_plan::{PricedPlan, empty_priced, lesser_plan, price};
 use crate::search_space::SearchSpace;
 use std::alloc::{AllocError, Global};
+use vg_cost::Running;
 use vg_packs::{completed_plan, completed_with, groups_by, plain_plan_by};
 use vg_shapes::Pack;
 
 /// The completed plan of a plan that was kept.
-fn complete(alloc: Global, plan: &[Pack], space: &SearchSpace) -> Result<PricedPlan, AllocError>
+fn complete(
+    alloc: Global,
+    plan: &[Pack],
+    known: &Running,
+    space: &SearchSpace,
+) -> Result<PricedPlan, AllocError>
     requires near { MatchesNear space.now.table.now }
+    requires known { StandsFor (described space.now) space.now.table.now space.now.ssa.now
+        known.now }
     requires earlier { NameEarlierUnits space.now.ssa.now space.now.deps.now }
     requires groups { HasGroups space.now }
     requires short { HaveShortPacksBy (choice_of space.now) (described space.now)
@@ -42,8 +51,42 @@ fn complete(alloc: Global, plan: &[Pack], space: &SearchSpace) -> Result<PricedP
         space.groups,
         plan,
     )?;
-    let priced = price(alloc, whole, space)?;
+    let priced = price(alloc, whole, known, space)?;
     Ok(priced)
+}
+
+/// The first of the least cost, of a plan and the completed plan of one that was kept. That is made only
+/// where the packs of the plan that was kept cost less by themselves.
+fn lesser_with(
+    alloc: Global,
+    best: PricedPlan,
+    kept: &BeamPlan,
+    known: &Running,
+    space: &SearchSpace,
+) -> Result<PricedPlan, AllocError>
+    requires near { MatchesNear space.now.table.now }
+    requires known { StandsFor (described space.now) space.now.table.now space.now.ssa.now
+        known.now }
+    requires earlier { NameEarlierUnits space.now.ssa.now space.now.deps.now }
+    requires groups { HasGroups space.now }
+    requires short { HaveShortPacksBy (choice_of space.now) (described space.now)
+        space.now.table.now space.now.ssa.now space.now.deps.now }
+    requires plan { IsPlanBy (choice_of space.now) (described space.now) space.now.table.now
+        space.now.ssa.now space.now.deps.now (plan_of kept.now) }
+    requires stands { StandsFor (described space.now) space.now.table.now space.now.ssa.now
+        kept.now.running }
+    requires cost { best.cost ≡ cost_in space.now best.plan }
+    ensures plan { IfOk result (λ better. better.plan ≡ first_least (cost_in space.now) best.plan
+        (completed (world_of space.now) (turns_of space.now.ssa.now) (plan_of kept.now) ∷ [])) }
+    ensures cost { IfOk result (λ better. better.cost ≡ cost_in space.now better.plan) }
+{
+    let price = kept.running.price();
+    let dear = price >= best.cost;
+    if dear {
+        return Ok(best);
+    }
+    let whole = complete(alloc, kept.running.packs(), known, space)?;
+    Ok(lesser_plan(best, whole))
 }
 
 /// The first of the least cost, in a list of a plan and the completed plans of a level.
@@ -51,13 +94,18 @@ pub(crate) fn lesser_completed(
     alloc: Global,
     best: PricedPlan,
     level: &[BeamPlan],
+    known: &Running,
     space: &SearchSpace,
 ) -> Result<PricedPlan, AllocError>
     requires near { MatchesNear space.now.table.now }
+    requires known { StandsFor (described space.now) space.now.table.now space.now.ssa.now
+        known.now }
     requires earlier { NameEarlierUnits space.now.ssa.now space.now.deps.now }
     requires groups { HasGroups space.now }
     requires short { HaveShortPacksBy (choice_of space.now) (described space.now)
         space.now.table.now space.now.ssa.now space.now.deps.now }
+    requires level { AreKept (choice_of space.now) (described space.now) space.now.table.now
+        space.now.ssa.now level.now }
     requires plans { Every (IsPlanBy (choice_of space.now) (described space.now) space.now.table.now
         space.now.ssa.now space.now.deps.now) (plans_of level.now) }
     requires cost { best.cost ≡ cost_in space.now best.plan }
@@ -68,8 +116,8 @@ pub(crate) fn lesser_completed(
     let mut least = best;
     'plans: for place in 0..level.len() {
         let kept = kept_at(level, place);
-        let whole = complete(alloc, kept.running.packs(), space)?;
-        least = lesser_plan(least, whole);
+        let better = lesser_with(alloc, least, kept, known, space)?;
+        least = better;
     }
     Ok(least)
 }
@@ -80,9 +128,12 @@ fn careful_with(
     alloc: Global,
     best: PricedPlan,
     group: &Pack,
+    known: &Running,
     space: &SearchSpace,
 ) -> Result<PricedPlan, AllocError>
     requires near { MatchesNear space.now.table.now }
+    requires known { StandsFor (described space.now) space.now.table.now space.now.ssa.now
+        known.now }
     requires earlier { NameEarlierUnits space.now.ssa.now space.now.deps.now }
     requires groups { HasGroups space.now }
     requires short { HaveShortPacksBy (choice_of space.now) (described space.now)
@@ -108,7 +159,7 @@ fn careful_with(
     match whole {
         None => Ok(best),
         Some(plan) => {
-            let priced = price(alloc, plan, space)?;
+            let priced = price(alloc, plan, known, space)?;
             Ok(lesser_plan(best, priced))
         }
     }
@@ -119,9 +170,12 @@ fn careful_with(
 fn careful_plan(
     alloc: Global,
     groups: &[Pack],
+    known: &Running,
     space: &SearchSpace,
 ) -> Result<PricedPlan, AllocError>
     requires near { MatchesNear space.now.table.now }
+    requires known { StandsFor (described space.now) space.now.table.now space.now.ssa.now
+        known.now }
     requires earlier { NameEarlierUnits space.now.ssa.now space.now.deps.now }
     requires load_groups { HasGroups space.now }
     requires short { HaveShortPacksBy (choice_of space.now) (described space.now)
@@ -131,9 +185,9 @@ fn careful_plan(
         (turns_of space.now.ssa.now) [] groups.now) }
     ensures cost { IfOk result (λ careful. careful.cost ≡ cost_in space.now careful.plan) }
 {
-    let mut best = empty_priced(alloc, space)?;
+    let mut best = empty_priced(alloc, known, space)?;
     'groups: for group in groups {
-        let better = careful_with(alloc, best, group, space)?;
+        let better = careful_with(alloc, best, group, known, space)?;
         best = better;
     }
     Ok(best)
@@ -141,8 +195,14 @@ fn careful_plan(
 
 /// The first of the least cost, in a list of the empty plan, the plain plan of the store groups that are
 /// tried, and the careful plain plan.
-pub(crate) fn first_fed(alloc: Global, space: &SearchSpace) -> Result<PricedPlan, AllocError>
+pub(crate) fn first_fed(
+    alloc: Global,
+    known: &Running,
+    space: &SearchSpace,
+) -> Result<PricedPlan, AllocError>
     requires near { MatchesNear space.now.table.now }
+    requires known { StandsFor (described space.now) space.now.table.now space.now.ssa.now
+        known.now }
     requires earlier { NameEarlierUnits space.now.ssa.now space.now.deps.now }
     requires groups { HasGroups space.now }
     requires short { HaveShortPacksBy (choice_of space.now) (described space.now)
@@ -162,9 +222,9 @@ pub(crate) fn first_fed(alloc: Global, space: &SearchSpace) -> Result<PricedPlan
         choice,
     )?;
     let groups = groups_by(alloc, choice, space.ssa)?;
-    let careful = careful_plan(alloc, groups.as_slice(), space)?;
-    let empty = empty_priced(alloc, space)?;
-    let priced = price(alloc, plain, space)?;
+    let careful = careful_plan(alloc, groups.as_slice(), known, space)?;
+    let empty = empty_priced(alloc, known, space)?;
+    let priced = price(alloc, plain, known, space)?;
     let first = lesser_plan(empty, priced);
     Ok(lesser_plan(first, careful))
 }

@@ -1,6 +1,7 @@
 //! The plan that is chosen where load groups may feed operands.
 
 ghost use Rattle.std.specs.Prelude.{◌≡◌, ◌≤◌, ◌++◌, [], IfOk, map};
+ghost use Rattle.vg_cost.specs.Running.{StandsFor};
 ghost use Rattle.vg_kernel_plans.specs.Completed.{chosen_fed_of, turns_of};
 ghost use Rattle.vg_kernel_plans.specs.Fed.{fed_aligned};
 ghost use Rattle.vg_kernel_plans.specs.Taken.{MatchesNear};
@@ -20,6 +21,7 @@ use crate::priced_plan::{PricedPlan, empty_priced, lesser_plan};
 use crate::search_space::SearchSpace;
 use crate::turn::turn;
 use std::alloc::{AllocError, Global};
+use vg_cost::Running;
 use vg_kernel_plans::{
     Choice, LoadGroups, chosen_fed_plans_are_optimal, chosen_fed_plans_fit, plans_hold_by_choice,
 };
@@ -30,11 +32,14 @@ use vg_shapes::{DepList, Description, MatchTable, Plan, Ssa};
 fn search_completed(
     alloc: Global,
     first: PricedPlan,
+    known: &Running,
     space: &SearchSpace,
     width: usize,
     sizes: usize,
 ) -> Result<Plan, AllocError>
     requires near { MatchesNear space.now.table.now }
+    requires known { StandsFor (described space.now) space.now.table.now space.now.ssa.now
+        known.now }
     requires earlier { NameEarlierUnits space.now.ssa.now space.now.deps.now }
     requires groups { HasGroups space.now }
     requires short { HaveShortPacksBy (choice_of space.now) (described space.now)
@@ -56,12 +61,12 @@ fn search_completed(
     let mut level = Vec::new(alloc);
     level.push(empty)?;
     let mut best = first;
-    let mut whole = empty_priced(alloc, space)?;
+    let mut whole = empty_priced(alloc, known, space)?;
     'sizes: for _size in 0..sizes {
         let turned = turn(alloc, &mut pack_table, level.as_slice(), best, space, width)?;
         level = turned.next;
         best = turned.better;
-        let more = lesser_completed(alloc, whole, level.as_slice(), space)?;
+        let more = lesser_completed(alloc, whole, level.as_slice(), known, space)?;
         whole = more;
     }
     Ok(lesser_plan(best, whole).plan)
@@ -105,9 +110,10 @@ pub fn choose_fed(
         deps,
         groups: &groups,
     };
-    let first = first_fed(alloc, &space)?;
+    let known = Running::new(alloc, descriptions, table, ssa)?;
+    let first = first_fed(alloc, &known, &space)?;
     let sizes = sizes_of(ssa);
     let width = width as usize;
-    let plan = search_completed(alloc, first, &space, width, sizes)?;
+    let plan = search_completed(alloc, first, &known, &space, width, sizes)?;
     Ok(plan)
 }

@@ -1,6 +1,7 @@
 //! A plan and its cost.
 
 ghost use Rattle.std.specs.Prelude.{◌≡◌, ◌<◌, ◌∷◌, [], IfOk, length, map};
+ghost use Rattle.vg_cost.specs.Running.{StandsFor};
 ghost use Rattle.vg_kernel_plans.specs.Packing.{plain_of};
 ghost use Rattle.vg_kernel_plans.specs.Taken.{IsShort, MatchesNear};
 ghost use Rattle.std.specs.List.{AllByRecursion};
@@ -17,7 +18,7 @@ use crate::candidate::{Candidate, least_below};
 use crate::pack_table::PackTable;
 use crate::search_space::SearchSpace;
 use std::alloc::{AllocError, Global};
-use vg_cost::plan_cost;
+use vg_cost::Running;
 use vg_kernel_plans::copies::{copy_pack, copy_packs};
 use vg_packs::plain_plan;
 use vg_shapes::Plan;
@@ -29,29 +30,39 @@ pub(crate) struct PricedPlan {
     pub(crate) cost: u64,
 }
 
-/// A plan with its cost.
+/// A plan with its cost, by what is known of the descriptions beside any other plan.
 pub(crate) fn price(
     alloc: Global,
     plan: Plan,
+    known: &Running,
     space: &SearchSpace,
 ) -> Result<PricedPlan, AllocError>
     requires near { MatchesNear space.now.table.now }
+    requires known { StandsFor (described space.now) space.now.table.now space.now.ssa.now
+        known.now }
     requires short { AllByRecursion IsShort plan }
     ensures plan { IfOk result (λ priced. priced.plan ≡ plan) }
     ensures cost { IfOk result (λ priced. priced.cost ≡ cost_in space.now priced.plan) }
 {
-    let cost = plan_cost(alloc, &plan, space.descriptions, space.table, space.ssa)?;
+    let packs = plan.as_slice();
+    let cost = known.cost_of(alloc, packs, space.descriptions, space.table, space.ssa)?;
     Ok(PricedPlan { plan, cost })
 }
 
 /// The empty plan.
-pub(crate) fn empty_priced(alloc: Global, space: &SearchSpace) -> Result<PricedPlan, AllocError>
+pub(crate) fn empty_priced(
+    alloc: Global,
+    known: &Running,
+    space: &SearchSpace,
+) -> Result<PricedPlan, AllocError>
     requires near { MatchesNear space.now.table.now }
+    requires known { StandsFor (described space.now) space.now.table.now space.now.ssa.now
+        known.now }
     ensures plan { IfOk result (λ priced. priced.plan ≡ []) }
     ensures cost { IfOk result (λ priced. priced.cost ≡ cost_in space.now priced.plan) }
 {
     let empty = Plan::from_vec(Vec::new(alloc));
-    price(alloc, empty, space)
+    price(alloc, empty, known, space)
 }
 
 /// The second plan where it costs less, else the first.
@@ -66,8 +77,14 @@ pub(crate) fn lesser_plan(first: PricedPlan, second: PricedPlan) -> PricedPlan
 }
 
 /// The empty plan, or the plain plan where that costs less.
-pub(crate) fn first_plan(alloc: Global, space: &SearchSpace) -> Result<PricedPlan, AllocError>
+pub(crate) fn first_plan(
+    alloc: Global,
+    known: &Running,
+    space: &SearchSpace,
+) -> Result<PricedPlan, AllocError>
     requires near { MatchesNear space.now.table.now }
+    requires known { StandsFor (described space.now) space.now.table.now space.now.ssa.now
+        known.now }
     requires earlier { NameEarlierUnits space.now.ssa.now space.now.deps.now }
     requires short { HaveShortPacks (described space.now) space.now.table.now space.now.ssa.now
         space.now.deps.now }
@@ -82,8 +99,8 @@ pub(crate) fn first_plan(alloc: Global, space: &SearchSpace) -> Result<PricedPla
         space.ssa,
         space.deps,
     )?;
-    let empty = empty_priced(alloc, space)?;
-    let priced = price(alloc, plain, space)?;
+    let empty = empty_priced(alloc, known, space)?;
+    let priced = price(alloc, plain, known, space)?;
     Ok(lesser_plan(empty, priced))
 }
 
@@ -96,8 +113,7 @@ fn plan_of(
 ) -> Result<Plan, AllocError>
     requires parent { candidate.parent < length level.now }
     requires pack { candidate.pack < length pack_table.now.packs.items }
-    ensures { IfOk result (λ plan. plan ≡ grown_plan pack_table.now.packs.items level.now
-        candidate) }
+    ensures { IfOk result (λ plan. plan ≡ grown_plan pack_table.now.packs.items level.now candidate) }
 {
     let parent = kept_at(level, candidate.parent);
     let mut packs = copy_packs(alloc, parent.running.packs())?;

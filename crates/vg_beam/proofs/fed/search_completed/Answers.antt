@@ -46,6 +46,14 @@ lesser_completed-requires-clause-plans c =
     let s = c.args.space.now in
     subst (λ l. Every (IsPlanBy (choice_of s) (described s) s.table.now s.ssa.now s.deps.now) (plans_of l)) (sym c.as_slice-in-sizes.ensures.value) c.in_ok-turned.ensures.plans
 
+pub lesser_completed-requires-clause-level : goal.lesser_completed-requires-clause-level
+lesser_completed-requires-clause-level c =
+    let s = c.args.space.now in (
+      c.turn.new.pack_table.packs.items,
+      subst (λ l. Every (IsKept (choice_of s) (described s) s.table.now s.ssa.now c.turn.new.pack_table.packs.items) l) (sym c.as_slice-in-sizes.ensures.value)
+          c.in_ok-turned.ensures.kept,
+    )
+
 pub sizes-preserved : goal.sizes-preserved
 sizes-preserved c =
     let s = c.args.space.now in
