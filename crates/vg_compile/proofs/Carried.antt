@@ -98,6 +98,7 @@ chosen-plan ds matches ssa width packs known ordered bindings picked =
       is = picked.is;
       plan = (by-nodes ds matches ssa known packs).0 chosen.plan;
       below_plain = chosen.below_plain;
+      below_empty = chosen.below_scalar;
       below_scalar = omega (arith, chosen.below_scalar, empty-cost ds matches ssa (dependences ssa));
       optimal = λ few plan is uncrowded.
           chosen.optimal (match-units ds matches ssa known.sound known.matched) few plan ((by-nodes ds matches ssa known plan).1 is)
@@ -116,6 +117,7 @@ chosen-fed-plan ds matches ssa width packs known table picked =
       plan = (fed-by-nodes ds matches ssa known packs).0 chosen.plan;
       below_plain = chosen.below_plain;
       below_careful = chosen.below_careful;
+      below_empty = chosen.below_scalar;
       below_scalar = omega (arith, chosen.below_scalar, empty-cost ds matches ssa (dependences ssa));
       optimal = λ few plan is uncrowded.
           chosen.optimal (match-units ds matches ssa known.sound known.matched) few plan ((fed-by-nodes ds matches ssa known plan).1 is)

@@ -268,6 +268,7 @@ more-plans-cost-no-more entries set k width p compiled =
     let below_whole : programs.cost_of p ≤ price_of ds more.whole = omega (arith, cost, three.0, two.0) in
     let below_wide : programs.cost_of p ≤ price_of ds more.wide = omega (arith, cost, three.0, two.1) in
     let below_fed : programs.cost_of p ≤ price_of ds more.fed = omega (arith, cost, three.1) in
+    let empty = more.whole_chosen.chosen.below_empty in
     let plain = more.whole_chosen.chosen.below_plain in
     let careful = more.fed_chosen.chosen.below_careful in
     record {
@@ -280,6 +281,7 @@ more-plans-cost-no-more entries set k width p compiled =
       below_whole = below_whole;
       below_wide = below_wide;
       below_fed = below_fed;
+      below_empty = omega (arith, below_whole, empty);
       below_plain = omega (arith, below_whole, plain);
       below_careful = omega (arith, below_fed, careful);
       optimal = λ few packs is uncrowded. (let best = more.whole_chosen.chosen.optimal few packs is uncrowded in omega (arith, below_whole, best));

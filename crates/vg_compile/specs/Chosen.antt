@@ -52,8 +52,8 @@ IsOptimalCost ds matches ssa width cost =
     cost ≤ cost_of ds matches ssa packs
 
 -- The chosen plan, where the search keeps so many plans of each size. It is a plan by its packs, units and
--- nodes, and costs at most as much as the plain plan, as a line for each unit and, in a kernel of few units,
--- as any plan where no lesser size is crowded.
+-- nodes, and costs at most as much as the plain plan, as the empty plan, as a line for each unit and, in a
+-- kernel of few units, as any plan where no lesser size is crowded.
 pub record IsChosenPlan
     (ds : List Description) (matches : List Match) (ssa : Ssa) (width : ℕ) (packs : List Pack)
     : Type 0 where
@@ -61,6 +61,7 @@ pub record IsChosenPlan
   pub is : packs ≡ chosen_of ds matches ssa (dependences ssa) width
   pub plan : IsPlanByNodes ds matches ssa packs
   pub below_plain : cost_of ds matches ssa packs ≤ cost_of ds matches ssa (plain_of_units ds matches ssa)
+  pub below_empty : cost_of ds matches ssa packs ≤ cost_of ds matches ssa []
   pub below_scalar : cost_of ds matches ssa packs ≤ length ssa.units
   pub optimal : IsOptimalCost ds matches ssa width (cost_of ds matches ssa packs)
 
@@ -88,7 +89,8 @@ IsOptimalFedCost ds matches ssa width cost =
 
 -- The chosen fed plan, where the search keeps so many plans of each size. It is a plan by its packs, units
 -- and nodes, and costs at most as much as the plain plan of the aligned store groups, as the careful plain
--- plan, as a line for each unit and, in a kernel of few units, as any fed plan where no lesser size is crowded.
+-- plan, as the empty plan, as a line for each unit and, in a kernel of few units, as any fed plan where no
+-- lesser size is crowded.
 pub record IsChosenFedPlan
     (ds : List Description) (matches : List Match) (ssa : Ssa) (width : ℕ) (packs : List Pack)
     : Type 0 where
@@ -101,6 +103,7 @@ pub record IsChosenFedPlan
   pub below_careful :
       cost_of ds matches ssa packs
       ≤ cost_of ds matches ssa (careful_of ds matches ssa (dependences ssa))
+  pub below_empty : cost_of ds matches ssa packs ≤ cost_of ds matches ssa []
   pub below_scalar : cost_of ds matches ssa packs ≤ length ssa.units
   pub optimal : IsOptimalFedCost ds matches ssa width (cost_of ds matches ssa packs)
 

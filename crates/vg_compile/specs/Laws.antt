@@ -1,5 +1,5 @@
 -- What programs of kernels promise.
-use Rattle.std.specs.Prelude.{◌≡◌, ◌≤◌, ℕ, true, List, map}
+use Rattle.std.specs.Prelude.{◌≡◌, ◌≤◌, ℕ, true, List, [], map}
 use Rattle.vg_catalog.specs.Entries.{Entry}
 use Rattle.vg_descriptions.specs.Descriptions.{descriptions}
 use Rattle.vg_kernel.specs.Tree.{Tree}
@@ -28,9 +28,9 @@ UnitsMeanKernels =
     Means called p k
 
 -- What a program of more plans costs, beside a chosen plan, a chosen wide plan and a chosen fed plan of its
--- kernel: at most what each costs, what the plain plan costs, and what the careful plain plan costs. In a
--- kernel of at most 256 units no plan, no wide plan and no fed plan of aligned store groups costs less where
--- no lesser size is crowded.
+-- kernel: at most what each costs, what the empty plan costs, what the plain plan costs, and what the careful
+-- plain plan costs. In a kernel of at most 256 units no plan, no wide plan and no fed plan of aligned store
+-- groups costs less where no lesser size is crowded.
 pub record CostsNoMore
     (entries : List Entry) (set : ℕ) (k : Tree) (width : ℕ) (p : Program)
     : Type 0 where
@@ -43,6 +43,7 @@ pub record CostsNoMore
   pub below_whole : cost_of p ≤ price_of (descriptions set entries) whole
   pub below_wide : cost_of p ≤ price_of (descriptions set entries) wide
   pub below_fed : cost_of p ≤ price_of (descriptions set entries) fed
+  pub below_empty : cost_of p ≤ plans.cost_of (descriptions set entries) whole.matches whole.ssa []
   pub below_plain :
       cost_of p
       ≤ plans.cost_of (descriptions set entries) whole.matches whole.ssa

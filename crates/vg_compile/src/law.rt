@@ -10,8 +10,9 @@ pub fn units_mean_kernels()
 {}
 
 /// A law: what is compiled with more plans costs at most what the chosen plan, the chosen wide plan, the
-/// chosen fed plan, the plain plan and the careful plain plan cost, and in a kernel of at most 256 units at
-/// most what any plan, wide plan or fed plan of aligned store groups costs where no lesser size is crowded.
+/// chosen fed plan, the empty plan, the plain plan and the careful plain plan cost, and in a kernel of at
+/// most 256 units at most what any plan, wide plan or fed plan of aligned store groups costs where no lesser
+/// size is crowded.
 pub fn more_plans_cost_no_more()
     ensures { MorePlansCostNoMore }
 {}
