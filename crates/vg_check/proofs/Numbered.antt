@@ -11,11 +11,12 @@ use Rattle.vg_ssa.specs.StandsFor.{StandsFor}
 use Rattle.vg_emission.specs.Laws.{MeansUnits}
 use Rattle.vg_known.specs.Difference.{Difference, difference}
 use Rattle.vg_known.proofs.Absent.{absent}
+use Rattle.vg_verify.specs.Heads.{HasHead}
+use Rattle.vg_verify.proofs.Heads.{head_is}
 use Rattle.vg_compile.specs.Means.{Means}
 use Rattle.vg_compile.proofs.Joined.{units-mean-kernels}
 use Rattle.vg_check.specs.Compared.{told_difference, values_of}
 use Rattle.vg_check.specs.Told.{difference_text}
-use Rattle.vg_check.proofs.Heads.{heads}
 
 -- it does not look at the terms
 without-terms : (entries : List Entry) (ssa : Ssa) (p : Program) → difference entries ssa p ≡ difference entries (record ssa { terms = []; cuts = [] }) p
@@ -37,5 +38,5 @@ told_numbered entries k ssa p found is e = ap (option_map (difference_text p.par
 pub means_kernel : (entries : List Entry) (k : Tree) (ssa : Ssa) (p : Program) → IsNumbering k ssa → StandsFor k ssa → None ≡ difference entries ssa p
     → MeansUnits (called_by entries) p ssa → Means (called_by entries) p k
 means_kernel entries k ssa p is stands none means =
-    let head = heads ssa p (absent entries ssa p (sym none)).head in
-    units-mean-kernels (called_by entries) k ssa p is stands head.0 head.1 means
+    let head : HasHead ssa p = head_is ssa p (absent entries ssa p (sym none)).head in
+    units-mean-kernels (called_by entries) k ssa p is stands head.name head.params means

@@ -1,7 +1,7 @@
--- A program without a difference has the head of the kernel.
-use Rattle.std.proofs.Common.{◌≡◌, ◌&&◌, Bool, true, false, List, [], ◌∷◌, map, Some, None, refl, sym, ap, ◌∙◌, inl, inr}
+-- A program whose head is that of the kernel, as one without a difference, has its name and parameters.
+use Rattle.std.proofs.Common.{◌≡◌, ◌&&◌, true, List, [], ◌∷◌, map, refl, sym, ap, ◌∙◌}
 use Rattle.std.specs.Str.{bytes_eq}
-use Rattle.std.proofs.lemmas.Bool.{and_parts, cases_Bool, cond-false, eqb-true}
+use Rattle.std.proofs.lemmas.Bool.{and_parts, eqb-true}
 use Rattle.vg_base.specs.Width.{bits_of}
 use Rattle.vg_base.proofs.SameWidth.{width-same}
 use Rattle.vg_program.specs.declared.param.Param.{Param}
@@ -15,9 +15,9 @@ use Rattle.vg_shapes.specs.declared.ssa.SsaParamKind.{SsaParamKind}
 use Rattle.vg_shapes.specs.declared.ssa.SsaParamKind.TheVariants.{Pointer, Integer}
 use Rattle.vg_catalog.specs.Entries.{Entry}
 use Rattle.vg_emission.specs.Program.{kind_of, param_of}
-use Rattle.vg_known.specs.Difference as known
-use Rattle.vg_known.specs.Difference.{difference, params}
+use Rattle.vg_known.specs.Difference.{difference}
 use Rattle.vg_known.specs.Params.{same_head, same_kind, same_params}
+use Rattle.vg_known.proofs.Absent.{absent}
 use Rattle.vg_verify.specs.declared.verdict.Verdict.{Verdict}
 use Rattle.vg_verify.specs.declared.verdict.Verdict.TheVariants.{Same}
 use Rattle.vg_verify.specs.Heads.{HasHead}
@@ -44,19 +44,14 @@ params-same (p ∷ ps) (q ∷ qs) e =
     let both = and_parts (bytes_eq p.name q.name && same_kind p.kind q.kind) (same_params ps qs) e in
     ap (λ x. x ∷ qs) (param-same p q both.0) ∙ ap (λ xs. param_of p ∷ xs) (params-same ps qs both.1)
 
--- where the heads differ, that is the difference
-no-difference : (entries : List Entry) (ssa : Ssa) (p : Program) → difference entries ssa p ≡ None → same_head ssa p ≡ true
-unfolding difference
-no-difference entries ssa p e = elim (cases_Bool (same_head ssa p)) [
-  | inl t ↦ t
-  | inr f ↦ absurd (let some : Some params ≡ None = sym (cond-false _ _ _ f) ∙ e in cc)
-]
-
-pub head_same : (entries : List Entry) (ssa : Ssa) (p : Program) (v : Verdict) → verdict_of v ≡ difference entries ssa p → v ≡ Same → HasHead ssa p
-head_same entries ssa p v exact same =
-    let t = no-difference entries ssa p (sym exact ∙ ap verdict_of same) in
+-- a program whose head is tested to be that of a kernel has it
+pub head_is : (ssa : Ssa) (p : Program) → same_head ssa p ≡ true → HasHead ssa p
+head_is ssa p t =
     let both = and_parts (bytes_eq ssa.name p.name) (same_params ssa.params p.params) t in
     record {
       name = sym (same_bytes ssa.name p.name both.0);
       params = params-same ssa.params p.params both.1;
     }
+
+pub head_same : (entries : List Entry) (ssa : Ssa) (p : Program) (v : Verdict) → verdict_of v ≡ difference entries ssa p → v ≡ Same → HasHead ssa p
+head_same entries ssa p v exact same = head_is ssa p (absent entries ssa p (sym exact ∙ ap verdict_of same)).head
