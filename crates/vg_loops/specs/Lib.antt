@@ -4,5 +4,6 @@ pub mod Counts
 pub mod Reader
 pub mod Formed
 pub mod Inputs
+pub mod Kept
 pub mod Near
 pub mod CompiledLoop

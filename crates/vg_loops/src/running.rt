@@ -58,6 +58,7 @@ fn run_turns<T: Turn>(
         places.old args.now) count 0 memory.old) }
     ensures size { length memory.new ≡ length memory.old }
     ensures same { T.means runner.new ≡ T.means runner.old }
+    ensures kept { T.keeps runner.new ≡ T.keeps runner.old }
     ensures ready { T.is_ready runner.new }
     ensures places { result ≡ Done → places.new ≡ places_at steps.now places.old (size * count) }
 {
@@ -94,6 +95,8 @@ fn run_both<B: Turn, R: Turn>(
     ensures size { length memory.new ≡ length memory.old }
     ensures same_block { B.means block.new ≡ B.means block.old }
     ensures same_rest { R.means rest.new ≡ R.means rest.old }
+    ensures kept_block { B.keeps block.new ≡ B.keeps block.old }
+    ensures kept_rest { R.keeps rest.new ≡ R.keeps rest.old }
 {
     match run_turns(block, memory, places, steps, size, args, count / size) {
         Outcome::Done => {}
@@ -105,7 +108,8 @@ fn run_both<B: Turn, R: Turn>(
 /// Runs a loop on a memory, in the room that was made for its kernel. The places are those of its
 /// pointers at the first turn, in bytes from the start of the memory, and the args the numbers of
 /// its integer parameters, each kind in the order of the parameters. `Trap` exactly where a turn
-/// traps; then the memory may hold any bytes. Takes no memory.
+/// traps; then the memory may hold any bytes. Takes no memory. The room is as before, so it may be
+/// called again.
 pub fn run_loop(
     source: &Loop,
     state: &mut KState,
@@ -120,6 +124,7 @@ pub fn run_loop(
     ensures outcome { Leaves result memory.new
         (loop_meaning (loop_of source.now) memory.old places.now args.now) }
     ensures size { length memory.new ≡ length memory.old }
+    ensures room { state.new ≡ state.old }
 {
     let mut room = [0u64; 16];
     let here = &mut room[..places.len()];
@@ -144,8 +149,8 @@ pub fn run_loop(
 /// entries. The places are those of its pointers at the first turn, in bytes from the start of the
 /// memory, and the args the numbers of its integer parameters, each kind in the order of the first
 /// line. `Trap` exactly where a block or a turn that is left over traps; then the memory may hold
-/// any bytes. Takes no memory. A text that stores nothing may have 2^64 - 1 turns, and then runs
-/// for years.
+/// any bytes. Takes no memory. The machines hold the same programs and entries as before, so it may
+/// be called again. A text that stores nothing may have 2^64 - 1 turns, and then runs for years.
 pub fn run_looped(
     looped: &Looped,
     block: &mut Machine<'_>,
@@ -165,6 +170,8 @@ pub fn run_looped(
         (looped_meaning (called_by (map entry_of block.old.entries)) looped.now
         memory.old places.now args.now) }
     ensures size { length memory.new ≡ length memory.old }
+    ensures program_block { block.new ≡ block.old }
+    ensures program_rest { rest.new ≡ rest.old }
 {
     let mut room = [0u64; 16];
     let here = &mut room[..places.len()];

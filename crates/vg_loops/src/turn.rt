@@ -6,6 +6,7 @@ ghost use Rattle.vg_catalog.specs.Entries.{entry_of};
 ghost use Rattle.vg_kernel.specs.Meaning.{meaning};
 ghost use Rattle.vg_kernel.specs.Tree.{tree_of};
 ghost use Rattle.vg_loop_laws.specs.Loops.{Run};
+ghost use Rattle.vg_loops.specs.Kept.{Kept, loaded, room};
 ghost use Rattle.vg_memory.specs.Outcome.{Leaves};
 ghost use Rattle.vg_program.specs.Meaning as program;
 
@@ -22,12 +23,16 @@ pub(crate) trait Turn {
     /// Whether there is room for a run.
     ghost is_ready: { Self → Type 0 };
 
+    /// What no run changes.
+    ghost keeps: { Self → Kept };
+
     /// Runs it once. Takes no memory.
     fn run(&mut self, memory: &mut [u8], places: &[u64], args: &[u64]) -> Outcome
         requires ready { is_ready self.old }
         ensures outcome { Leaves result memory.new (means self.old memory.old places.now args.now) }
         ensures size { length memory.new ≡ length memory.old }
         ensures same { means self.new ≡ means self.old }
+        ensures kept { keeps self.new ≡ keeps self.old }
         ensures ready { is_ready self.new };
 }
 
@@ -43,6 +48,8 @@ impl Turn for KernelTurn<'_> {
 
     ghost is_ready = { λ t. length t.kernel.now.statements ≤ t.state.now };
 
+    ghost keeps = { λ t. room t.state.ghost_name t.state.now };
+
     fn run(&mut self, memory: &mut [u8], places: &[u64], args: &[u64]) -> Outcome {
         run_kernel(self.kernel, self.state, memory, places, args)
     }
@@ -52,6 +59,8 @@ impl Turn for Machine<'_> {
     ghost means = { λ m. program.meaning (called_by (map entry_of m.entries)) m.program };
 
     ghost is_ready = { λ m. Unit {0} };
+
+    ghost keeps = { λ m. loaded m };
 
     fn run(&mut self, memory: &mut [u8], places: &[u64], args: &[u64]) -> Outcome {
         Machine::run(self, memory, places, args)

@@ -13,6 +13,7 @@ turns-init g c =
       long = c.requires.long;
       here = sym (ap (places_at c.args.steps.now c.args.places.now) none ∙ unmoved c.args.steps.now c.args.places.now);
       same = refl;
+      kept = refl;
       ready = c.requires.ready;
       size = refl;
       rest = ap (λ (k : ℕ). turns (block_of c.args.size (g.T.Turn.means c.args.runner.now) c.args.steps.now c.args.places.now c.args.args.now) c.args.count k c.args.memory.now) (let zero : c.args.count - c.args.count ≡ 0 = omega arith in zero);
@@ -49,6 +50,7 @@ turns-preserved g c =
       here = c.move_places.ensures ∙ ap (λ (ps : List ℕ). places_at c.args.steps.now ps c.args.size) c.turns.invariant.here
           ∙ at-at c.args.steps.now c.args.places.now (c.args.size * done) c.args.size ∙ ap (places_at c.args.steps.now c.args.places.now) moved;
       same = c.in-Done.ensures.same ∙ c.turns.invariant.same;
+      kept = c.in-Done.ensures.kept ∙ c.turns.invariant.kept;
       ready = c.in-Done.ensures.ready;
       size = c.in-Done.ensures.size ∙ c.turns.invariant.size;
       rest = ap (λ (k : ℕ). turns block (c.turns.left - 1) k c.run.new.memory) next

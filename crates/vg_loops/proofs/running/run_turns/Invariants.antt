@@ -13,6 +13,7 @@ invariant-turns g l =
       long : length l.places ≡ length l.steps;
       here : l.places ≡ places_at l.steps l.fn.places (l.size * (l.fn.count - l.left));
       same : means l.runner ≡ means l.fn.runner;
+      kept : g.T.Turn.keeps l.runner ≡ g.T.Turn.keeps l.fn.runner;
       ready : g.T.Turn.is_ready l.runner;
       size : length l.memory ≡ length l.fn.memory;
       rest : turns block l.left (l.fn.count - l.left) l.memory ≡ turns block l.fn.count 0 l.fn.memory;

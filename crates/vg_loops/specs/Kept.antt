@@ -1,0 +1,9 @@
+-- What no run changes of what it is run in.
+use Rattle.std.specs.Prelude.{ℕ}
+use Rattle.vg_machine.specs.ReadyInstance.{Loaded}
+
+-- the room of a kernel, by the borrow of it and how many numbers it holds, or a program with the entries that
+-- it may call
+pub data Kept : Type 0 where
+  room : (borrow numbers : ℕ) → Kept
+  loaded : Loaded → Kept
