@@ -1,27 +1,43 @@
 //! Which units depend on which, and which layouts keep what `noalias` says.
 
-use crate::shown::numbered;
+ghost use Rattle.std.specs.Prelude.{IfOk};
+ghost use Rattle.vg_shapes.specs.Sound.{IsSound};
+
+use crate::shown::{numbered, push_units};
 use std::alloc::Global;
+use std::process::Abort;
 use std::test::Fail;
 use vg_deps::{depends, independent, respects};
-use vg_shapes::DepList;
+use vg_shapes::{DepList, Ssa};
+
+/// Writes the units on which a unit depends, if any, behind a comma where something stands there.
+fn push_row(text: &mut String, unit: u32, row: &[u32]) -> Result<(), Fail> {
+    if row.is_empty() {
+        return Ok(());
+    }
+    let comma = if text.is_empty() { "" } else { ", " };
+    write!(text, "{comma}{unit}:")?;
+    push_units(text, row)
+}
 
 /// The units on which each unit depends, the greatest first, as `2: 1 0, 3: 2`.
 fn shown_rows(alloc: Global, deps: &DepList, numbers: u32) -> Result<String, Fail> {
     let mut text = String::new(alloc);
     for unit in 0..numbers {
-        let row = deps.row(unit);
-        if !row.is_empty() {
-            let comma = if text.is_empty() { "" } else { ", " };
-            let word = format!(in alloc; "{comma}{unit}:")?;
-            text.push_str(word.as_str())?;
-        }
-        for earlier in row {
-            let word = format!(in alloc; " {earlier}")?;
-            text.push_str(word.as_str())?;
-        }
+        push_row(&mut text, unit, deps.row(unit))?;
     }
     Ok(text)
+}
+
+/// The numbered values of a kernel of these parameters, an arrow, and its body.
+fn numbered_line(alloc: Global, kernel: &str) -> Result<Ssa, Fail>
+    ensures { IfOk result (λ ssa. IsSound ssa) }
+{
+    let Some((params, body)) = kernel.split_once(" => ") else {
+        return Err(Fail::new("a line without a body"));
+    };
+    let text = format!(in alloc; "kernel k({params}) {{ {body} }}")?;
+    numbered(alloc, text.as_str())
 }
 
 // Each line: parameters, a body, and the rows of its units. Numbers begin after the integer parameters.
@@ -36,23 +52,28 @@ d: noalias ptr, p: ptr => x = load32(p); store32(d, x * x); => 1: 0, 2: 1
 d: ptr, x: i32, y: i64 => store32(d, x); store64(d - 7, y); store8(d - 8, trunc8(x)); => 3: 2, 5: 4
 ";
 
+/// The rows of a line's kernel.
+fn rows_of(alloc: Global, kernel: &str) -> Result<String, Fail> {
+    let ssa = numbered_line(alloc, kernel)?;
+    let deps = depends(alloc, &ssa)?;
+    shown_rows(alloc, &deps, 8)
+}
+
+fn check_rows(rt: &impl Abort, alloc: Global, line: &str) -> Result<(), Fail> {
+    let Some((kernel, rows)) = line.rsplit_once(" => ") else {
+        return Err(Fail::new("a line without rows"));
+    };
+    let shown = rows_of(alloc, kernel)?;
+    assert!(rt; shown.as_str() == rows, "{line}");
+    Ok(())
+}
+
 #[test]
 fn units_depend_on_what_they_use_and_on_bytes_that_they_may_share(
     rt: HostRuntime,
 ) -> Result<(), Fail> {
-    let alloc = rt.alloc();
     for line in DEPENDENCES.trim().lines() {
-        let Some((kernel, rows)) = line.rsplit_once(" => ") else {
-            return Err(Fail::new("a line without rows"));
-        };
-        let Some((params, body)) = kernel.split_once(" => ") else {
-            return Err(Fail::new("a line without a body"));
-        };
-        let text = format!(in alloc; "kernel k({params}) {{ {body} }}")?;
-        let ssa = numbered(alloc, text.as_str())?;
-        let deps = depends(alloc, &ssa)?;
-        let shown = shown_rows(alloc, &deps, 8)?;
-        assert!(rt; shown.as_str() == rows, "{line}");
+        check_rows(&rt, rt.alloc(), line)?;
     }
     Ok(())
 }
@@ -61,17 +82,21 @@ const MIXED: &str = "kernel mixed(d: ptr, p: ptr) {
     store32(d, load32(p)); store32(d + 4, load32(p + 4));
 }";
 
+/// Asserts of pairs of units whether they are independent.
+fn check_pairs(rt: &impl Abort, deps: &DepList, pairs: &[(u32, u32)], wanted: bool) {
+    for (a, b) in pairs {
+        assert!(rt; independent(deps, *a, *b) == wanted, "{a} {b}");
+    }
+}
+
 #[test]
 fn units_are_independent_where_neither_waits_for_the_other(rt: HostRuntime) -> Result<(), Fail> {
     let alloc = rt.alloc();
     let ssa = numbered(alloc, MIXED)?;
     let deps = depends(alloc, &ssa)?;
-    for (a, b) in [(0, 2), (2, 0), (1, 3), (3, 1)] {
-        assert!(rt; independent(&deps, a, b), "{a} {b}");
-    }
-    for (a, b) in [(0, 1), (1, 0), (1, 2), (2, 1), (0, 3), (3, 0)] {
-        assert!(rt; !independent(&deps, a, b), "{a} {b}");
-    }
+    check_pairs(&rt, &deps, &[(0, 2), (2, 0), (1, 3), (3, 1)], true);
+    let waiting = [(0, 1), (1, 0), (1, 2), (2, 1), (0, 3), (3, 0)];
+    check_pairs(&rt, &deps, &waiting, false);
     Ok(())
 }
 
@@ -104,12 +129,8 @@ fn is_respected(alloc: Global, kernel: &str) -> Result<bool, Fail> {
     let Some((kernel, words)) = kernel.rsplit_once(" => ") else {
         return Err(Fail::new("a line without places"));
     };
-    let Some((params, body)) = kernel.split_once(" => ") else {
-        return Err(Fail::new("a line without a body"));
-    };
-    let text = format!(in alloc; "kernel k({params}) {{ {body} }}")?;
-    let ssa = numbered(alloc, text.as_str())?;
     let places = places_in(alloc, words)?;
+    let ssa = numbered_line(alloc, kernel)?;
     Ok(respects(&ssa, places.as_slice()))
 }
 

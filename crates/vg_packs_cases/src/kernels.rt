@@ -1,6 +1,7 @@
 //! The store groups of small kernels.
 
 use crate::shown::{numbered, shown};
+use std::alloc::Global;
 use std::test::Fail;
 use vg_packs::store_groups;
 
@@ -66,14 +67,21 @@ store 7 8
     },
 ];
 
+fn groups_of(alloc: Global, kernel: &str) -> Result<String, Fail> {
+    let ssa = numbered(alloc, kernel)?;
+    let groups = store_groups(alloc, &ssa)?;
+    shown(alloc, groups.as_slice())
+}
+
+fn has_groups(alloc: Global, case: &Case) -> Result<bool, Fail> {
+    let text = groups_of(alloc, case.kernel)?;
+    Ok(text.as_str() == case.groups)
+}
+
 #[test]
 fn store_groups_stand_by_size_and_first_unit(rt: HostRuntime) -> Result<(), Fail> {
-    let alloc = rt.alloc();
     for case in CASES.iter() {
-        let ssa = numbered(alloc, case.kernel)?;
-        let groups = store_groups(alloc, &ssa)?;
-        let text = shown(alloc, groups.as_slice())?;
-        assert!(rt; text.as_str() == case.groups, "{}", case.kernel);
+        assert!(rt; has_groups(rt.alloc(), case)?, "{}", case.kernel);
     }
     Ok(())
 }

@@ -62,7 +62,7 @@ fn plain(alloc: Global, text: &str) -> Result<String, Fail> {
     let table = MatchTable::from_vec(Vec::new(alloc));
     dependences_are_earlier();
     let plan = plain_plan(alloc, &[], &table, &ssa, &deps)?;
-    Ok(shown(alloc, plan.as_slice())?)
+    shown(alloc, plan.as_slice())
 }
 
 /// Whether a pack may stand in a plan of a kernel alone.
@@ -73,12 +73,15 @@ fn may_begin(alloc: Global, text: &str, pack: &Pack) -> Result<bool, Fail> {
     Ok(compatible(alloc, &[], pack, &[], &table, &ssa, &deps)?)
 }
 
+fn has_plan(alloc: Global, case: &Case) -> Result<bool, Fail> {
+    let text = plain(alloc, case.kernel)?;
+    Ok(text.as_str() == case.plan)
+}
+
 #[test]
 fn store_groups_come_first_and_larger_ones_before_smaller(rt: HostRuntime) -> Result<(), Fail> {
-    let alloc = rt.alloc();
     for case in CASES.iter() {
-        let text = plain(alloc, case.kernel)?;
-        assert!(rt; text.as_str() == case.plan, "{}", case.kernel);
+        assert!(rt; has_plan(rt.alloc(), case)?, "{}", case.kernel);
     }
     Ok(())
 }
@@ -119,14 +122,18 @@ const PAIRS: [Pair; 4] = [
     },
 ];
 
+/// Whether the stores of a pair may stand in a plan of its kernel alone.
+fn stores_may_begin(alloc: Global, pair: &Pair) -> Result<bool, Fail> {
+    let stores = Pack::Stores(Lanes::from_slice(alloc, pair.units.as_slice())?);
+    may_begin(alloc, pair.kernel, &stores)
+}
+
 #[test]
 fn packs_that_wait_for_themselves_or_are_not_tried_are_refused(
     rt: HostRuntime,
 ) -> Result<(), Fail> {
-    let alloc = rt.alloc();
     for pair in PAIRS.iter() {
-        let stores = Pack::Stores(Lanes::from_slice(alloc, pair.units.as_slice())?);
-        let may = may_begin(alloc, pair.kernel, &stores)?;
+        let may = stores_may_begin(rt.alloc(), pair)?;
         assert!(rt; may == pair.may_begin, "{}", pair.why);
     }
     Ok(())

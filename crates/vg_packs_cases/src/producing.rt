@@ -5,6 +5,7 @@ ghost use Rattle.vg_kernel_plans.specs.Taken.{MatchesNear};
 
 use crate::shown::{numbered, shown};
 use std::alloc::{AllocError, Global};
+use std::process::Abort;
 use std::test::Fail;
 use vg_base::{Items, Name};
 use vg_packs::producers;
@@ -108,38 +109,66 @@ fn table(alloc: Global) -> Result<MatchTable, AllocError>
     Ok(MatchTable::from_vec(matches))
 }
 
+/// The loads that produce two values of a kernel, as text.
+fn loads_of(alloc: Global, kernel: &str, values: [u32; 2]) -> Result<String, Fail> {
+    let ssa = numbered(alloc, kernel)?;
+    let operand = wanting(alloc, values[0], values[1])?;
+    let table = MatchTable::from_vec(Vec::new(alloc));
+    let packs = producers(alloc, &operand, &[], &table, &ssa)?;
+    shown(alloc, packs.as_slice())
+}
+
+fn has_producers(alloc: Global, case: &Case) -> Result<bool, Fail> {
+    let text = loads_of(alloc, case.kernel, case.values)?;
+    Ok(text.as_str() == case.producers)
+}
+
 #[test]
 fn loads_beside_each_other_are_produced_in_their_order(rt: HostRuntime) -> Result<(), Fail> {
-    let alloc = rt.alloc();
-    let table = MatchTable::from_vec(Vec::new(alloc));
     for case in CASES.iter() {
-        let ssa = numbered(alloc, case.kernel)?;
-        let operand = wanting(alloc, case.values[0], case.values[1])?;
-        let packs = producers(alloc, &operand, &[], &table, &ssa)?;
-        let text = shown(alloc, packs.as_slice())?;
-        assert!(rt; text.as_str() == case.producers, "{}", case.kernel);
+        assert!(rt; has_producers(rt.alloc(), case)?, "{}", case.kernel);
     }
+    Ok(())
+}
+
+/// So many descriptions with this register.
+fn descriptions(alloc: Global, register: u32, count: u32) -> Result<Vec<Description>, AllocError> {
+    let mut descriptions = Vec::new(alloc);
+    for _ in 0..count {
+        descriptions.push(description(alloc, register)?)?;
+    }
+    Ok(descriptions)
+}
+
+const SUMS: &str = "kernel sums(d: ptr, p: ptr, q: ptr) {
+    store32(d, load32(p) + load32(q)); store32(d + 4, load32(p + 4) + load32(q + 4));
+}";
+
+/// The calls of descriptions that produce the two sums, as text.
+fn calls_of(alloc: Global, descriptions: &[Description]) -> Result<String, Fail> {
+    let ssa = numbered(alloc, SUMS)?;
+    let operand = wanting(alloc, 2, 6)?;
+    let table = table(alloc)?;
+    let packs = producers(alloc, &operand, descriptions, &table, &ssa)?;
+    shown(alloc, packs.as_slice())
+}
+
+fn check_calls(
+    rt: &impl Abort,
+    alloc: Global,
+    register: u32,
+    count: u32,
+    wanted: &str,
+) -> Result<(), Fail> {
+    let descriptions = descriptions(alloc, register, count)?;
+    let text = calls_of(alloc, descriptions.as_slice())?;
+    assert!(rt; text.as_str() == wanted, "registers of {register} bits");
     Ok(())
 }
 
 #[test]
 fn calls_are_produced_in_the_order_of_their_instances(rt: HostRuntime) -> Result<(), Fail> {
-    let alloc = rt.alloc();
-    let kernel = "kernel sums(d: ptr, p: ptr, q: ptr) {
-        store32(d, load32(p) + load32(q)); store32(d + 4, load32(p + 4) + load32(q + 4));
-    }";
-    let ssa = numbered(alloc, kernel)?;
-    let operand = wanting(alloc, 2, 6)?;
-    let narrow = vec![in alloc;
-        description(alloc, 128)?,
-        description(alloc, 128)?,
-        description(alloc, 128)?,
-    ]?;
-    let packs = producers(alloc, &operand, narrow.as_slice(), &table(alloc)?, &ssa)?;
-    let text = shown(alloc, packs.as_slice())?;
-    assert!(rt; text.as_str() == "call 0: 2 6 _ _\ncall 2: 2 6 _ _\n");
-    let wide = vec![in alloc; description(alloc, 256)?]?;
-    let none = producers(alloc, &operand, wide.as_slice(), &table(alloc)?, &ssa)?;
-    assert!(rt; none.len() == 0, "another register");
-    Ok(())
+    let narrow = "call 0: 2 6 _ _\ncall 2: 2 6 _ _\n";
+    check_calls(&rt, rt.alloc(), 128, 3, narrow)?;
+    check_calls(&rt, rt.alloc(), 256, 1, "")
 }

@@ -3,7 +3,7 @@
 ghost use Rattle.std.specs.Prelude.{IfOk};
 ghost use Rattle.vg_shapes.specs.Sound.{IsSound};
 
-use std::alloc::{AllocError, Global};
+use std::alloc::Global;
 use std::test::Fail;
 use vg_kernel::parse_kernel;
 use vg_shapes::{Pack, Ssa};
@@ -18,47 +18,48 @@ pub fn numbered(alloc: Global, text: &str) -> Result<Ssa, Fail>
     Ok(ssa)
 }
 
-fn push_units(alloc: Global, text: &mut String, units: &[u32]) -> Result<(), AllocError> {
+/// Writes units, each with a space before it.
+pub fn push_units(text: &mut String, units: &[u32]) -> Result<(), Fail> {
     for unit in units {
-        let word = format!(in alloc; " {unit}")?;
-        text.push_str(word.as_str())?;
+        write!(text, " {unit}")?;
     }
     Ok(())
 }
 
-fn push_lanes(alloc: Global, text: &mut String, lanes: &[Option<u32>]) -> Result<(), AllocError> {
+fn push_lanes(text: &mut String, lanes: &[Option<u32>]) -> Result<(), Fail> {
     for lane in lanes {
         match lane {
-            Some(unit) => {
-                let word = format!(in alloc; " {unit}")?;
-                text.push_str(word.as_str())?;
-            }
+            Some(unit) => write!(text, " {unit}")?,
             None => text.push_str(" _")?,
         }
     }
     Ok(())
 }
 
-/// A line a pack: how it is done, and its units, lane 0 first.
-pub fn shown(alloc: Global, packs: &[Pack]) -> Result<String, AllocError> {
+/// How a pack is done, and its units, lane 0 first.
+fn push_pack(text: &mut String, pack: &Pack) -> Result<(), Fail> {
+    match pack {
+        Pack::Stores(units) => {
+            text.push_str("store")?;
+            push_units(text, units.as_slice())
+        }
+        Pack::Loads(units) => {
+            text.push_str("load")?;
+            push_units(text, units.as_slice())
+        }
+        Pack::Call { description, lanes } => {
+            write!(text, "call {description}:")?;
+            push_lanes(text, lanes.as_slice())
+        }
+    }
+}
+
+/// A line a pack.
+pub fn shown(alloc: Global, packs: &[Pack]) -> Result<String, Fail> {
     let mut text = String::new(alloc);
     for pack in packs {
-        match pack {
-            Pack::Stores(units) => {
-                text.push_str("store")?;
-                push_units(alloc, &mut text, units.as_slice())?;
-            }
-            Pack::Loads(units) => {
-                text.push_str("load")?;
-                push_units(alloc, &mut text, units.as_slice())?;
-            }
-            Pack::Call { description, lanes } => {
-                let word = format!(in alloc; "call {description}:")?;
-                text.push_str(word.as_str())?;
-                push_lanes(alloc, &mut text, lanes.as_slice())?;
-            }
-        }
-        text.push_str("\n")?;
+        push_pack(&mut text, pack)?;
+        text.push('\n')?;
     }
     Ok(text)
 }
