@@ -1,31 +1,42 @@
 //! What plans of small kernels cost.
 
 use crate::kernels::{
-    add, copied, load, store_number, store_value, summed, turn, turned, unmatched,
+    add, copied, load, store_number, store_value, summed, turned, turns, unmatched,
 };
 use crate::plans::{Two, cost_of};
+use std::alloc::Global;
 use std::test::Fail;
+use vg_shapes::SsaUnit;
+
+fn cost_of_copied(alloc: Global, packs: &[Two]) -> Result<u64, Fail> {
+    let ssa = copied(alloc)?;
+    cost_of(alloc, &ssa, &[], packs)
+}
 
 #[test]
 fn a_pack_takes_what_another_holds(rt: HostRuntime) -> Result<(), Fail> {
     let alloc = rt.alloc();
-    let ssa = copied(alloc)?;
-    assert!(rt; cost_of(alloc, &ssa, &[], &[])? == 4);
-    let group = cost_of(alloc, &ssa, &[], &[Two::Stores(3, 5)])?;
+    assert!(rt; cost_of_copied(alloc, &[])? == 4);
+    let group = cost_of_copied(alloc, &[Two::Stores(3, 5)])?;
     assert!(rt; group == 6, "a line, a constant, two inserts, two loads");
     let both = [Two::Stores(3, 5), Two::Loads(2, 4)];
-    assert!(rt; cost_of(alloc, &ssa, &[], &both)? == 2);
+    assert!(rt; cost_of_copied(alloc, &both)? == 2);
     Ok(())
+}
+
+fn cost_of_units(alloc: Global, units: &[SsaUnit], packs: &[Two]) -> Result<u64, Fail> {
+    let ssa = unmatched(alloc, units)?;
+    cost_of(alloc, &ssa, &[], packs)
 }
 
 #[test]
 fn constants_and_inserts_cost_lines(rt: HostRuntime) -> Result<(), Fail> {
     let alloc = rt.alloc();
-    let numbers = unmatched(alloc, &[store_number(0, 5), store_number(4, 6)])?;
-    let cost = cost_of(alloc, &numbers, &[], &[Two::Stores(2, 3)])?;
+    let numbers = [store_number(0, 5), store_number(4, 6)];
+    let cost = cost_of_units(alloc, &numbers, &[Two::Stores(2, 3)])?;
     assert!(rt; cost == 2, "a line and a constant");
-    let mixed = unmatched(alloc, &[store_value(0, 1), store_number(4, 6)])?;
-    let cost = cost_of(alloc, &mixed, &[], &[Two::Stores(2, 3)])?;
+    let mixed = [store_value(0, 1), store_number(4, 6)];
+    let cost = cost_of_units(alloc, &mixed, &[Two::Stores(2, 3)])?;
     assert!(rt; cost == 3, "a line, a constant and an insert");
     Ok(())
 }
@@ -33,23 +44,20 @@ fn constants_and_inserts_cost_lines(rt: HostRuntime) -> Result<(), Fail> {
 #[test]
 fn an_operand_of_two_packs_is_counted_once(rt: HostRuntime) -> Result<(), Fail> {
     let alloc = rt.alloc();
-    let ssa = unmatched(
-        alloc,
-        &[
-            store_value(0, 0),
-            store_value(4, 1),
-            store_value(16, 0),
-            store_value(20, 1),
-            store_value(32, 1),
-            store_value(36, 0),
-        ],
-    )?;
-    let same = cost_of(alloc, &ssa, &[], &[Two::Stores(2, 3), Two::Stores(4, 5)])?;
+    let units = [
+        store_value(0, 0),
+        store_value(4, 1),
+        store_value(16, 0),
+        store_value(20, 1),
+        store_value(32, 1),
+        store_value(36, 0),
+    ];
+    let same = cost_of_units(alloc, &units, &[Two::Stores(2, 3), Two::Stores(4, 5)])?;
     assert!(rt;
         same == 7,
         "two packs, an operand of three lines, and two stores"
     );
-    let turned = cost_of(alloc, &ssa, &[], &[Two::Stores(2, 3), Two::Stores(6, 7)])?;
+    let turned = cost_of_units(alloc, &units, &[Two::Stores(2, 3), Two::Stores(6, 7)])?;
     assert!(rt; turned == 10, "an operand of three lines more");
     Ok(())
 }
@@ -58,42 +66,48 @@ fn an_operand_of_two_packs_is_counted_once(rt: HostRuntime) -> Result<(), Fail> 
 fn a_value_of_a_pack_that_is_needed_is_extracted(rt: HostRuntime) -> Result<(), Fail> {
     let alloc = rt.alloc();
     let units = [load(1, 0), load(1, 4), store_value(0, 3), store_value(8, 3)];
-    let ssa = unmatched(alloc, &units)?;
-    assert!(rt; cost_of(alloc, &ssa, &[], &[])? == 4);
-    let cost = cost_of(alloc, &ssa, &[], &[Two::Loads(2, 3)])?;
+    assert!(rt; cost_of_units(alloc, &units, &[])? == 4);
+    let cost = cost_of_units(alloc, &units, &[Two::Loads(2, 3)])?;
     assert!(rt; cost == 4, "a pack, an extract and two stores");
     Ok(())
+}
+
+/// What a plan costs where there are shuffles of these costs.
+fn cost_with_shuffles(alloc: Global, costs: &[u32], packs: &[Two]) -> Result<u64, Fail> {
+    let ssa = turned(alloc)?;
+    let descriptions = turns(alloc, costs)?;
+    cost_of(alloc, &ssa, descriptions.as_slice(), packs)
 }
 
 #[test]
 fn a_shuffle_costs_no_more_than_inserts(rt: HostRuntime) -> Result<(), Fail> {
     let alloc = rt.alloc();
-    let ssa = turned(alloc)?;
+    let packs = [Two::Loads(2, 3), Two::Stores(4, 5)];
     // what two shuffles cost, and the plan with them
     let cases = [(9, 9, 7), (4, 9, 7), (3, 9, 5), (3, 2, 4), (1, 2, 3)];
     for (first, second, whole) in cases {
-        let descriptions = vec![in alloc; turn(alloc, first)?, turn(alloc, second)?]?;
-        let packs = [Two::Loads(2, 3), Two::Stores(4, 5)];
-        let cost = cost_of(alloc, &ssa, descriptions.as_slice(), &packs)?;
+        let cost = cost_with_shuffles(alloc, &[first, second], &packs)?;
         assert!(rt; cost == whole, "shuffles of {first} and {second}");
     }
-    let descriptions = vec![in alloc; turn(alloc, 1)?]?;
-    let cost = cost_of(alloc, &ssa, descriptions.as_slice(), &[Two::Stores(4, 5)])?;
+    let cost = cost_with_shuffles(alloc, &[1], &[Two::Stores(4, 5)])?;
     assert!(rt; cost == 6, "no pack has what the shuffle takes");
     Ok(())
+}
+
+/// What a plan costs where there is a description of a sum that costs 2.
+fn cost_of_summed(alloc: Global, packs: &[Two]) -> Result<u64, Fail> {
+    let ssa = summed(alloc)?;
+    let descriptions = vec![in alloc; add(alloc, 2)?]?;
+    cost_of(alloc, &ssa, descriptions.as_slice(), packs)
 }
 
 #[test]
 fn a_call_costs_what_its_description_says(rt: HostRuntime) -> Result<(), Fail> {
     let alloc = rt.alloc();
-    let ssa = summed(alloc)?;
-    let descriptions = vec![in alloc; add(alloc, 2)?]?;
-    let descriptions = descriptions.as_slice();
-    assert!(rt; cost_of(alloc, &ssa, descriptions, &[])? == 8);
+    assert!(rt; cost_of_summed(alloc, &[])? == 8);
     let short = [Two::Stores(8, 9), Two::Call(4, 7)];
-    let cost = cost_of(alloc, &ssa, descriptions, &short)?;
     assert!(rt;
-        cost == 13,
+        cost_of_summed(alloc, &short)? == 13,
         "packs of 1 and 2, two operands of 3, four loads"
     );
     let whole = [
@@ -102,6 +116,6 @@ fn a_call_costs_what_its_description_says(rt: HostRuntime) -> Result<(), Fail> {
         Two::Loads(2, 5),
         Two::Loads(3, 6),
     ];
-    assert!(rt; cost_of(alloc, &ssa, descriptions, &whole)? == 5);
+    assert!(rt; cost_of_summed(alloc, &whole)? == 5);
     Ok(())
 }

@@ -177,9 +177,18 @@ pub fn description(
 }
 
 /// A description that turns the two low lanes of its parameter round, and clears the rest.
-pub fn turn(alloc: Global, cost: u32) -> Result<Description, AllocError> {
+fn turn(alloc: Global, cost: u32) -> Result<Description, AllocError> {
     let lanes = vec![in alloc; leaf(0, 32), leaf(0, 0), none(), none()]?;
     description(alloc, cost, vec![in alloc; 128]?, lanes)
+}
+
+/// Descriptions that turn lanes round, with these costs.
+pub fn turns(alloc: Global, costs: &[u32]) -> Result<Vec<Description>, AllocError> {
+    let mut descriptions = Vec::new(alloc);
+    for cost in costs {
+        descriptions.push(turn(alloc, *cost)?)?;
+    }
+    Ok(descriptions)
 }
 
 /// A description that adds the two low lanes of its parameters, and clears the rest.

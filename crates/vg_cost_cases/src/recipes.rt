@@ -1,8 +1,9 @@
 //! Which recipes operands take.
 
-use crate::kernels::{description, leaf, none, turn, turned};
+use crate::kernels::{description, leaf, none, turned, turns};
 use crate::plans::{Two, plan_of};
 use std::alloc::{AllocError, Global};
+use std::process::Abort;
 use std::test::Fail;
 use vg_base::Items;
 use vg_gather::build_operand;
@@ -31,101 +32,132 @@ fn number(value: u128) -> Wanted {
     Wanted::Constant { width: 32, value }
 }
 
-fn push_numbers(alloc: Global, text: &mut String, numbers: &[u32]) -> Result<(), AllocError> {
+fn push_numbers(text: &mut String, numbers: &[u32]) -> Result<(), Fail> {
     for number in numbers {
-        let word = format!(in alloc; " {number}")?;
-        text.push_str(word.as_str())?;
+        write!(text, " {number}")?;
     }
     Ok(())
 }
 
-fn push_bytes(alloc: Global, text: &mut String, bytes: &[u8]) -> Result<(), AllocError> {
+fn push_bytes(text: &mut String, bytes: &[u8]) -> Result<(), Fail> {
     for byte in bytes {
-        let word = format!(in alloc; " {byte}")?;
-        text.push_str(word.as_str())?;
+        write!(text, " {byte}")?;
     }
     Ok(())
 }
 
-/// A recipe as text.
-fn shown(alloc: Global, recipe: &Recipe) -> Result<String, AllocError> {
+/// Writes a recipe.
+fn push_recipe(text: &mut String, recipe: &Recipe) -> Result<(), Fail> {
     match recipe {
-        Recipe::Reuse(pack) => format!(in alloc; "reuse {pack}"),
+        Recipe::Reuse(pack) => write!(text, "reuse {pack}")?,
         Recipe::Constant(bytes) => {
-            let mut text = format!(in alloc; "constant")?;
-            push_bytes(alloc, &mut text, bytes.as_slice())?;
-            Ok(text)
+            text.push_str("constant")?;
+            push_bytes(text, bytes.as_slice())?;
         }
         Recipe::Shuffle { description, packs } => {
-            let mut text = format!(in alloc; "shuffle {description}:")?;
-            push_numbers(alloc, &mut text, packs.as_slice())?;
-            Ok(text)
+            write!(text, "shuffle {description}:")?;
+            push_numbers(text, packs.as_slice())?;
         }
-        Recipe::Inserts => format!(in alloc; "inserts"),
+        Recipe::Inserts => text.push_str("inserts")?,
     }
+    Ok(())
 }
 
-/// The recipe of an operand, as text, where a plan has the stores first and the loads after them.
+/// The recipe of an operand where a plan has the stores first and the loads after them.
+fn recipe_of(
+    alloc: Global,
+    descriptions: &[Description],
+    operand: &Operand,
+) -> Result<Recipe, AllocError> {
+    let ssa = turned(alloc)?;
+    let plan = plan_of(alloc, &[Two::Stores(4, 5), Two::Loads(2, 3)])?;
+    build_operand(alloc, operand, &plan, descriptions, &ssa)
+}
+
+/// The same as text, of an operand that wants these.
 fn recipe(
     alloc: Global,
     descriptions: &[Description],
     register: u32,
     wanted: &[Wanted],
-) -> Result<String, AllocError> {
-    let ssa = turned(alloc)?;
-    let plan = plan_of(alloc, &[Two::Stores(4, 5), Two::Loads(2, 3)])?;
+) -> Result<String, Fail> {
     let operand = operand(alloc, register, wanted)?;
-    let made = build_operand(alloc, &operand, &plan, descriptions, &ssa)?;
-    shown(alloc, &made)
+    let made = recipe_of(alloc, descriptions, &operand)?;
+    let mut text = String::new(alloc);
+    push_recipe(&mut text, &made)?;
+    Ok(text)
+}
+
+/// Asserts the recipe of an operand of so many bits that wants these.
+fn check(
+    rt: &impl Abort,
+    alloc: Global,
+    descriptions: &[Description],
+    register: u32,
+    wanted: &[Wanted],
+    expected: &str,
+) -> Result<(), Fail> {
+    let text = recipe(alloc, descriptions, register, wanted)?;
+    assert!(rt; text.as_str() == expected, "{expected}");
+    Ok(())
 }
 
 #[test]
 fn a_pack_is_reused_at_its_width(rt: HostRuntime) -> Result<(), Fail> {
     let alloc = rt.alloc();
     let both = [Wanted::Value(2), Wanted::Value(3)];
-    assert!(rt; recipe(alloc, &[], 128, &both)?.as_str() == "reuse 1");
-    assert!(rt; recipe(alloc, &[], 256, &both)?.as_str() == "inserts");
+    check(&rt, alloc, &[], 128, &both, "reuse 1")?;
+    check(&rt, alloc, &[], 256, &both, "inserts")?;
     let high = [Wanted::Nothing, Wanted::Value(3)];
-    assert!(rt; recipe(alloc, &[], 128, &high)?.as_str() == "reuse 1");
-    let low = [Wanted::Value(3)];
-    assert!(rt; recipe(alloc, &[], 128, &low)?.as_str() == "inserts");
-    Ok(())
+    check(&rt, alloc, &[], 128, &high, "reuse 1")?;
+    check(&rt, alloc, &[], 128, &[Wanted::Value(3)], "inserts")
 }
 
 #[test]
 fn constants_stand_at_their_bits(rt: HostRuntime) -> Result<(), Fail> {
     let alloc = rt.alloc();
     let numbers = [number(0x01020304), Wanted::Nothing, number(0xFFFFFFFF)];
-    let text = recipe(alloc, &[], 128, &numbers)?;
     let expected = "constant 4 3 2 1 0 0 0 0 255 255 255 255 0 0 0 0";
-    assert!(rt; text.as_str() == expected);
+    check(&rt, alloc, &[], 128, &numbers, expected)?;
     let mixed = [number(1), Wanted::Value(3)];
-    assert!(rt; recipe(alloc, &[], 128, &mixed)?.as_str() == "inserts");
-    Ok(())
+    check(&rt, alloc, &[], 128, &mixed, "inserts")
+}
+
+/// Asserts the recipe of an operand that wants the two values the other way round.
+fn check_turned(
+    rt: &impl Abort,
+    alloc: Global,
+    descriptions: &[Description],
+    expected: &str,
+) -> Result<(), Fail> {
+    let turned = [Wanted::Value(3), Wanted::Value(2)];
+    check(rt, alloc, descriptions, 128, &turned, expected)
+}
+
+/// Asserts the same where there are shuffles of these costs.
+fn check_shuffles(
+    rt: &impl Abort,
+    alloc: Global,
+    costs: &[u32],
+    expected: &str,
+) -> Result<(), Fail> {
+    let descriptions = turns(alloc, costs)?;
+    check_turned(rt, alloc, descriptions.as_slice(), expected)
+}
+
+/// A shuffle that takes two parameters and uses the second alone.
+fn second_turned(alloc: Global) -> Result<Vec<Description>, AllocError> {
+    let lanes = vec![in alloc; leaf(1, 32), leaf(1, 0), none(), none()]?;
+    let params = vec![in alloc; 128, 128]?;
+    Ok(vec![in alloc; description(alloc, 1, params, lanes)?]?)
 }
 
 #[test]
 fn the_first_cheapest_shuffle_is_taken(rt: HostRuntime) -> Result<(), Fail> {
     let alloc = rt.alloc();
-    let turned = [Wanted::Value(3), Wanted::Value(2)];
-    let cases = [
-        (3, 2, "shuffle 1: 1"),
-        (2, 2, "shuffle 0: 1"),
-        (4, 9, "inserts"),
-    ];
-    for (first, second, expected) in cases {
-        let descriptions = vec![in alloc; turn(alloc, first)?, turn(alloc, second)?]?;
-        let text = recipe(alloc, descriptions.as_slice(), 128, &turned)?;
-        assert!(rt;
-            text.as_str() == expected,
-            "shuffles of {first} and {second}"
-        );
-    }
-    // the first of two parameters is not in use
-    let lanes = vec![in alloc; leaf(1, 32), leaf(1, 0), none(), none()]?;
-    let params = vec![in alloc; 128, 128]?;
-    let descriptions = vec![in alloc; description(alloc, 1, params, lanes)?]?;
-    let text = recipe(alloc, descriptions.as_slice(), 128, &turned)?;
-    assert!(rt; text.as_str() == "shuffle 0: 1 1");
-    Ok(())
+    check_shuffles(&rt, alloc, &[3, 2], "shuffle 1: 1")?;
+    check_shuffles(&rt, alloc, &[2, 2], "shuffle 0: 1")?;
+    check_shuffles(&rt, alloc, &[4, 9], "inserts")?;
+    let descriptions = second_turned(alloc)?;
+    check_turned(&rt, alloc, descriptions.as_slice(), "shuffle 0: 1 1")
 }
