@@ -12,7 +12,7 @@ use vg_emit::emit;
 use vg_kernel::parse_kernel;
 use vg_match::build;
 use vg_program::print_program;
-use vg_shapes::{Bound, Description, Lanes, Match, Node, Order, Pack, Plan, Ssa};
+use vg_shapes::{Bound, Description, Lanes, Match, MatchTable, Node, Order, Pack, Plan, Ssa};
 use vg_ssa::number_values;
 use vg_terms::{LeafKey, Term, TwoOp, make_const, make_leaf, make_two};
 
@@ -61,40 +61,71 @@ fn all_near(matches: &[Match]) -> bool
     }
 }
 
+/// The text of the program that is emitted by a plan in an order.
+fn printed(
+    alloc: Global,
+    ssa: &Ssa,
+    plan: &Plan,
+    order: &Order,
+    descriptions: &[Description],
+    table: &MatchTable,
+) -> Result<Vec<u8>, Fail>
+    requires sound { IsSound ssa.now }
+{
+    if !are_short(plan.as_slice()) || !all_near(table.as_slice()) {
+        return Err(Fail::new("a wide pack or a far leaf"));
+    }
+    let program = emit(alloc, ssa, plan, order, descriptions, table)?;
+    Ok(print_program(alloc, &program)?)
+}
+
 /// The text of the program that is emitted for a kernel, by these packs in this order.
 pub fn emitted(
     alloc: Global,
     kernel: &[u8],
     descriptions: &[Description],
-    packs: Vec<Pack>,
+    packs: &[Two],
     order: &[Node],
 ) -> Result<Vec<u8>, Fail> {
     let ssa = numbered(alloc, kernel)?;
     let table = build(alloc, descriptions, &ssa)?;
-    let plan = Plan::from_vec(packs);
+    let plan = Plan::from_vec(packs_of(alloc, packs)?);
     let order = Order::from_vec(Vec::from_slice(alloc, order)?);
-    if !are_short(plan.as_slice()) || !all_near(table.as_slice()) {
-        return Err(Fail::new("a wide pack or a far leaf"));
-    }
-    let program = emit(alloc, &ssa, &plan, &order, descriptions, &table)?;
-    let text = print_program(alloc, &program)?;
-    Ok(text)
+    printed(alloc, &ssa, &plan, &order, descriptions, &table)
 }
 
-/// Two stores, the one in lane 0 first.
-pub fn stores(alloc: Global, low: u32, high: u32) -> Result<Pack, AllocError> {
-    Ok(Pack::Stores(Lanes::from_slice(alloc, &[low, high])?))
+/// A pack of two values, the one in lane 0 first.
+#[derive(Clone, Copy)]
+pub enum Two {
+    Loads(u32, u32),
+    Stores(u32, u32),
+    /// The call of description 0, which has four lanes, of which the two low ones have values.
+    Call(u32, u32),
 }
 
-/// Two loads.
-pub fn loads(alloc: Global, low: u32, high: u32) -> Result<Pack, AllocError> {
-    Ok(Pack::Loads(Lanes::from_slice(alloc, &[low, high])?))
-}
-
-/// The call of a description of four lanes, of which the two low ones have values.
-pub fn call(alloc: Global, description: u32, low: u32, high: u32) -> Result<Pack, AllocError> {
+/// A call of description 0.
+fn call(alloc: Global, low: u32, high: u32) -> Result<Pack, AllocError> {
     let lanes = Lanes::from_slice(alloc, &[Some(low), Some(high), None, None])?;
-    Ok(Pack::Call { description, lanes })
+    Ok(Pack::Call {
+        description: 0,
+        lanes,
+    })
+}
+
+fn pack_of(alloc: Global, two: Two) -> Result<Pack, AllocError> {
+    match two {
+        Two::Loads(low, high) => Ok(Pack::Loads(Lanes::from_slice(alloc, &[low, high])?)),
+        Two::Stores(low, high) => Ok(Pack::Stores(Lanes::from_slice(alloc, &[low, high])?)),
+        Two::Call(low, high) => call(alloc, low, high),
+    }
+}
+
+fn packs_of(alloc: Global, all: &[Two]) -> Result<Vec<Pack>, AllocError> {
+    let mut packs = Vec::new(alloc);
+    for two in all {
+        packs.push(pack_of(alloc, *two)?)?;
+    }
+    Ok(packs)
 }
 
 fn leaf(parameter: u32, low: i64) -> Term {

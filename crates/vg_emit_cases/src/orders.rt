@@ -1,6 +1,6 @@
 //! One plan in each of its legal orders: what the programs leave of a memory.
 
-use crate::emitted::{emitted, loads, stores};
+use crate::emitted::{Two, emitted};
 use std::alloc::Global;
 use std::test::Fail;
 use vg_machine::{Machine, Outcome};
@@ -15,6 +15,8 @@ const KERNEL: &[u8] = b"kernel turned(p: noalias ptr, q: noalias ptr, x: noalias
   store32(q, b); store32(q + 4, a);
   store8(q + 8, k);
 }";
+
+const PACKS: [Two; 3] = [Two::Loads(1, 2), Two::Stores(3, 4), Two::Stores(5, 6)];
 
 // The loads stand before both packs of stores; the byte stands anywhere. The argument has number 0.
 const ORDERS: [[Node; 4]; 8] = [
@@ -52,12 +54,7 @@ fn left_by(alloc: Global, text: &[u8]) -> Result<Option<Vec<u8>>, Fail> {
 fn each_order_of_a_plan_leaves_the_same_memory(rt: HostRuntime) -> Result<(), Fail> {
     let alloc = rt.alloc();
     for order in ORDERS.iter() {
-        let packs = vec![in alloc;
-            loads(alloc, 1, 2)?,
-            stores(alloc, 3, 4)?,
-            stores(alloc, 5, 6)?,
-        ]?;
-        let text = emitted(alloc, KERNEL, &[], packs, order.as_slice())?;
+        let text = emitted(alloc, KERNEL, &[], &PACKS, order.as_slice())?;
         let Some(left) = left_by(alloc, text.as_slice())? else {
             return Err(Fail::new("the program traps"));
         };
