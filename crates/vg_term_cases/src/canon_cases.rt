@@ -1,16 +1,22 @@
 //! Terms, each with its canonical form.
 
-use crate::reader::read;
-use crate::tables::{assert_canonical, spell};
+ghost use Rattle.std.specs.Prelude.{IfOk};
+ghost use Rattle.vg_canon.specs.Canonical.{HasCanonicalChildren, IsCanonical};
+ghost use Rattle.vg_terms.specs.Term.{WellFormed, tree};
+
+use crate::tables::{Told, assert_rows, assert_text, read_formed};
+use std::alloc::Global;
+use std::process::Abort;
 use std::test::Fail;
 use vg_canon::{canon, canon_root};
-use vg_terms::{TwoOp, make_two};
+use vg_terms::{Term, TwoOp, make_two};
 
 #[test]
 fn canonical_forms(rt: HostRuntime) -> Result<(), Fail> {
-    assert_canonical(
+    assert_rows(
         &rt,
         rt.alloc(),
+        Told::Form,
         "
         (add8 1:8 (add8 a.0:8 255:8)) => a.0:8
         (sel8 (slt8 a.0:8 b.0:8) a.0:8 b.0:8) => (smin8 a.0:8 b.0:8)
@@ -33,17 +39,29 @@ fn canonical_forms(rt: HostRuntime) -> Result<(), Fail> {
     )
 }
 
+// The canonical form of a text's term.
+fn form_of(rt: &impl Abort, alloc: Global, text: &str) -> Result<Term, Fail>
+    ensures { IfOk result (λ form. IsCanonical (tree form)) }
+{
+    let t = read_formed(rt, alloc, text)?;
+    Ok(canon(alloc, t)?)
+}
+
+/// A sum whose sides are canonical, and which is not.
+pub fn sum_of_forms(rt: &impl Abort, alloc: Global) -> Result<Term, Fail>
+    ensures well_formed { IfOk result (λ t. WellFormed (tree t)) }
+    ensures children { IfOk result (λ t. HasCanonicalChildren (tree t)) }
+{
+    let sum = form_of(rt, alloc, "(add8 a.0:8 255:8)")?;
+    let one = form_of(rt, alloc, "1:8")?;
+    let t = make_two(alloc, TwoOp::Add, 8, sum, one)?;
+    assert!(rt; t.is_well_formed());
+    Ok(t)
+}
+
 #[test]
 fn rules_go_on_at_the_root(rt: HostRuntime) -> Result<(), Fail> {
     let alloc = rt.alloc();
-    let sum = read(alloc, "(add8 a.0:8 255:8)")?;
-    let one = read(alloc, "1:8")?;
-    assert!(rt; sum.is_well_formed() && one.is_well_formed());
-    let sum = canon(alloc, sum)?;
-    let one = canon(alloc, one)?;
-    let t = make_two(alloc, TwoOp::Add, 8, sum, one)?;
-    assert!(rt; t.is_well_formed());
-    let form = canon_root(alloc, t)?;
-    assert!(rt; spell(alloc, &form)?.as_slice() == "a.0:8".as_bytes());
-    Ok(())
+    let form = canon_root(alloc, sum_of_forms(&rt, alloc)?)?;
+    assert_text(&rt, alloc, &form, "a.0:8")
 }

@@ -17,20 +17,23 @@ fn leaf(width: u32, low: u32) -> Term {
     make_leaf(width, key)
 }
 
+fn length_of_text(alloc: Global, t: &Term) -> Result<u64, AllocError> {
+    let text = spell(alloc, t)?;
+    Ok(text.len() as u64)
+}
+
 // The term has this many nodes, and its canonical form no more than so many.
 fn assert_large(
     rt: &impl Abort,
     alloc: Global,
-    t: &Term,
+    t: Term,
     nodes: u64,
     most: u64,
-) -> Result<(), Fail> {
-    assert!(rt; t.is_well_formed());
-    assert!(rt; t.node_count() == nodes);
-    assert!(rt; spell(alloc, t)?.len() as u64 > nodes);
-    let form = assert_settles(rt, alloc, t)?;
-    assert!(rt; !form.is_disordered());
-    assert!(rt; form.node_count() <= most);
+) -> Result<(), AllocError> {
+    assert!(rt; t.is_well_formed() && t.node_count() == nodes);
+    let length = length_of_text(alloc, &t)?;
+    let form = assert_settles(rt, alloc, &t)?;
+    assert!(rt; length > nodes && !form.is_disordered() && form.node_count() <= most);
     Ok(())
 }
 
@@ -58,8 +61,7 @@ fn falling_chains(rt: HostRuntime) -> Result<(), Fail> {
         TwoOp::Umax,
     ];
     for op in ops {
-        let t = falling_chain(alloc, op, 511)?;
-        assert_large(&rt, alloc, &t, 1023, 1023)?;
+        assert_large(&rt, alloc, falling_chain(alloc, op, 511)?, 1023, 1023)?;
     }
     Ok(())
 }
@@ -73,39 +75,59 @@ fn tower(alloc: Global, ops: &[(OneOp, u32, u32)], start: u32) -> Result<Term, A
     Ok(t)
 }
 
-#[test]
-fn towers_of_operations_on_one_term(rt: HostRuntime) -> Result<(), Fail> {
-    let alloc = rt.alloc();
-    let zeros = tower(alloc, &[(OneOp::Zext, 64, 0), (OneOp::Trunc, 8, 0)], 8)?;
-    assert_large(&rt, alloc, &zeros, 1024, 2)?;
-    let signs = tower(alloc, &[(OneOp::Sext, 128, 0), (OneOp::Trunc, 1, 0)], 1)?;
-    assert_large(&rt, alloc, &signs, 1024, 2)?;
-    let shifts = tower(alloc, &[(OneOp::Lshr, 64, 1)], 64)?;
-    assert_large(&rt, alloc, &shifts, 1024, 1)?;
-    let signed_shifts = tower(alloc, &[(OneOp::Ashr, 32, 1)], 32)?;
-    assert_large(&rt, alloc, &signed_shifts, 1024, 2)?;
-    Ok(())
+// The tower over a leaf of this width has a canonical form of no more than so many nodes.
+fn assert_tower(
+    rt: &impl Abort,
+    alloc: Global,
+    ops: &[(OneOp, u32, u32)],
+    start: u32,
+    most: u64,
+) -> Result<(), AllocError> {
+    assert_large(rt, alloc, tower(alloc, ops, start)?, 1024, most)
 }
 
 #[test]
-fn nested_selections_and_pairs(rt: HostRuntime) -> Result<(), Fail> {
+fn towers_of_operations_on_one_term(rt: HostRuntime) -> Result<(), Fail> {
     let alloc = rt.alloc();
+    let zeros = [(OneOp::Zext, 64, 0), (OneOp::Trunc, 8, 0)];
+    assert_tower(&rt, alloc, &zeros, 8, 2)?;
+    let signs = [(OneOp::Sext, 128, 0), (OneOp::Trunc, 1, 0)];
+    assert_tower(&rt, alloc, &signs, 1, 2)?;
+    assert_tower(&rt, alloc, &[(OneOp::Lshr, 64, 1)], 64, 1)?;
+    assert_tower(&rt, alloc, &[(OneOp::Ashr, 32, 1)], 32, 2)?;
+    Ok(())
+}
+
+fn nested_selections(alloc: Global) -> Result<Term, AllocError> {
     let mut choice = leaf(8, 0);
     for i in 0..341u32 {
         choice = make_sel(alloc, 8, leaf(1, i), leaf(8, i), choice)?;
     }
-    assert_large(&rt, alloc, &choice, 1024, 1024)?;
+    Ok(choice)
+}
+
+fn nested_pairs(alloc: Global) -> Result<Term, AllocError> {
     let mut pairs = leaf(1, 0);
     for i in 0..127u32 {
-        let width = 2 + i;
-        pairs = make_two(alloc, TwoOp::Cat, width, leaf(1, i), pairs)?;
+        pairs = make_two(alloc, TwoOp::Cat, 2 + i, leaf(1, i), pairs)?;
     }
-    assert_large(&rt, alloc, &pairs, 255, 255)?;
+    Ok(pairs)
+}
+
+fn sums_of_products(alloc: Global) -> Result<Term, AllocError> {
     let mut sums = leaf(8, 0);
     for i in 0..255u32 {
         let product = make_two(alloc, TwoOp::Mul, 8, sums, make_const(8, 3))?;
         sums = make_two(alloc, TwoOp::Add, 8, leaf(8, i), product)?;
     }
-    assert_large(&rt, alloc, &sums, 1021, 1021)?;
+    Ok(sums)
+}
+
+#[test]
+fn nested_selections_and_pairs(rt: HostRuntime) -> Result<(), Fail> {
+    let alloc = rt.alloc();
+    assert_large(&rt, alloc, nested_selections(alloc)?, 1024, 1024)?;
+    assert_large(&rt, alloc, nested_pairs(alloc)?, 255, 255)?;
+    assert_large(&rt, alloc, sums_of_products(alloc)?, 1021, 1021)?;
     Ok(())
 }

@@ -1,28 +1,44 @@
 //! A pool: equal terms have one node, and a node gives its term back.
 
 ghost use Rattle.std.specs.Prelude.{◌≡◌, ◌<◌, ◌≤◌, length, IfOk};
-ghost use Rattle.vg_terms.specs.Term.{width_of};
+ghost use Rattle.vg_terms.specs.Term.{WellFormed, tree, width_of};
 ghost use Rattle.vg_pool.specs.Pool.{tree_at};
 
-use crate::reader::read;
-use crate::tables::spell;
+use crate::tables::{assert_text, read_formed};
 use std::alloc::{AllocError, Global};
 use std::process::Abort;
 use std::test::Fail;
 use vg_pool::{Pool, pool_is_shared};
-use vg_terms::{LeafKey, OneOp, TwoOp, make_leaf};
+use vg_terms::{LeafKey, OneOp, Term, TwoOp, make_leaf};
 
-// Each line is a term. Interned twice it has one number; its node has its size and gives it back.
+// The node of a term, which is the same when it is interned again, and has the term's size.
+fn shared_node(rt: &impl Abort, pool: &mut Pool, t: &Term) -> Result<usize, AllocError>
+    requires { WellFormed (tree t.now) }
+    ensures { IfOk result (λ node. node < length pool.new) }
+{
+    let node = pool.intern(t)?;
+    let again = pool.intern(t)?;
+    assert!(rt; again == node && pool.size(node) as u64 == t.node_count());
+    Ok(node)
+}
+
+// The term of this text, interned twice, has one number; its node has its size and gives it back.
+fn assert_term_shared(
+    rt: &impl Abort,
+    alloc: Global,
+    pool: &mut Pool,
+    text: &str,
+) -> Result<(), Fail> {
+    let t = read_formed(rt, alloc, text)?;
+    let node = shared_node(rt, pool, &t)?;
+    let again = pool.tree_of(alloc, node)?;
+    assert_text(rt, alloc, &again, text)
+}
+
+// Each line is a term.
 fn assert_shared(rt: &impl Abort, alloc: Global, pool: &mut Pool, rows: &str) -> Result<(), Fail> {
     for row in rows.trim().lines() {
-        let text = row.trim();
-        let t = read(alloc, text)?;
-        assert!(rt; t.is_well_formed(), "{text}");
-        let node = pool.intern(&t)?;
-        assert!(rt; pool.intern(&t)? == node, "{text}");
-        assert!(rt; pool.size(node) as u64 == t.node_count(), "{text}");
-        let again = pool.tree_of(alloc, node)?;
-        assert!(rt; spell(alloc, &again)?.as_slice() == text.as_bytes());
+        assert_term_shared(rt, alloc, pool, row.trim())?;
     }
     Ok(())
 }
@@ -80,37 +96,81 @@ fn key(low: i64) -> LeafKey {
     }
 }
 
-#[test]
-fn sizes_of_sums_that_double(rt: HostRuntime) -> Result<(), Fail> {
-    let alloc = rt.alloc();
-    let mut pool = Pool::new(alloc);
-    for (times, size) in [(0, 1), (1, 3), (9, 1023), (10, 1025), (60, 1025)] {
-        let leaf = pool.intern(&make_leaf(8, key(0)))?;
-        let sum = doubled(&mut pool, leaf, times)?;
-        assert!(rt; pool.size(sum) == size);
-        assert!(rt; pool.tree_of(alloc, sum).is_ok() == (times <= 11));
-    }
+// The node of the sum of the first 8 bits with themselves, so many times over.
+fn doubled_leaf(pool: &mut Pool, times: u32) -> Result<usize, AllocError>
+    ensures node { IfOk result (λ sum. sum < length pool.new) }
+    ensures width { IfOk result (λ sum. width_of (tree_at pool.new sum) ≡ 8) }
+{
     let leaf = pool.intern(&make_leaf(8, key(0)))?;
-    let sum = doubled(&mut pool, leaf, 9)?;
+    doubled(pool, leaf, times)
+}
+
+// So many times doubled, the leaf has a node of this size, whose term is given up to 4,096 nodes.
+fn assert_doubled(
+    rt: &impl Abort,
+    alloc: Global,
+    pool: &mut Pool,
+    times: u32,
+    size: u32,
+) -> Result<(), AllocError> {
+    let sum = doubled_leaf(pool, times)?;
+    assert!(rt; pool.size(sum) == size);
+    assert!(rt; pool.tree_of(alloc, sum).is_ok() == (times <= 11));
+    Ok(())
+}
+
+// 1,023 nodes, one more and more than the greatest size.
+fn assert_widened(rt: &impl Abort, pool: &mut Pool) -> Result<(), AllocError> {
+    let sum = doubled_leaf(pool, 9)?;
     let wide = pool.one(OneOp::Zext, 16, 0, sum)?;
-    assert!(rt; pool.size(wide) == 1024);
     let greater = pool.two(TwoOp::Add, 16, wide, wide)?;
-    assert!(rt; pool.size(greater) == 1025);
+    assert!(rt; pool.size(wide) == 1024 && pool.size(greater) == 1025);
+    Ok(())
+}
+
+// The sizes of sums that are doubled so many times.
+fn assert_sizes(rt: &impl Abort, alloc: Global, pool: &mut Pool) -> Result<(), AllocError> {
+    for (times, size) in [(0, 1), (1, 3), (9, 1023), (10, 1025), (60, 1025)] {
+        assert_doubled(rt, alloc, pool, times, size)?;
+    }
     Ok(())
 }
 
 #[test]
-fn a_selection_over_nodes(rt: HostRuntime) -> Result<(), Fail> {
-    let alloc = rt.alloc();
-    let mut pool = Pool::new(alloc);
+fn sizes_of_sums_that_double(rt: HostRuntime) -> Result<(), Fail> {
+    let mut pool = Pool::new(rt.alloc());
+    assert_sizes(&rt, rt.alloc(), &mut pool)?;
+    assert_widened(&rt, &mut pool)?;
+    Ok(())
+}
+
+// The node of a selection by the first bit between the second and the third 8 bits.
+fn selection(pool: &mut Pool) -> Result<usize, AllocError>
+    ensures { IfOk result (λ node. node < length pool.new) }
+{
     let c = pool.intern(&make_leaf(1, key(0)))?;
     let x = pool.intern(&make_leaf(8, key(8)))?;
     let y = pool.intern(&make_leaf(8, key(16)))?;
-    let node = pool.sel(c, x, y)?;
+    pool.sel(c, x, y)
+}
+
+// The node of the selection is that of the text's term, and gives this term.
+fn assert_selection(
+    rt: &impl Abort,
+    alloc: Global,
+    pool: &mut Pool,
+    text: &str,
+) -> Result<(), Fail> {
+    let t = read_formed(rt, alloc, text)?;
+    let node = selection(pool)?;
+    let same = pool.intern(&t)?;
+    assert!(rt; same == node);
     let term = pool.tree_of(alloc, node)?;
-    assert!(rt; spell(alloc, &term)?.as_slice() == b"(sel8 a.0:1 a.8:8 a.16:8)".as_slice());
-    let t = read(alloc, "(sel8 a.0:1 a.8:8 a.16:8)")?;
-    assert!(rt; t.is_well_formed());
-    assert!(rt; pool.intern(&t)? == node);
-    Ok(())
+    assert_text(rt, alloc, &term, text)
+}
+
+#[test]
+fn a_selection_over_nodes(rt: HostRuntime) -> Result<(), Fail> {
+    let mut pool = Pool::new(rt.alloc());
+    assert_selection(&rt, rt.alloc(), &mut pool, "(sel8 a.0:1 a.8:8 a.16:8)")
 }

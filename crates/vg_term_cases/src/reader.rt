@@ -19,15 +19,18 @@ pub fn read(alloc: Global, text: &str) -> Result<Term, Fail> {
         amounts: Vec::new(alloc),
     };
     for word in text.rsplit(' ') {
-        match word.strip_prefix('(') {
-            Some(operation) => {
-                let term = build(alloc, operation, &mut reading)?;
-                reading.terms.push(term)?;
-            }
-            None => place(word.trim_end_matches(')'), &mut reading)?,
-        }
+        take(alloc, word, &mut reading)?;
     }
     next(&mut reading)
+}
+
+// A word: an operation over what was read last, or what stands for itself.
+fn take(alloc: Global, word: &str, reading: &mut Reading) -> Result<(), Fail> {
+    let term = match word.strip_prefix('(') {
+        Some(operation) => build(alloc, operation, reading)?,
+        None => return place(word.trim_end_matches(')'), reading),
+    };
+    Ok(reading.terms.push(term)?)
 }
 
 fn next(reading: &mut Reading) -> Result<Term, Fail> {
@@ -41,16 +44,18 @@ fn next(reading: &mut Reading) -> Result<Term, Fail> {
 fn place(word: &str, reading: &mut Reading) -> Result<(), Fail> {
     match word.split_once(':') {
         Some((what, width)) => {
-            let width = width.parse::<u32>()?;
-            let term = match what.parse::<u128>() {
-                Ok(value) => make_const(width, value),
-                Err(_) => make_leaf(width, key(what)?),
-            };
-            reading.terms.push(term)?;
+            let term = leaf_or_constant(what, width.parse::<u32>()?)?;
+            Ok(reading.terms.push(term)?)
         }
-        None => reading.amounts.push(word.parse::<u32>()?)?,
+        None => Ok(reading.amounts.push(word.parse::<u32>()?)?),
     }
-    Ok(())
+}
+
+fn leaf_or_constant(what: &str, width: u32) -> Result<Term, Fail> {
+    match what.parse::<u128>() {
+        Ok(value) => Ok(make_const(width, value)),
+        Err(_) => Ok(make_leaf(width, key(what)?)),
+    }
 }
 
 fn key(what: &str) -> Result<LeafKey, Fail> {
@@ -61,17 +66,17 @@ fn key(what: &str) -> Result<LeafKey, Fail> {
         return Ok(key_of(3, number.parse::<u32>()?, 0, 0));
     }
     match what.strip_prefix('p') {
-        Some(place) => match place.split_once('@') {
-            Some((offset, number)) => Ok(key_of(
-                1,
-                0,
-                offset.parse::<i64>()?,
-                number.parse::<u32>()?,
-            )),
-            None => Err("a load without a number".into()),
-        },
+        Some(load) => key_of_load(load),
         None => Ok(key_of(2, 0, 0, 0)),
     }
+}
+
+fn key_of_load(load: &str) -> Result<LeafKey, Fail> {
+    let Some((offset, number)) = load.split_once('@') else {
+        return Err("a load without a number".into());
+    };
+    let offset = offset.parse::<i64>()?;
+    Ok(key_of(1, 0, offset, number.parse::<u32>()?))
 }
 
 fn key_of(kind: u8, first: u32, second: i64, third: u32) -> LeafKey {
@@ -95,24 +100,30 @@ fn parameter(name: &str) -> u32 {
 // The operation with this name and width, over what was read last.
 fn build(alloc: Global, operation: &str, reading: &mut Reading) -> Result<Term, Fail> {
     if let Some((op, width)) = one_of(operation) {
-        let width = width.parse::<u32>()?;
-        let amount = match op {
-            OneOp::Lshr | OneOp::Ashr => reading.amounts.pop().unwrap_or(0),
-            _ => 0,
-        };
-        let x = next(reading)?;
-        return Ok(make_one(alloc, op, width, amount, x)?);
+        return one(alloc, op, width.parse::<u32>()?, reading);
     }
     if let Some((op, width)) = two_of(operation) {
-        let shown = width.parse::<u32>()?;
-        let x = next(reading)?;
-        let y = next(reading)?;
-        return Ok(make_two(alloc, op, width_at(op, shown), x, y)?);
+        return two(alloc, op, width.parse::<u32>()?, reading);
     }
     match operation.strip_prefix("sel") {
         Some(width) => select(alloc, width.parse::<u32>()?, reading),
         None => Err("no operation".into()),
     }
+}
+
+fn one(alloc: Global, op: OneOp, width: u32, reading: &mut Reading) -> Result<Term, Fail> {
+    let amount = match op {
+        OneOp::Lshr | OneOp::Ashr => reading.amounts.pop().unwrap_or(0),
+        _ => 0,
+    };
+    let x = next(reading)?;
+    Ok(make_one(alloc, op, width, amount, x)?)
+}
+
+fn two(alloc: Global, op: TwoOp, shown: u32, reading: &mut Reading) -> Result<Term, Fail> {
+    let x = next(reading)?;
+    let y = next(reading)?;
+    Ok(make_two(alloc, op, width_at(op, shown), x, y)?)
 }
 
 fn select(alloc: Global, width: u32, reading: &mut Reading) -> Result<Term, Fail> {

@@ -1,9 +1,8 @@
 //! Terms: their values, known widths, order, measure and text.
 
-use crate::tables::{
-    assert_ill_formed, assert_known, assert_measures, assert_rising, assert_texts, assert_values,
-};
+use crate::tables::{Told, assert_rows, assert_values};
 use std::alloc::{AllocError, Global};
+use std::process::Abort;
 use std::test::Fail;
 use vg_base::Items;
 use vg_terms::{Env, LeafKey, order_is_total};
@@ -31,13 +30,16 @@ fn env(alloc: Global) -> Result<Env, AllocError> {
     })
 }
 
+fn assert_values_in_env(rt: &impl Abort, alloc: Global, rows: &str) -> Result<(), Fail> {
+    let env = env(alloc)?;
+    assert_values(rt, alloc, &env, rows)
+}
+
 #[test]
 fn values_of_one(rt: HostRuntime) -> Result<(), Fail> {
-    let env = env(rt.alloc())?;
-    assert_values(
+    assert_values_in_env(
         &rt,
         rt.alloc(),
-        &env,
         "
         (zext16 255:8) => 255
         (zext2 1:1) => 1
@@ -66,11 +68,9 @@ fn values_of_one(rt: HostRuntime) -> Result<(), Fail> {
 
 #[test]
 fn values_of_two(rt: HostRuntime) -> Result<(), Fail> {
-    let env = env(rt.alloc())?;
-    assert_values(
+    assert_values_in_env(
         &rt,
         rt.alloc(),
-        &env,
         "
         (add8 255:8 1:8) => 0
         (add8 127:8 1:8) => 128
@@ -107,11 +107,9 @@ fn values_of_two(rt: HostRuntime) -> Result<(), Fail> {
 
 #[test]
 fn values_of_comparisons_pairs_and_choices(rt: HostRuntime) -> Result<(), Fail> {
-    let env = env(rt.alloc())?;
-    assert_values(
+    assert_values_in_env(
         &rt,
         rt.alloc(),
-        &env,
         "
         (eq8 255:8 255:8) => 1
         (eq8 255:8 0:8) => 0
@@ -137,11 +135,9 @@ fn values_of_comparisons_pairs_and_choices(rt: HostRuntime) -> Result<(), Fail> 
 
 #[test]
 fn the_first_pair_of_a_key_counts(rt: HostRuntime) -> Result<(), Fail> {
-    let env = env(rt.alloc())?;
-    assert_values(
+    assert_values_in_env(
         &rt,
         rt.alloc(),
-        &env,
         "
         a.0:8 => 44
         a.0:128 => 300
@@ -154,9 +150,10 @@ fn the_first_pair_of_a_key_counts(rt: HostRuntime) -> Result<(), Fail> {
 
 #[test]
 fn known_widths(rt: HostRuntime) -> Result<(), Fail> {
-    assert_known(
+    assert_rows(
         &rt,
         rt.alloc(),
+        Told::Known,
         "
         a.0:8 => 8 8
         0:8 => 1 1
@@ -210,9 +207,10 @@ fn known_widths(rt: HostRuntime) -> Result<(), Fail> {
 #[test]
 fn terms_are_ordered_by_shape_and_then_by_keys(rt: HostRuntime) -> Result<(), Fail> {
     order_is_total();
-    assert_rising(
+    assert_rows(
         &rt,
         rt.alloc(),
+        Told::Next,
         "
         d.0:8 => 0:8
         #9:8 => a.0:16
@@ -235,9 +233,10 @@ fn terms_are_ordered_by_shape_and_then_by_keys(rt: HostRuntime) -> Result<(), Fa
 
 #[test]
 fn weight_and_disorder(rt: HostRuntime) -> Result<(), Fail> {
-    assert_measures(
+    assert_rows(
         &rt,
         rt.alloc(),
+        Told::Measures,
         "
         (zext16 a.0:8) => 2 0
         (sext16 a.0:8) => 3 0
@@ -267,9 +266,10 @@ fn weight_and_disorder(rt: HostRuntime) -> Result<(), Fail> {
 
 #[test]
 fn ill_formed_terms_are_told(rt: HostRuntime) -> Result<(), Fail> {
-    assert_ill_formed(
+    assert_rows(
         &rt,
         rt.alloc(),
+        Told::IllFormed,
         "
         a.0:0
         0:129
@@ -289,9 +289,10 @@ fn ill_formed_terms_are_told(rt: HostRuntime) -> Result<(), Fail> {
 
 #[test]
 fn texts(rt: HostRuntime) -> Result<(), Fail> {
-    assert_texts(
+    assert_rows(
         &rt,
         rt.alloc(),
+        Told::Text,
         "
         b.32:16
         p+4@17:32
