@@ -174,13 +174,8 @@ const ALL_FORMS: &str = "DEFINE pick(src, at[7:0]) { \
 
 #[test]
 fn every_front_of_an_operation(rt: HostRuntime) -> Result<(), Fail> {
-    let text = ALL_FORMS.as_bytes();
-    let _whole = read(&rt, rt.alloc(), text)?;
-    assert!(rt; text.len() <= 1000);
-    for length in 0..text.len() {
-        refuse_front(&rt, rt.alloc(), &text[..length])?;
-    }
-    Ok(())
+    read(&rt, rt.alloc(), ALL_FORMS.as_bytes())?;
+    refuse_each_front(&rt, rt.alloc(), ALL_FORMS.as_bytes())
 }
 
 /// Whether a front ends between two tokens: after a space, or after a sign that no further byte
@@ -192,6 +187,15 @@ fn ends_between(front: &[u8]) -> bool {
     )
 }
 
+/// The number of the fault of a text, where it has one.
+fn number_of_fault(rt: &impl Abort, alloc: Global, text: &[u8]) -> Option<u32> {
+    assert!(rt; text.len() <= 1000);
+    match parse_operation(alloc, &mut Lexer::new(text)) {
+        Ok(_) => None,
+        Err(fault) => fault.number(),
+    }
+}
+
 /// A front that ends between two tokens wants the next. One that ends in a token has another in its
 /// place.
 fn refuse_front(rt: &impl Abort, alloc: Global, front: &[u8]) -> Result<(), Fail> {
@@ -199,11 +203,15 @@ fn refuse_front(rt: &impl Abort, alloc: Global, front: &[u8]) -> Result<(), Fail
     if ends_between(front) {
         return refuse_at(rt, alloc, front, 2, end_place(front), "a front");
     }
-    let mut lexer = Lexer::new(front);
-    let Err(fault) = parse_operation(alloc, &mut lexer) else {
-        return Err("the front of an operation is none".into());
-    };
-    assert!(rt; matches!(fault.number(), Some(1) | Some(2)));
+    let number = number_of_fault(rt, alloc, front);
+    assert!(rt; matches!(number, Some(1) | Some(2)));
+    Ok(())
+}
+
+fn refuse_each_front(rt: &impl Abort, alloc: Global, text: &[u8]) -> Result<(), Fail> {
+    for length in 0..text.len() {
+        refuse_front(rt, alloc, &text[..length])?;
+    }
     Ok(())
 }
 

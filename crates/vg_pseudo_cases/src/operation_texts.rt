@@ -38,10 +38,8 @@ pub fn read(rt: &impl Abort, alloc: Global, text: &[u8]) -> Result<Operation, Fa
     let Ok(operation) = parse_operation(alloc, &mut lexer) else {
         return Err("a text of an operation is refused".into());
     };
-    let Ok(last) = lexer.next() else {
-        return Err("the lexer is not behind END".into());
-    };
-    assert!(rt; last.kind.is_end());
+    let is_read_whole = matches!(lexer.next(), Ok(last) if last.kind.is_end());
+    assert!(rt; is_read_whole, "the lexer is not behind END");
     Ok(operation)
 }
 

@@ -1,11 +1,12 @@
 //! What is read of an operation.
 
 use crate::operation_texts::read;
-use crate::spelling::{spell, spell_statements};
+use crate::spelling::{spell, spell_defines, spell_statements};
 use std::alloc::Global;
 use std::process::Abort;
 use std::test::Fail;
 use vg_pseudo::{Expr, Stmt};
+use vg_text::Place;
 
 /// The two columns of a row, which an arrow stands between.
 fn columns(row: &str) -> Result<(&str, &str), Fail> {
@@ -15,14 +16,19 @@ fn columns(row: &str) -> Result<(&str, &str), Fail> {
     }
 }
 
+/// The value of the assignment with which statements begin.
+fn assigned(statements: &Stmt) -> Result<&Expr, Fail> {
+    match statements {
+        Stmt::Assign { value, .. } => Ok(value),
+        _ => Err("an assignment is missing".into()),
+    }
+}
+
 /// Asserts what an expression is read as.
 fn check_expression(rt: &impl Abort, alloc: Global, text: &str, tree: &str) -> Result<(), Fail> {
     let whole = format!(in alloc; "x := {text} END")?;
     let operation = read(rt, alloc, whole.as_bytes())?;
-    let Stmt::Assign { value, .. } = &operation.body else {
-        return Err("an assignment is missing".into());
-    };
-    check_tree(rt, alloc, value, tree)
+    check_tree(rt, alloc, assigned(&operation.body)?, tree)
 }
 
 /// Asserts how an expression is spelled.
@@ -153,42 +159,53 @@ fn statements_and_their_lists(rt: HostRuntime) -> Result<(), Fail> {
     )
 }
 
-/// Asserts the columns of the first token of an assignment's value, with the parentheses and inside
-/// of them.
-fn check_spot(
-    rt: &impl Abort,
-    alloc: Global,
-    text: &str,
-    outer: u32,
-    inner: u32,
-) -> Result<(), Fail> {
-    let operation = read(rt, alloc, text.as_bytes())?;
-    let Stmt::Assign { value, .. } = &operation.body else {
-        return Err("an assignment is missing".into());
-    };
+/// Whether an expression stands in the first line, with its parentheses and inside of them at these
+/// columns.
+fn stands_at(value: &Expr, outer: u32, inner: u32) -> bool {
     let spot = value.spot();
+    let outer = Place {
+        line: 1,
+        column: outer,
+    };
+    let inner = Place {
+        line: 1,
+        column: inner,
+    };
+    spot.outer == outer && spot.inner == inner
+}
+
+/// A row is an assignment, an arrow, and the columns of the first token of its value, with the
+/// parentheses and inside of them.
+fn check_spot(rt: &impl Abort, alloc: Global, row: &str) -> Result<(), Fail> {
+    let (text, spot) = columns(row)?;
+    let Some((outer, inner)) = spot.split_once(' ') else {
+        return Err("a column is missing".into());
+    };
+    let (outer, inner) = (outer.parse::<u32>()?, inner.parse::<u32>()?);
+    let operation = read(rt, alloc, text.as_bytes())?;
     assert!(rt;
-        spot.outer.line == 1 && spot.outer.column == outer,
-        "{text}"
-    );
-    assert!(rt;
-        spot.inner.line == 1 && spot.inner.column == inner,
-        "{text}"
+        stands_at(assigned(&operation.body)?, outer, inner),
+        "{row}"
     );
     Ok(())
 }
 
 #[test]
 fn where_expressions_stand(rt: HostRuntime) -> Result<(), Fail> {
-    check_spot(&rt, rt.alloc(), "x := a + b END", 6, 6)?;
-    check_spot(&rt, rt.alloc(), "x := (a + b) END", 6, 7)?;
-    check_spot(&rt, rt.alloc(), "x := ((a + b)) END", 6, 8)?;
-    check_spot(&rt, rt.alloc(), "x := (a) + b END", 6, 6)?;
-    check_spot(&rt, rt.alloc(), "x := ((a) + b) END", 6, 7)?;
-    check_spot(&rt, rt.alloc(), "x := (a) ? b : c END", 6, 6)?;
-    check_spot(&rt, rt.alloc(), "x := ( a[0] ) END", 6, 8)?;
-    check_spot(&rt, rt.alloc(), "x := NOT (a) END", 6, 6)?;
-    check_spot(&rt, rt.alloc(), "x := (f(1)) END", 6, 7)?;
+    let rows = "
+        x := a + b END => 6 6
+        x := (a + b) END => 6 7
+        x := ((a + b)) END => 6 8
+        x := (a) + b END => 6 6
+        x := ((a) + b) END => 6 7
+        x := (a) ? b : c END => 6 6
+        x := ( a[0] ) END => 6 8
+        x := NOT (a) END => 6 6
+        x := (f(1)) END => 6 7
+    ";
+    for row in rows.trim().lines() {
+        check_spot(&rt, rt.alloc(), row)?;
+    }
     Ok(())
 }
 
@@ -197,16 +214,8 @@ fn defines_in_order(rt: HostRuntime) -> Result<(), Fail> {
     let text = b"DEFINE f(a, b[7:0x0]) { x := a RETURN x } \
         DEFINE f(a) { RETURN f(a, 1) } x := f(2) END";
     let operation = read(&rt, rt.alloc(), text)?;
-    let [first, second] = operation.defines.as_slice() else {
-        return Err("two DEFINEs".into());
-    };
-    assert!(rt; first.name.bytes() == b"f".as_slice());
-    let [a, b] = first.params.as_slice() else {
-        return Err("two parameters".into());
-    };
-    assert!(rt; a.name.bytes() == b"a".as_slice() && a.high.is_none());
-    assert!(rt; b.name.bytes() == b"b".as_slice() && b.high == Some(7));
-    assert!(rt; second.params.as_slice().len() == 1);
-    check_tree(&rt, rt.alloc(), &first.answer, "x")?;
-    check_tree(&rt, rt.alloc(), &second.answer, "f(a,1,)")
+    let mut found = String::new(rt.alloc());
+    spell_defines(&mut found, operation.defines.as_slice())?;
+    assert!(rt; found.as_str() == "f(a,b[7],) RETURN x; f(a,) RETURN f(a,1,); ");
+    Ok(())
 }
