@@ -142,12 +142,16 @@ fn moves_bits_of_any_width(rt: HostRuntime) {
 fn check_ends(rt: &impl Abort, width: u32, least: i128, greatest: i128) {
     assert!(rt; width >= 1 && width <= 128);
     let top = 1u128 << (width - 1);
-    assert!(rt; signed(top, width) == least, "{width}");
-    assert!(rt; signed(top - 1, width) == greatest, "{width}");
-    assert!(rt; signed(u128::MAX, width) == -1, "{width}");
-    assert!(rt; unsigned(least, width) == top, "{width}");
-    assert!(rt; unsigned(greatest, width) == top - 1, "{width}");
-    assert!(rt; unsigned(-1, width) == top - 1 + top, "{width}");
+    let ends = (signed(top, width), signed(top - 1, width));
+    assert!(rt;
+        ends == (least, greatest) && signed(u128::MAX, width) == -1,
+        "{width}"
+    );
+    let ends = (unsigned(least, width), unsigned(greatest, width));
+    assert!(rt;
+        ends == (top, top - 1) && unsigned(-1, width) == top - 1 + top,
+        "{width}"
+    );
 }
 
 #[test]

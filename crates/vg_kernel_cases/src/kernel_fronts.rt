@@ -47,30 +47,28 @@ fn texts_that_are_kernels(rt: HostRuntime) -> Result<(), Fail> {
     )
 }
 
-/// A row is the number of a fault, a count, and a piece of `text`: the front of `text` that ends
-/// after the first such piece is refused with this number, so many bytes from its end.
-fn refuse_front(rt: &impl Abort, alloc: Global, text: &str, row: &str) -> Result<(), Fail> {
+/// The number, the count and the piece of a row.
+fn columns(row: &str) -> Result<(u32, usize, &str), Fail> {
     let Some((number, behind)) = row.split_once(' ') else {
         return Err("a number is missing".into());
     };
     let Some((back, piece)) = behind.split_once(' ') else {
         return Err("a count is missing".into());
     };
+    Ok((number.parse::<u32>()?, back.parse::<usize>()?, piece))
+}
+
+/// A row is the number of a fault, a count, and a piece of `text`: the front of `text` that ends
+/// after the first such piece is refused with this number, so many bytes from its end.
+fn refuse_front(rt: &impl Abort, alloc: Global, text: &str, row: &str) -> Result<(), Fail> {
+    let (number, back, piece) = columns(row)?;
     let Some(start) = text.find(piece) else {
         return Err("a piece is missing".into());
     };
     let end = start + piece.len();
-    let back = back.parse::<usize>()?;
     assert!(rt; end <= text.len() && back <= end && text.len() <= 1_000_000);
     let place = place_after(Place { line: 1, column: 1 }, &text.as_bytes()[..end - back]);
-    refuse_at(
-        rt,
-        alloc,
-        &text.as_bytes()[..end],
-        number.parse::<u32>()?,
-        place,
-        row,
-    )
+    refuse_at(rt, alloc, &text.as_bytes()[..end], number, place, row)
 }
 
 #[test]

@@ -29,26 +29,40 @@ fn head(alloc: Global) -> Result<Head, Fail>
     }
 }
 
+fn read_head(alloc: Global, lexer: &mut Lexer<'_>) -> Result<Option<Place>, KernelFault> {
+    parse_head(alloc, lexer)?;
+    Ok(None)
+}
+
+fn read_statements(
+    alloc: Global,
+    lexer: &mut Lexer<'_>,
+    head: Head,
+) -> Result<Option<Place>, KernelFault>
+    requires { IsHead head }
+{
+    let (_, brace) = parse_statements(alloc, lexer, head)?;
+    Ok(Some(brace))
+}
+
+fn read_body(alloc: Global, lexer: &mut Lexer<'_>, head: Head) -> Result<Option<Place>, KernelFault>
+    requires { IsHead head }
+{
+    parse_body(alloc, lexer, head)?;
+    Ok(None)
+}
+
 /// Reads a part; the fault where it is refused, and of statements the place of their brace.
 fn read(
     alloc: Global,
     part: Part,
     lexer: &mut Lexer<'_>,
 ) -> Result<Result<Option<Place>, KernelFault>, Fail> {
-    Ok(match part {
-        Part::Head => match parse_head(alloc, lexer) {
-            Ok(_) => Ok(None),
-            Err(fault) => Err(fault),
-        },
-        Part::Statements => match parse_statements(alloc, lexer, head(alloc)?) {
-            Ok((_, brace)) => Ok(Some(brace)),
-            Err(fault) => Err(fault),
-        },
-        Part::Body => match parse_body(alloc, lexer, head(alloc)?) {
-            Ok(_) => Ok(None),
-            Err(fault) => Err(fault),
-        },
-    })
+    match part {
+        Part::Head => Ok(read_head(alloc, lexer)),
+        Part::Statements => Ok(read_statements(alloc, lexer, head(alloc)?)),
+        Part::Body => Ok(read_body(alloc, lexer, head(alloc)?)),
+    }
 }
 
 /// The text of a row without its mark, and the place of that.
@@ -71,8 +85,38 @@ fn next(lexer: &Lexer<'_>) -> Result<Token, Place> {
     ahead.next()
 }
 
-/// Asserts that a part is refused with this number at the mark of each row, and that the lexer then
+/// The place of what stands next in front of a lexer, or of its fault.
+fn next_place(lexer: &Lexer<'_>) -> Place {
+    match next(lexer) {
+        Ok(token) => token.place,
+        Err(place) => place,
+    }
+}
+
+/// Whether a part is refused with this number at this place.
+fn is_refused(answer: &Result<Option<Place>, KernelFault>, number: u32, place: Place) -> bool {
+    match answer {
+        Ok(_) => false,
+        Err(fault) => fault.number() == Some(number) && fault.place() == Some(place),
+    }
+}
+
+/// Asserts that a part is refused with this number at the mark of a row, and that the lexer then
 /// stands as before.
+fn refuse(rt: &impl Abort, alloc: Global, part: Part, number: u32, row: &str) -> Result<(), Fail> {
+    let (text, place) = unmarked(alloc, row)?;
+    assert!(rt; text.len() <= 1000);
+    let mut lexer = Lexer::new(text.as_slice());
+    let first = next(&lexer);
+    let answer = read(alloc, part, &mut lexer)?;
+    assert!(rt;
+        is_refused(&answer, number, place) && next(&lexer) == first,
+        "{row}"
+    );
+    Ok(())
+}
+
+/// Asserts the same of each line as a row.
 fn refuse_all(
     rt: &impl Abort,
     alloc: Global,
@@ -81,32 +125,25 @@ fn refuse_all(
     rows: &str,
 ) -> Result<(), Fail> {
     for row in rows.trim().lines() {
-        let (text, place) = unmarked(alloc, row.trim_start())?;
-        assert!(rt; text.len() <= 1000);
-        let mut lexer = Lexer::new(text.as_slice());
-        let first = next(&lexer);
-        let Err(fault) = read(alloc, part, &mut lexer)? else {
-            return Err("a part that is none is read".into());
-        };
-        let is_right = fault.number() == Some(number) && fault.place() == Some(place);
-        assert!(rt; is_right, "{row}");
-        assert!(rt; next(&lexer) == first, "{row}");
+        refuse(rt, alloc, part, number, row.trim_start())?;
     }
     Ok(())
 }
 
-/// Asserts that a part is read of each row, and that the lexer then stands at the mark.
+/// Asserts that a part is read of a row, and that the lexer then stands at the mark.
+fn read_row(rt: &impl Abort, alloc: Global, part: Part, row: &str) -> Result<(), Fail> {
+    let (text, place) = unmarked(alloc, row)?;
+    assert!(rt; text.len() <= 1000);
+    let mut lexer = Lexer::new(text.as_slice());
+    let answer = read(alloc, part, &mut lexer)?;
+    assert!(rt; answer.is_ok() && next_place(&lexer) == place, "{row}");
+    Ok(())
+}
+
+/// Asserts the same of each line as a row.
 fn read_all(rt: &impl Abort, alloc: Global, part: Part, rows: &str) -> Result<(), Fail> {
     for row in rows.trim().lines() {
-        let (text, place) = unmarked(alloc, row.trim_start())?;
-        assert!(rt; text.len() <= 1000);
-        let mut lexer = Lexer::new(text.as_slice());
-        assert!(rt; read(alloc, part, &mut lexer)?.is_ok(), "{row}");
-        let found = match next(&lexer) {
-            Ok(token) => token.place,
-            Err(place) => place,
-        };
-        assert!(rt; found == place, "{row}");
+        read_row(rt, alloc, part, row.trim_start())?;
     }
     Ok(())
 }
@@ -168,14 +205,19 @@ fn statements_leave_what_stands_behind_them(rt: HostRuntime) -> Result<(), Fail>
     )
 }
 
+/// Asserts that the brace that closes statements is told at the mark of a row.
+fn check_brace(rt: &impl Abort, alloc: Global, row: &str) -> Result<(), Fail> {
+    let (text, place) = unmarked(alloc, row)?;
+    assert!(rt; text.len() <= 1000);
+    let brace = read(alloc, Part::Statements, &mut Lexer::new(text.as_slice()))?;
+    assert!(rt; matches!(brace, Ok(Some(found)) if found == place), "{row}");
+    Ok(())
+}
+
 #[test]
 fn statements_tell_the_place_of_their_brace(rt: HostRuntime) -> Result<(), Fail> {
-    let alloc = rt.alloc();
     for row in ["{@} x", " {\n x = a; // }\n @}\n}", "{ @}\u{80}"] {
-        let (text, place) = unmarked(alloc, row)?;
-        assert!(rt; text.len() <= 1000);
-        let brace = read(alloc, Part::Statements, &mut Lexer::new(text.as_slice()))?;
-        assert!(rt; matches!(brace, Ok(Some(found)) if found == place), "{row}");
+        check_brace(&rt, rt.alloc(), row)?;
     }
     Ok(())
 }

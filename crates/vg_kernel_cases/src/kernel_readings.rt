@@ -32,16 +32,49 @@ fn open(to: &mut String, op: &impl Debug, width: Width) -> Result<(), Fail> {
     Ok(())
 }
 
+/// Writes the same of an operation on a number of another width.
+fn open_resize(to: &mut String, op: &impl Debug, width: Width, from: Width) -> Result<(), Fail> {
+    write!(to, "({op:?}{}<{}", width.bits(), from.bits())?;
+    Ok(())
+}
+
+fn open_select(to: &mut String, width: Width) -> Result<(), Fail> {
+    write!(to, "(Select{}", width.bits())?;
+    Ok(())
+}
+
+fn spell_numbered(to: &mut String, letter: char, number: u32) -> Result<(), Fail> {
+    write!(to, "{letter}{number}")?;
+    Ok(())
+}
+
+fn spell_literal(to: &mut String, number: u64, width: Width) -> Result<(), Fail> {
+    write!(to, "{number}i{}", width.bits())?;
+    Ok(())
+}
+
+/// Writes the amount of a shift and a closing parenthesis.
+fn spell_amount(to: &mut String, amount: u32) -> Result<(), Fail> {
+    write!(to, " {amount})")?;
+    Ok(())
+}
+
+/// Writes the pointer, the offset and the width of an access.
+fn spell_place(to: &mut String, place: &Address, width: Width) -> Result<(), Fail> {
+    write!(to, "{}{:+}:{}", place.pointer, place.offset, width.bits())?;
+    Ok(())
+}
+
 /// Writes an expression, each operation with its width before its operands; `a2` is the integer
 /// parameter 2, `n1` the name that a statement gave as number 1, `1-5:16` the 16 bits at pointer
 /// 1, 5 bytes below.
 #[cycle(expression)]
 fn spell(to: &mut String, expression: &KExpr) -> Result<(), Fail> {
     match expression {
-        KExpr::Argument { number, .. } => write!(to, "a{number}")?,
-        KExpr::Assigned { number, .. } => write!(to, "n{number}")?,
-        KExpr::Literal { width, number } => write!(to, "{number}i{}", width.bits())?,
-        KExpr::Load { width, address } => spell_place(to, address, *width)?,
+        KExpr::Argument { number, .. } => spell_numbered(to, 'a', *number),
+        KExpr::Assigned { number, .. } => spell_numbered(to, 'n', *number),
+        KExpr::Literal { width, number } => spell_literal(to, *number, *width),
+        KExpr::Load { width, address } => spell_place(to, address, *width),
         KExpr::Two {
             op,
             width,
@@ -50,7 +83,7 @@ fn spell(to: &mut String, expression: &KExpr) -> Result<(), Fail> {
         } => {
             open(to, op, *width)?;
             spell_operand(to, left)?;
-            spell_last_operand(to, right)?;
+            spell_last_operand(to, right)
         }
         KExpr::Shift {
             op,
@@ -60,7 +93,7 @@ fn spell(to: &mut String, expression: &KExpr) -> Result<(), Fail> {
         } => {
             open(to, op, *width)?;
             spell_operand(to, operand)?;
-            write!(to, " {amount})")?;
+            spell_amount(to, *amount)
         }
         KExpr::Resize {
             op,
@@ -68,9 +101,8 @@ fn spell(to: &mut String, expression: &KExpr) -> Result<(), Fail> {
             from,
             operand,
         } => {
-            open(to, op, *width)?;
-            write!(to, "<{}", from.bits())?;
-            spell_last_operand(to, operand)?;
+            open_resize(to, op, *width, *from)?;
+            spell_last_operand(to, operand)
         }
         KExpr::Compare {
             op,
@@ -80,7 +112,7 @@ fn spell(to: &mut String, expression: &KExpr) -> Result<(), Fail> {
         } => {
             open(to, op, *width)?;
             spell_operand(to, left)?;
-            spell_last_operand(to, right)?;
+            spell_last_operand(to, right)
         }
         KExpr::Select {
             width,
@@ -88,13 +120,12 @@ fn spell(to: &mut String, expression: &KExpr) -> Result<(), Fail> {
             first,
             second,
         } => {
-            write!(to, "(Select{}", width.bits())?;
+            open_select(to, *width)?;
             spell_operand(to, condition)?;
             spell_operand(to, first)?;
-            spell_last_operand(to, second)?;
+            spell_last_operand(to, second)
         }
     }
-    Ok(())
 }
 
 /// Writes a space and an operand.
@@ -112,12 +143,6 @@ fn spell_last_operand(to: &mut String, operand: &KExpr) -> Result<(), Fail> {
     Ok(())
 }
 
-/// Writes the pointer, the offset and the width of an access.
-fn spell_place(to: &mut String, place: &Address, width: Width) -> Result<(), Fail> {
-    write!(to, "{}{:+}:{}", place.pointer, place.offset, width.bits())?;
-    Ok(())
-}
-
 fn spell_statement(to: &mut String, statement: &KStmt) -> Result<(), Fail> {
     match statement {
         KStmt::Assign { value } => spell(to, value),
@@ -127,9 +152,16 @@ fn spell_statement(to: &mut String, statement: &KStmt) -> Result<(), Fail> {
             value,
         } => {
             spell_place(to, address, *width)?;
-            write!(to, " = ")?;
+            to.push_str(" = ")?;
             spell(to, value)
         }
+    }
+}
+
+fn spell_last_statement(to: &mut String, kernel: &Kernel) -> Result<(), Fail> {
+    match kernel.statements.as_slice().last() {
+        Some(last) => spell_statement(to, last),
+        None => Err("a statement is missing".into()),
     }
 }
 
@@ -139,11 +171,8 @@ fn check_reading(rt: &impl Abort, alloc: Global, row: &str) -> Result<(), Fail> 
         return Err("an arrow is missing".into());
     };
     let kernel = read(alloc, body)?;
-    let Some(last) = kernel.statements.as_slice().last() else {
-        return Err("a statement is missing".into());
-    };
     let mut found = String::new(alloc);
-    spell_statement(&mut found, last)?;
+    spell_last_statement(&mut found, &kernel)?;
     assert!(rt; found.as_str() == tree, "{row}");
     Ok(())
 }
@@ -231,12 +260,16 @@ fn has_param(kernel: &Kernel, index: usize, name: &[u8], kind: KParamKind) -> bo
 fn parameters_in_order(rt: HostRuntime) -> Result<(), Fail> {
     let kernel = read(rt.alloc(), "// nothing\n")?;
     assert!(rt; kernel.name.bytes() == b"t".as_slice() && kernel.params.as_slice().len() == 6);
-    assert!(rt; has_param(&kernel, 0, b"p", KParamKind::Pointer { noalias: false }));
-    assert!(rt; has_param(&kernel, 1, b"a", KParamKind::Integer(Width::W8)));
-    assert!(rt; has_param(&kernel, 2, b"q", KParamKind::Pointer { noalias: true }));
-    assert!(rt; has_param(&kernel, 3, b"b", KParamKind::Integer(Width::W16)));
-    assert!(rt; has_param(&kernel, 4, b"c", KParamKind::Integer(Width::W32)));
-    assert!(rt; has_param(&kernel, 5, b"d", KParamKind::Integer(Width::W64)));
+    for (index, name, kind) in [
+        (0, "p", KParamKind::Pointer { noalias: false }),
+        (1, "a", KParamKind::Integer(Width::W8)),
+        (2, "q", KParamKind::Pointer { noalias: true }),
+        (3, "b", KParamKind::Integer(Width::W16)),
+        (4, "c", KParamKind::Integer(Width::W32)),
+        (5, "d", KParamKind::Integer(Width::W64)),
+    ] {
+        assert!(rt; has_param(&kernel, index, name.as_bytes(), kind), "{name}");
+    }
     Ok(())
 }
 

@@ -1,9 +1,9 @@
 //! What runs of kernels leave, and where they trap.
 
-ghost use Rattle.std.specs.Prelude.{◌≤◌, length, IfOk};
+ghost use Rattle.std.specs.Prelude.{◌≤◌, ◌≡◌, length};
 
 use crate::memories::bytes_of;
-use std::alloc::Global;
+use std::alloc::{AllocError, Global};
 use std::process::Abort;
 use std::test::Fail;
 use vg_kernel::{Kernel, parse_kernel};
@@ -22,6 +22,25 @@ fn read(alloc: Global, body: &str) -> Result<Kernel, Fail> {
     }
 }
 
+/// What one run of a kernel leaves of a copy of the memory, or None where it traps.
+fn run(
+    alloc: Global,
+    kernel: &Kernel,
+    state: &mut KState,
+    places: &[u64],
+    memory: &[u8],
+) -> Result<Option<Vec<u8>>, AllocError>
+    requires { length kernel.now.statements ≤ state.old }
+    ensures { state.new ≡ state.old }
+{
+    let args = [250, 513, 4_294_967_295, 9_223_372_036_854_775_808];
+    let mut left = Vec::from_slice(alloc, memory)?;
+    match run_kernel(kernel, state, left.as_mut_slice(), places, &args) {
+        Outcome::Done => Ok(Some(left)),
+        Outcome::Trap => Ok(None),
+    }
+}
+
 /// What a kernel leaves of a memory, or None where it traps. It is run twice in one state, on two
 /// copies of the memory.
 fn left_by(
@@ -31,19 +50,19 @@ fn left_by(
     places: &[u64],
     memory: &[u8],
 ) -> Result<Option<Vec<u8>>, Fail> {
-    let args = [250, 513, 4_294_967_295, 9_223_372_036_854_775_808];
     let kernel = read(alloc, body)?;
     let mut state = KState::new(alloc, &kernel)?;
-    let mut once = Vec::from_slice(alloc, memory)?;
-    let mut again = Vec::from_slice(alloc, memory)?;
-    let first = run_kernel(&kernel, &mut state, once.as_mut_slice(), places, &args);
-    let second = run_kernel(&kernel, &mut state, again.as_mut_slice(), places, &args);
+    let first = run(alloc, &kernel, &mut state, places, memory)?;
+    let second = run(alloc, &kernel, &mut state, places, memory)?;
     assert!(rt; first == second, "{body}");
-    if first == Outcome::Trap {
-        return Ok(None);
+    Ok(first)
+}
+
+fn is_left(left: &Option<Vec<u8>>, after: &[u8]) -> bool {
+    match left {
+        Some(bytes) => bytes.as_slice() == after,
+        None => false,
     }
-    assert!(rt; once.as_slice() == again.as_slice(), "{body}");
-    Ok(Some(once))
 }
 
 /// Asserts what a kernel leaves of these bytes, with `p` at the first byte and `q` at the last.
@@ -55,20 +74,25 @@ fn expect_left(
     after: &[u8],
 ) -> Result<(), Fail> {
     let last = before.len().saturating_sub(1) as u64;
-    match left_by(rt, alloc, body, &[0, last], before)? {
-        Some(left) => assert!(rt; left.as_slice() == after, "{body}"),
-        None => return Err("a kernel traps".into()),
-    }
+    let left = left_by(rt, alloc, body, &[0, last], before)?;
+    assert!(rt; is_left(&left, after), "{body}");
     Ok(())
+}
+
+/// The two columns of a row, which an arrow stands between.
+fn columns(row: &str) -> Result<(&str, &str), Fail> {
+    match row.trim().split_once(" => ") {
+        Some(columns) => Ok(columns),
+        None => Err("an arrow is missing".into()),
+    }
 }
 
 /// A row is an expression of 8 bits, an arrow, and the byte that it gives.
 fn expect_byte(rt: &impl Abort, alloc: Global, row: &str) -> Result<(), Fail> {
-    let Some((value, byte)) = row.trim().split_once(" => ") else {
-        return Err("an arrow is missing".into());
-    };
+    let (value, byte) = columns(row)?;
+    let byte = byte.parse::<u8>()?;
     let body = format!(in alloc; "store8(p, {value});")?;
-    expect_left(rt, alloc, body.as_str(), &[0], &[byte.parse::<u8>()?])
+    expect_left(rt, alloc, body.as_str(), &[0], &[byte])
 }
 
 #[test]
@@ -120,12 +144,8 @@ fn arithmetic_on_bytes(rt: HostRuntime) -> Result<(), Fail> {
 
 /// A row is statements, an arrow, the bytes of a memory, an arrow, and the bytes that are left.
 fn expect_bytes(rt: &impl Abort, alloc: Global, row: &str) -> Result<(), Fail> {
-    let Some((body, memories)) = row.trim().split_once(" => ") else {
-        return Err("an arrow is missing".into());
-    };
-    let Some((before, after)) = memories.split_once(" => ") else {
-        return Err("a memory is missing".into());
-    };
+    let (body, memories) = columns(row)?;
+    let (before, after) = columns(memories)?;
     let before = bytes_of(alloc, before)?;
     let after = bytes_of(alloc, after)?;
     expect_left(rt, alloc, body, before.as_slice(), after.as_slice())
@@ -164,13 +184,12 @@ fn memory_and_wider_numbers(rt: HostRuntime) -> Result<(), Fail> {
 /// A row is statements, an arrow, a place, and whether they trap on a memory of four bytes, with
 /// `p` at the place and `q` at the first byte.
 fn expect_access(rt: &impl Abort, alloc: Global, row: &str) -> Result<(), Fail> {
-    let Some((body, outcome)) = row.trim().split_once(" => ") else {
-        return Err("an arrow is missing".into());
-    };
+    let (body, outcome) = columns(row)?;
     let Some((place, word)) = outcome.split_once(' ') else {
         return Err("an outcome is missing".into());
     };
-    let left = left_by(rt, alloc, body, &[place.parse::<u64>()?, 0], &[0; 4])?;
+    let place = place.parse::<u64>()?;
+    let left = left_by(rt, alloc, body, &[place, 0], &[0; 4])?;
     assert!(rt; left.is_none() == (word == "traps"), "{row}");
     Ok(())
 }
