@@ -1,13 +1,41 @@
 //! Programs run by the machine: what they leave of a memory, and where they trap.
 
+ghost use Rattle.std.specs.Prelude.{[], IfOk};
+ghost use Rattle.vg_program.specs.Valid.{IsValid};
+
 use crate::memories::{bytes_of, numbers_of};
-use std::alloc::Global;
+use std::alloc::{AllocError, Global};
 use std::process::Abort;
 use std::test::Fail;
 use vg_machine::{Machine, Outcome};
-use vg_program::parse_program;
+use vg_program::{Program, parse_program};
+
+fn program(alloc: Global, text: &[u8]) -> Result<Program, Fail>
+    ensures { IfOk result (IsValid []) }
+{
+    match parse_program(alloc, text, &[]) {
+        Ok(program) => Ok(program),
+        Err(_) => Err("the program is refused".into()),
+    }
+}
+
+/// What a run leaves of a copy of this memory, or None where it traps.
+fn run(
+    alloc: Global,
+    machine: &mut Machine<'_>,
+    places: &[u64],
+    args: &[u64],
+    memory: &[u8],
+) -> Result<Option<Vec<u8>>, AllocError> {
+    let mut after = Vec::from_slice(alloc, memory)?;
+    match machine.run(after.as_mut_slice(), places, args) {
+        Outcome::Done => Ok(Some(after)),
+        Outcome::Trap => Ok(None),
+    }
+}
 
 /// What a program without calls leaves of this memory on its second run, or None where that traps.
+/// Its first run is on zeros.
 fn left_by(
     alloc: Global,
     text: &[u8],
@@ -15,16 +43,37 @@ fn left_by(
     args: &[u64],
     memory: &[u8],
 ) -> Result<Option<Vec<u8>>, Fail> {
-    let Ok(program) = parse_program(alloc, text, &[]) else {
-        return Err("the program is refused".into());
-    };
+    let program = program(alloc, text)?;
     let mut machine = Machine::new(alloc, &[], &program)?;
-    let mut zeros = vec![in alloc; 0; memory.len()]?;
-    let _ = machine.run(zeros.as_mut_slice(), places, args);
-    let mut after = Vec::from_slice(alloc, memory)?;
-    match machine.run(after.as_mut_slice(), places, args) {
-        Outcome::Done => Ok(Some(after)),
-        Outcome::Trap => Ok(None),
+    let zeros = vec![in alloc; 0; memory.len()]?;
+    let _ = run(alloc, &mut machine, places, args, zeros.as_slice())?;
+    Ok(run(alloc, &mut machine, places, args, memory)?)
+}
+
+/// The same where places, arguments and the memory are written as words.
+fn left_of(
+    alloc: Global,
+    text: &[u8],
+    places: &str,
+    args: &str,
+    memory: &str,
+) -> Result<Option<Vec<u8>>, Fail> {
+    let places = numbers_of(alloc, places)?;
+    let args = numbers_of(alloc, args)?;
+    let memory = bytes_of(alloc, memory)?;
+    left_by(
+        alloc,
+        text,
+        places.as_slice(),
+        args.as_slice(),
+        memory.as_slice(),
+    )
+}
+
+fn are_bytes(after: &Option<Vec<u8>>, wanted: &[u8]) -> bool {
+    match after {
+        Some(bytes) => bytes.as_slice() == wanted,
+        None => false,
     }
 }
 
@@ -38,20 +87,9 @@ pub fn expect_left(
     memory: &str,
     left: &str,
 ) -> Result<(), Fail> {
-    let places = numbers_of(alloc, places)?;
-    let args = numbers_of(alloc, args)?;
-    let memory = bytes_of(alloc, memory)?;
-    let left = bytes_of(alloc, left)?;
-    match left_by(
-        alloc,
-        text,
-        places.as_slice(),
-        args.as_slice(),
-        memory.as_slice(),
-    )? {
-        Some(after) => assert!(rt; after.as_slice() == left.as_slice()),
-        None => return Err("the program traps".into()),
-    }
+    let wanted = bytes_of(alloc, left)?;
+    let after = left_of(alloc, text, places, args, memory)?;
+    assert!(rt; are_bytes(&after, wanted.as_slice()));
     Ok(())
 }
 
@@ -64,16 +102,7 @@ pub fn expect_trap(
     args: &str,
     memory: &str,
 ) -> Result<(), Fail> {
-    let places = numbers_of(alloc, places)?;
-    let args = numbers_of(alloc, args)?;
-    let memory = bytes_of(alloc, memory)?;
-    let left = left_by(
-        alloc,
-        text,
-        places.as_slice(),
-        args.as_slice(),
-        memory.as_slice(),
-    )?;
+    let left = left_of(alloc, text, places, args, memory)?;
     assert!(rt; left.is_none());
     Ok(())
 }
@@ -156,28 +185,30 @@ fn numbers_are_written_at_their_widths(rt: HostRuntime) -> Result<(), Fail> {
     )
 }
 
-/// A row is a width, a line, an arrow, two numbers of that width, and what the line makes of
-/// them, as a number of 64 bits.
-fn expect_number(rt: &impl Abort, alloc: Global, row: &str) -> Result<(), Fail> {
+/// The width, the line, the two numbers and the result of a row.
+fn columns(row: &str) -> Result<(&str, &str, &str, &str), Fail> {
     let Some((operation, numbers)) = row.trim().split_once(" => ") else {
         return Err("an arrow is missing".into());
     };
     let Some((bits, line)) = operation.split_once(' ') else {
         return Err("a width is missing".into());
     };
-    let Some((args, number)) = numbers.rsplit_once(' ') else {
-        return Err("a number is missing".into());
-    };
+    match numbers.rsplit_once(' ') {
+        Some((args, number)) => Ok((bits, line, args, number)),
+        None => Err("a number is missing".into()),
+    }
+}
+
+/// A row is a width, a line, an arrow, two numbers of that width, and what the line makes of
+/// them, as a number of 64 bits.
+fn expect_number(rt: &impl Abort, alloc: Global, row: &str) -> Result<(), Fail> {
+    let (bits, line, args, number) = columns(row)?;
+    let number = number.parse::<u64>()?.to_le_bytes();
     let text = format!(in alloc;
         "program p(d: ptr, a: i{bits}, b: i{bits})\n{line}\nstore d+0 %s0\nend cost 2 scalar 2\n"
     )?;
-    let args = numbers_of(alloc, args)?;
-    let number = number.parse::<u64>()?.to_le_bytes();
-    let left = left_by(alloc, text.as_bytes(), &[0], args.as_slice(), &[0; 8])?;
-    match left {
-        Some(after) => assert!(rt; after.as_slice() == number.as_slice(), "{row}"),
-        None => return Err("the program traps".into()),
-    }
+    let left = left_of(alloc, text.as_bytes(), "0", args, "8*0")?;
+    assert!(rt; are_bytes(&left, number.as_slice()), "{row}");
     Ok(())
 }
 
@@ -280,13 +311,7 @@ fn expect_access(rt: &impl Abort, alloc: Global, row: &str) -> Result<(), Fail> 
         return Err("an outcome is missing".into());
     };
     let text = format!(in alloc; "program p(p: ptr)\n{line}\nend cost 1 scalar 1\n")?;
-    let left = left_by(
-        alloc,
-        text.as_bytes(),
-        &[place.parse::<u64>()?],
-        &[],
-        &[0; 8],
-    )?;
+    let left = left_of(alloc, text.as_bytes(), place, "", "8*0")?;
     assert!(rt; left.is_none() == (word == "traps"), "{row}");
     Ok(())
 }

@@ -3,7 +3,7 @@
 
 ghost use Rattle.std.specs.Prelude.{◌≤◌, length, IfOk};
 
-use std::alloc::Global;
+use std::alloc::{AllocError, Global};
 use std::process::Abort;
 use std::test::Fail;
 use vg_program::parts::{body_at, put_body, put_signature, refused_by, signature_at};
@@ -38,42 +38,67 @@ fn a_signature_leaves_what_stands_behind_it(rt: HostRuntime) -> Result<(), Fail>
     let Ok((signature, rest)) = signature_at(rt.alloc(), b"f(p: ptr, k: i8) times k") else {
         return Err("a signature is refused".into());
     };
-    assert!(rt; signature.name.bytes() == b"f".as_slice());
-    assert!(rt; signature.params.as_slice().len() == 2);
-    assert!(rt; rest == b" times k".as_slice());
+    let is_right = signature.name.bytes() == b"f".as_slice()
+        && signature.params.as_slice().len() == 2;
+    assert!(rt; is_right && rest == b" times k".as_slice());
     Ok(())
+}
+
+/// Two pieces of text, one behind the other.
+fn joined(alloc: Global, front: &str, behind: &str) -> Result<Vec<u8>, AllocError> {
+    let mut text = Vec::from_slice(alloc, front.as_bytes())?;
+    text.extend_from_slice(behind.as_bytes())?;
+    Ok(text)
 }
 
 #[test]
 fn a_body_leaves_what_stands_behind_its_last_line(rt: HostRuntime) -> Result<(), Fail> {
     let alloc = rt.alloc();
-    let mut text = Vec::from_slice(alloc, BODY.as_bytes())?;
-    text.extend_from_slice(BEHIND.as_bytes())?;
+    let text = joined(alloc, BODY, BEHIND)?;
     let Ok((program, rest)) = body_at(alloc, &[], signature(alloc)?, text.as_slice()) else {
         return Err("a body is refused".into());
     };
-    assert!(rt; program.lines.as_slice().len() == 2);
-    assert!(rt; program.cost == 2 && program.scalar == 3);
-    assert!(rt; rest == BEHIND.as_bytes());
+    let is_right = program.lines.as_slice().len() == 2 && program.cost == 2 && program.scalar == 3;
+    assert!(rt; is_right && rest == BEHIND.as_bytes());
     Ok(())
+}
+
+/// A word, a program's signature, and its body in the next line.
+fn printed(alloc: Global, program: &Program) -> Result<Vec<u8>, AllocError> {
+    let mut text = Vec::from_slice(alloc, b"guarded ")?;
+    put_signature(alloc, &mut text, program)?;
+    text.extend_from_slice(b"\n")?;
+    put_body(alloc, &mut text, program)?;
+    Ok(text)
 }
 
 #[test]
 fn signatures_and_bodies_are_printed_behind_what_stands_there(rt: HostRuntime) -> Result<(), Fail> {
     let alloc = rt.alloc();
+    let wanted = joined(alloc, "guarded f(p: ptr, k: i8)\n", BODY)?;
     let program = program(alloc)?;
-    let mut text = Vec::from_slice(alloc, b"guarded ")?;
-    put_signature(alloc, &mut text, &program)?;
-    text.extend_from_slice(b"\n")?;
-    put_body(alloc, &mut text, &program)?;
-    let mut wanted = Vec::from_slice(alloc, b"guarded f(p: ptr, k: i8)\n")?;
-    wanted.extend_from_slice(BODY.as_bytes())?;
+    let text = printed(alloc, &program)?;
     assert!(rt; text.as_slice() == wanted.as_slice());
     Ok(())
 }
 
-/// Asserts that the body after so many bytes of a text is refused with this number at this place of
-/// the whole text.
+/// The number and the place in the whole text of the fault of the body that stands after so many
+/// bytes of it.
+fn fault_of_body(
+    rt: &impl Abort,
+    alloc: Global,
+    text: &[u8],
+    front: usize,
+) -> Result<(Option<u32>, Option<Place>), Fail> {
+    assert!(rt; front <= text.len() && text.len() <= 1000);
+    let Err(error) = body_at(alloc, &[], signature(alloc)?, &text[front..]) else {
+        return Err("a body that is none is read".into());
+    };
+    let fault = refused_by(text, error);
+    Ok((fault.number(), fault.place()))
+}
+
+/// Asserts that the body behind a front is refused with this number at this place of the whole text.
 fn refuse_body(
     rt: &impl Abort,
     alloc: Global,
@@ -82,22 +107,9 @@ fn refuse_body(
     number: u32,
     place: Place,
 ) -> Result<(), Fail> {
-    let mut text = Vec::from_slice(alloc, front.as_bytes())?;
-    text.extend_from_slice(body.as_bytes())?;
-    assert!(rt; front.len() <= text.len() && text.len() <= 1000);
-    let Err(error) = body_at(
-        alloc,
-        &[],
-        signature(alloc)?,
-        &text.as_slice()[front.len()..],
-    ) else {
-        return Err("a body that is none is read".into());
-    };
-    let fault = refused_by(text.as_slice(), error);
-    assert!(rt;
-        fault.number() == Some(number) && fault.place() == Some(place),
-        "{body}"
-    );
+    let text = joined(alloc, front, body)?;
+    let fault = fault_of_body(rt, alloc, text.as_slice(), front.len())?;
+    assert!(rt; fault == (Some(number), Some(place)), "{body}");
     Ok(())
 }
 

@@ -4,6 +4,7 @@
 use crate::machine_cases::{expect_left, expect_trap};
 use crate::program_cases::{expect_again, is_refused, refuse_lines};
 use std::alloc::{AllocError, Global};
+use std::process::Abort;
 use std::test::Fail;
 use vg_base::{Items, Name};
 use vg_pseudo::{Header, ImmRange, Param};
@@ -17,39 +18,51 @@ fn param(alloc: Global, register: u32) -> Result<Param, AllocError> {
     })
 }
 
-/// `add`, of two registers of 128 bits, and `mix`, of a register of 128 and one of 256 bits and an
-/// immediate of 2 to 5, which costs 7 and gives 256 bits.
-fn headers_of(alloc: Global) -> Result<Vec<Header>, AllocError> {
-    let mut both = Vec::new(alloc);
-    both.push(param(alloc, 128)?)?;
-    both.push(param(alloc, 128)?)?;
-    let mut mixed = Vec::new(alloc);
-    mixed.push(param(alloc, 128)?)?;
-    mixed.push(param(alloc, 256)?)?;
-    let mut headers = Vec::new(alloc);
-    headers.push(Header {
+/// Parameters in registers of so many bits.
+fn params(alloc: Global, registers: &[u32]) -> Result<Items<Param>, AllocError> {
+    let mut params = Vec::new(alloc);
+    for register in registers {
+        params.push(param(alloc, *register)?)?;
+    }
+    Ok(Items::from_vec(params))
+}
+
+fn add(alloc: Global) -> Result<Header, AllocError> {
+    Ok(Header {
         name: Name::new(alloc, b"add")?,
-        params: Items::from_vec(both),
+        params: params(alloc, &[128, 128])?,
         imm: None,
         register: 128,
         lane_width: 32,
         extension: 0,
         cost: 1,
-    })?;
-    headers.push(Header {
+    })
+}
+
+fn two_to_five(alloc: Global) -> Result<ImmRange, AllocError> {
+    Ok(ImmRange {
+        name: Name::new(alloc, b"imm")?,
+        lo: 2,
+        hi: 5,
+    })
+}
+
+fn mix(alloc: Global) -> Result<Header, AllocError> {
+    Ok(Header {
         name: Name::new(alloc, b"mix")?,
-        params: Items::from_vec(mixed),
-        imm: Some(ImmRange {
-            name: Name::new(alloc, b"imm")?,
-            lo: 2,
-            hi: 5,
-        }),
+        params: params(alloc, &[128, 256])?,
+        imm: Some(two_to_five(alloc)?),
         register: 256,
         lane_width: 32,
         extension: 0,
         cost: 7,
-    })?;
-    Ok(headers)
+    })
+}
+
+/// `add`, of two registers of 128 bits, and `mix`, of a register of 128 and one of 256 bits and an
+/// immediate of 2 to 5, which costs 7 and gives 256 bits.
+fn headers_of(alloc: Global) -> Result<Vec<Header>, AllocError> {
+    Ok(vec![in alloc; add(alloc)?, mix(alloc)?]?)
 }
 
 const LINES: &[u8] = b"program all(d: ptr, k: i8, s: ptr)
@@ -87,15 +100,18 @@ const FRONT: &str = "program p(d: ptr, k: i8)
 %s0:i1 = eq k k
 ";
 
+/// Asserts that each line, after the front, is refused with the number and at the column behind its
+/// arrow.
+fn refuse_with_headers(rt: &impl Abort, alloc: Global, rows: &str) -> Result<(), Fail> {
+    let headers = headers_of(alloc)?;
+    refuse_lines(rt, alloc, headers.as_slice(), FRONT, 5, rows)
+}
+
 #[test]
 fn refusals_of_registers(rt: HostRuntime) -> Result<(), Fail> {
-    let headers = headers_of(rt.alloc())?;
-    refuse_lines(
+    refuse_with_headers(
         &rt,
         rt.alloc(),
-        headers.as_slice(),
-        FRONT,
-        5,
         "
         %v3 = vload 16 d+0 => 2 1
         %v02 = vload 16 d+0 => 2 1
@@ -124,19 +140,16 @@ fn refusals_of_registers(rt: HostRuntime) -> Result<(), Fail> {
     )?;
     let mut text = Vec::from_slice(rt.alloc(), FRONT.as_bytes())?;
     text.extend_from_slice(b"%v2 = const \x80\n")?;
+    let headers = headers_of(rt.alloc())?;
     assert!(rt; is_refused(rt.alloc(), headers.as_slice(), text.as_slice(), 1, 5, 13));
     Ok(())
 }
 
 #[test]
 fn refusals_of_lanes(rt: HostRuntime) -> Result<(), Fail> {
-    let headers = headers_of(rt.alloc())?;
-    refuse_lines(
+    refuse_with_headers(
         &rt,
         rt.alloc(),
-        headers.as_slice(),
-        FRONT,
-        5,
         "
         %v2 = insert %v0 16 k => 8 18
         %v2 = insert %v1 32 k => 8 18
@@ -159,13 +172,9 @@ fn refusals_of_lanes(rt: HostRuntime) -> Result<(), Fail> {
 
 #[test]
 fn refusals_of_calls(rt: HostRuntime) -> Result<(), Fail> {
-    let headers = headers_of(rt.alloc())?;
-    refuse_lines(
+    refuse_with_headers(
         &rt,
         rt.alloc(),
-        headers.as_slice(),
-        FRONT,
-        5,
         "
         %v2 = call sub %v0 %v0 => 3 12
         %v2 = call ad => 3 12
