@@ -39,17 +39,23 @@ fn add_statement(
     add_times(text, " FI", 63)
 }
 
+/// Adds what stands behind the head of a DEFINE that calls the one before it; the first calls none.
+fn add_body(alloc: Global, text: &mut Vec<u8>, nest: Nest, number: u32) -> Result<(), Fail> {
+    let operand = match number {
+        1 => format!(in alloc; "p[7:0]")?,
+        _ => format!(in alloc; "f{}(p[7:0])", number.saturating_sub(1))?,
+    };
+    add_statement(text, "IF p[0] ", "n := ", nest, operand.as_str())?;
+    text.extend_from_slice(b" RETURN n } ")?;
+    Ok(())
+}
+
 /// Adds 64 DEFINEs, each of which calls the one before it.
 fn add_defines(alloc: Global, text: &mut Vec<u8>, nest: Nest) -> Result<(), Fail> {
     for number in 1u32..=64 {
         let head = format!(in alloc; "DEFINE f{number}(p[7:0]) {{ ")?;
         text.extend_from_slice(head.as_bytes())?;
-        let operand = match number {
-            1 => format!(in alloc; "p[7:0]")?,
-            _ => format!(in alloc; "f{}(p[7:0])", number.saturating_sub(1))?,
-        };
-        add_statement(text, "IF p[0] ", "n := ", nest, operand.as_str())?;
-        text.extend_from_slice(b" RETURN n } ")?;
+        add_body(alloc, text, nest, number)?;
     }
     Ok(())
 }
