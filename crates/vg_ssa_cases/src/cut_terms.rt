@@ -1,6 +1,6 @@
 //! The cut terms of the values of small kernels.
 
-use crate::numbered::{lines, numbered, numbered_more};
+use crate::numbered::{lines, numbered_more, terms_of};
 use std::alloc::Global;
 use std::process::Abort;
 use std::test::Fail;
@@ -97,14 +97,23 @@ b:16
     },
 ];
 
-fn check(rt: &impl Abort, alloc: Global, case: &Case) -> Result<(), Fail> {
-    let ssa = numbered_more(alloc, case.kernel.as_bytes())?;
-    let cuts = lines(alloc, &ssa, ssa.cuts.as_slice())?;
-    assert!(rt; cuts.as_slice() == case.cuts.as_bytes(), "{}", case.kernel);
-    let plain = numbered(alloc, case.kernel.as_bytes())?;
+fn cuts(alloc: Global, kernel: &str) -> Result<Vec<u8>, Fail> {
+    let ssa = numbered_more(alloc, kernel.as_bytes())?;
+    Ok(lines(alloc, &ssa, ssa.cuts.as_slice())?)
+}
+
+// Whether values have the same terms with cut terms and without.
+fn has_same_terms(alloc: Global, kernel: &str) -> Result<bool, Fail> {
+    let ssa = numbered_more(alloc, kernel.as_bytes())?;
     let terms = lines(alloc, &ssa, ssa.terms.as_slice())?;
-    let same = lines(alloc, &plain, plain.terms.as_slice())?;
-    assert!(rt; terms.as_slice() == same.as_slice(), "{}", case.kernel);
+    let same = terms_of(alloc, kernel)?;
+    Ok(terms.as_slice() == same.as_slice())
+}
+
+fn check(rt: &impl Abort, alloc: Global, case: &Case) -> Result<(), Fail> {
+    let cuts = cuts(alloc, case.kernel)?;
+    assert!(rt; cuts.as_slice() == case.cuts.as_bytes(), "{}", case.kernel);
+    assert!(rt; has_same_terms(alloc, case.kernel)?, "{}", case.kernel);
     Ok(())
 }
 

@@ -67,3 +67,9 @@ pub(crate) fn lines(alloc: Global, ssa: &Ssa, terms: &[Term]) -> Result<Vec<u8>,
     }
     Ok(text)
 }
+
+/// The terms of the values of a kernel, each in a line of its own.
+pub(crate) fn terms_of(alloc: Global, kernel: &str) -> Result<Vec<u8>, Fail> {
+    let ssa = numbered(alloc, kernel.as_bytes())?;
+    Ok(lines(alloc, &ssa, ssa.terms.as_slice())?)
+}

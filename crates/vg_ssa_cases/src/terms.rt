@@ -146,8 +146,8 @@ b:16
 
 fn check(rt: &impl Abort, alloc: Global, case: &Case) -> Result<(), Fail> {
     let ssa = numbered(alloc, case.kernel.as_bytes())?;
-    let text = lines(alloc, &ssa, ssa.terms.as_slice())?;
     assert!(rt; ssa.cuts.as_slice().is_empty(), "{}", case.kernel);
+    let text = lines(alloc, &ssa, ssa.terms.as_slice())?;
     assert!(rt; text.as_slice() == case.terms.as_bytes(), "{}", case.kernel);
     Ok(())
 }
