@@ -5,13 +5,13 @@ ghost use Rattle.vg_catalog.specs.Called.{headers_of};
 ghost use Rattle.vg_catalog.specs.Catalogs.{entries_in};
 ghost use Rattle.vg_looped.specs.Looped.{IsLooped};
 
-use crate::running::{Inputs, left_by_loop, left_by_looped, read};
+use crate::running::{Inputs, are_same, left_by_loop, left_by_looped, printed, read};
 use bitflags::Flags;
 use std::alloc::Global;
 use std::process::Abort;
 use std::test::Fail;
 use vg_catalog::{Catalog, Extensions, parse_file};
-use vg_looped::{Looped, parse_looped, print_looped};
+use vg_looped::{Looped, parse_looped};
 use vg_loops::{Loop, compile_loop};
 
 /// All ten extensions.
@@ -31,11 +31,20 @@ END
 ";
 
 /// A loop, instructions, and the looped text that is made of it with them.
-#[derive(Drop)]
 struct Compiled {
     catalog: Catalog,
     source: Loop,
     looped: Looped,
+}
+
+impl Drop for Compiled {
+    fn drop(self) {
+        let Compiled {
+            catalog: _,
+            source: _,
+            looped: _,
+        } = self;
+    }
 }
 
 fn case_of(alloc: Global, instructions: &[u8], text: &str) -> Result<Compiled, Fail>
@@ -65,11 +74,7 @@ fn expect_same(
     let entries = case.catalog.entries();
     let by_loop = left_by_loop(alloc, &case.source, inputs, memory)?;
     let by_looped = left_by_looped(alloc, entries, &case.looped, inputs, memory)?;
-    match (&by_loop, &by_looped) {
-        (Some(one), Some(other)) => assert!(rt; one.as_slice() == other.as_slice()),
-        (None, None) => {}
-        _ => return Err("one of a loop and its looped text traps".into()),
-    }
+    assert!(rt; are_same(&by_loop, &by_looped));
     Ok(())
 }
 
@@ -132,17 +137,23 @@ fn a_block_of_sixteen_sums_calls_instructions(rt: HostRuntime) -> Result<(), Fai
     )
 }
 
+/// What is printed of the looped text that a text is read as.
+fn printed_again(alloc: Global, case: &Compiled, text: &[u8]) -> Result<Vec<u8>, Fail> {
+    match parse_looped(alloc, text, case.catalog.headers()) {
+        Ok(looped) => printed(alloc, &looped),
+        Err(_) => Err("what is printed is refused".into()),
+    }
+}
+
+const SUMS_LINE: &str =
+    "looped add(d: ptr, a: ptr, b: ptr, n: i32) times n step d 4, a 4, b 4 block 16\n";
+
 /// Asserts that a looped text which is compiled is printed, and read again as what is printed so.
 fn expect_printed(rt: &impl Abort, alloc: Global, case: &Compiled) -> Result<(), Fail> {
-    assert!(rt; case.looped.steps.as_slice().len() <= 16);
-    let text = print_looped(alloc, &case.looped)?;
-    let first = "looped add(d: ptr, a: ptr, b: ptr, n: i32) times n step d 4, a 4, b 4 block 16\n";
-    assert!(rt; text.as_slice().starts_with(first.as_bytes()));
-    let Ok(again) = parse_looped(alloc, text.as_slice(), case.catalog.headers()) else {
-        return Err("what is printed is refused".into());
-    };
-    assert!(rt; again.steps.as_slice().len() <= 16);
-    assert!(rt; print_looped(alloc, &again)?.as_slice() == text.as_slice());
+    let text = printed(alloc, &case.looped)?;
+    assert!(rt; text.as_slice().starts_with(SUMS_LINE.as_bytes()));
+    let again = printed_again(alloc, case, text.as_slice())?;
+    assert!(rt; again.as_slice() == text.as_slice());
     Ok(())
 }
 

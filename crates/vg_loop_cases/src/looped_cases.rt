@@ -1,11 +1,12 @@
 //! Looped texts: those that are read and printed again, and those that are refused. In a row an `@`
 //! marks the place of a fault, and a `|` stands for a line feed.
 
+use crate::running::printed;
 use std::alloc::Global;
 use std::process::Abort;
 use std::test::Fail;
-use vg_looped::{parse_looped, print_looped};
-use vg_marked::{lines_of, unmarked};
+use vg_looped::parse_looped;
+use vg_marked::{Marked, lines_of, unmarked};
 
 const COPY: &str = "looped copy(d: ptr, s: ptr, n: i32) times n step d 4, s 4 block 2
 %v0 = vload 8 s+0
@@ -33,14 +34,18 @@ end cost 1 scalar 1
 end looped
 ";
 
+/// A looped text that is read and printed again.
+fn printed_again(alloc: Global, text: &str) -> Result<Vec<u8>, Fail> {
+    match parse_looped(alloc, text.as_bytes(), &[]) {
+        Ok(looped) => printed(alloc, &looped),
+        Err(_) => Err("a looped text is refused".into()),
+    }
+}
+
 #[test]
 fn what_is_read_is_printed_again(rt: HostRuntime) -> Result<(), Fail> {
     for text in [COPY, NOTHING, SOME] {
-        let Ok(looped) = parse_looped(rt.alloc(), text.as_bytes(), &[]) else {
-            return Err("a looped text is refused".into());
-        };
-        assert!(rt; looped.steps.as_slice().len() <= 16);
-        let printed = print_looped(rt.alloc(), &looped)?;
+        let printed = printed_again(rt.alloc(), text)?;
         assert!(rt; printed.as_slice() == text.as_bytes(), "{text}");
     }
     Ok(())
@@ -57,6 +62,24 @@ fn pointers_that_are_not_named_do_not_move(rt: HostRuntime) -> Result<(), Fail> 
     Ok(())
 }
 
+/// The text of a row between two others, and the place of its mark.
+fn marked(alloc: Global, front: &str, row: &str, end: &str) -> Result<Marked, Fail> {
+    let whole = format!(in alloc; "{front}{row}{end}")?;
+    let lines = lines_of(alloc, whole.as_bytes())?;
+    match unmarked(alloc, lines.as_slice())? {
+        Some(marked) => Ok(marked),
+        None => Err("a mark is missing".into()),
+    }
+}
+
+/// Whether a text is refused with this number at its mark.
+fn is_refused(alloc: Global, number: u32, marked: &Marked) -> bool {
+    match parse_looped(alloc, marked.text.as_slice(), &[]) {
+        Ok(_) => false,
+        Err(fault) => fault.number() == Some(number) && fault.place() == Some(marked.place),
+    }
+}
+
 /// Asserts of each row, a number and a text, that this text between two others is refused with this
 /// number at its mark.
 fn refuse_all(
@@ -70,18 +93,9 @@ fn refuse_all(
         let Some((number, text)) = row.trim_start().split_once(' ') else {
             return Err("a number is missing".into());
         };
-        let mut whole = String::new(alloc);
-        write!(whole, "{front}{text}{end}")?;
-        let lines = lines_of(alloc, whole.as_bytes())?;
-        let Some(marked) = unmarked(alloc, lines.as_slice())? else {
-            return Err("a mark is missing".into());
-        };
-        let Err(fault) = parse_looped(alloc, marked.text.as_slice(), &[]) else {
-            return Err("a text that is none is read".into());
-        };
         let number = number.parse::<u32>()?;
-        let is_right = fault.number() == Some(number) && fault.place() == Some(marked.place);
-        assert!(rt; is_right, "{row}");
+        let marked = marked(alloc, front, text, end)?;
+        assert!(rt; is_refused(alloc, number, &marked), "{row}");
     }
     Ok(())
 }

@@ -5,8 +5,25 @@ use std::alloc::Global;
 use std::process::Abort;
 use std::test::Fail;
 use vg_loops::{loop_place, parse_loop};
-use vg_marked::unmarked;
+use vg_marked::{Marked, unmarked};
 use vg_text::Place;
+
+/// The text of a row after another, and the place of its mark.
+fn marked(alloc: Global, front: &str, row: &str) -> Result<Marked, Fail> {
+    let whole = format!(in alloc; "{front}{row}")?;
+    match unmarked(alloc, whole.as_bytes())? {
+        Some(marked) => Ok(marked),
+        None => Err("a mark is missing".into()),
+    }
+}
+
+/// Whether a text is refused with this number at its mark.
+fn is_refused(alloc: Global, number: u32, marked: &Marked) -> bool {
+    match parse_loop(alloc, marked.text.as_slice()) {
+        Ok(_) => false,
+        Err(fault) => fault.number() == Some(number) && fault.place() == Some(marked.place),
+    }
+}
 
 /// Asserts of each row, a number and a text, that this text after another is refused with this number
 /// at its mark.
@@ -15,17 +32,9 @@ fn refuse_all(rt: &impl Abort, alloc: Global, front: &str, rows: &str) -> Result
         let Some((number, text)) = row.trim_start().split_once(' ') else {
             return Err("a number is missing".into());
         };
-        let mut whole = String::new(alloc);
-        write!(whole, "{front}{text}")?;
-        let Some(marked) = unmarked(alloc, whole.as_bytes())? else {
-            return Err("a mark is missing".into());
-        };
-        let Err(fault) = parse_loop(alloc, marked.text.as_slice()) else {
-            return Err("a text that is no loop is read".into());
-        };
         let number = number.parse::<u32>()?;
-        let is_right = fault.number() == Some(number) && fault.place() == Some(marked.place);
-        assert!(rt; is_right, "{row}");
+        let marked = marked(alloc, front, text)?;
+        assert!(rt; is_refused(alloc, number, &marked), "{row}");
     }
     Ok(())
 }
@@ -46,8 +55,10 @@ fn expect(
     let Ok(read) = parse_loop(alloc, text.as_bytes()) else {
         return Err("a loop is refused".into());
     };
-    assert!(rt; read.times == times, "{text}");
-    assert!(rt; read.steps.as_slice() == steps, "{text}");
+    assert!(rt;
+        read.times == times && read.steps.as_slice() == steps,
+        "{text}"
+    );
     Ok(())
 }
 
@@ -58,11 +69,10 @@ fn a_loop_has_its_kernel_its_count_and_its_steps(rt: HostRuntime) -> Result<(), 
     let Ok(copy) = parse_loop(rt.alloc(), text) else {
         return Err("a loop is refused".into());
     };
-    assert!(rt; copy.times == 1);
-    assert!(rt; copy.steps.as_slice() == [4, 8].as_slice());
-    assert!(rt; copy.kernel.name.bytes() == b"copy".as_slice());
-    assert!(rt; copy.kernel.params.as_slice().len() == 4);
-    assert!(rt; copy.kernel.statements.as_slice().len() == 2);
+    let kernel = &copy.kernel;
+    assert!(rt; copy.times == 1 && copy.steps.as_slice() == [4, 8].as_slice());
+    assert!(rt; kernel.name.bytes() == b"copy".as_slice());
+    assert!(rt; kernel.params.as_slice().len() == 4 && kernel.statements.as_slice().len() == 2);
     Ok(())
 }
 

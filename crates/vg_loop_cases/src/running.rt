@@ -10,8 +10,9 @@ ghost use Rattle.vg_loops.specs.View.{loop_of};
 
 use std::alloc::Global;
 use std::test::Fail;
-use vg_keval::KState;
-use vg_looped::Looped;
+use vg_kernel::Kernel;
+use vg_keval::{KState, run_kernel};
+use vg_looped::{Looped, print_looped};
 use vg_loops::{Loop, Outcome, parse_loop, run_loop, run_looped, stay_near, turns_asked};
 use vg_machine::Machine;
 use vg_range::Checked;
@@ -31,6 +32,15 @@ pub fn read(alloc: Global, text: &str) -> Result<Loop, Fail>
 pub struct Inputs<'a> {
     pub places: &'a [u64],
     pub args: &'a [u64],
+}
+
+/// Whether two runs leave the same, or both trap.
+pub fn are_same(one: &Option<Vec<u8>>, other: &Option<Vec<u8>>) -> bool {
+    match (one, other) {
+        (Some(one), Some(other)) => one.as_slice() == other.as_slice(),
+        (None, None) => true,
+        _ => false,
+    }
 }
 
 /// What a loop leaves of a memory. None where it traps.
@@ -85,4 +95,28 @@ pub fn left_by_looped(
         Outcome::Done => Ok(Some(memory)),
         Outcome::Trap => Ok(None),
     }
+}
+
+/// What the kernel of a block leaves of a memory. None where it traps.
+pub fn left_by_kernel(
+    alloc: Global,
+    kernel: &Kernel,
+    inputs: Inputs<'_>,
+    memory: &[u8],
+) -> Result<Option<Vec<u8>>, Fail> {
+    let Inputs { places, args } = inputs;
+    let mut state = KState::new(alloc, kernel)?;
+    let mut memory = memory.to_vec(alloc)?;
+    match run_kernel(kernel, &mut state, memory.as_mut_slice(), places, args) {
+        Outcome::Done => Ok(Some(memory)),
+        Outcome::Trap => Ok(None),
+    }
+}
+
+/// The text of a looped text.
+pub fn printed(alloc: Global, looped: &Looped) -> Result<Vec<u8>, Fail> {
+    if looped.steps.as_slice().len() > 16 {
+        return Err("a looped text has too many pointers".into());
+    }
+    Ok(print_looped(alloc, looped)?)
 }

@@ -5,14 +5,13 @@ ghost use Rattle.vg_looped.specs.Looped.{IsLooped};
 ghost use Rattle.vg_loops.specs.Formed.{IsLoop};
 ghost use Rattle.vg_loops.specs.View.{loop_of};
 
-use crate::running::{Inputs, left_by_loop, left_by_looped, read};
+use crate::running::{Inputs, are_same, left_by_kernel, left_by_loop, left_by_looped, read};
 use std::alloc::Global;
 use std::process::Abort;
 use std::test::Fail;
 use vg_kernel::{KStmt, Kernel};
-use vg_keval::{KState, run_kernel};
 use vg_looped::{Looped, parse_looped};
-use vg_loops::{Loop, Outcome, turns_of, unroll};
+use vg_loops::{Loop, turns_of, unroll};
 
 /// Asserts what a loop leaves of a memory. None where it traps.
 fn expect(
@@ -21,15 +20,11 @@ fn expect(
     text: &str,
     inputs: Inputs<'_>,
     memory: &[u8],
-    left: Option<&[u8]>,
+    left: &Option<Vec<u8>>,
 ) -> Result<(), Fail> {
     let source = read(alloc, text)?;
     let found = left_by_loop(alloc, &source, inputs, memory)?;
-    match (&found, left) {
-        (Some(found), Some(left)) => assert!(rt; found.as_slice() == left, "{text}"),
-        (None, None) => {}
-        _ => return Err("a loop traps where it should not, or does not where it should".into()),
-    }
+    assert!(rt; are_same(&found, left), "{text}");
     Ok(())
 }
 
@@ -54,8 +49,40 @@ fn numbers(alloc: Global, text: &str) -> Result<Vec<u64>, Fail> {
     Ok(read)
 }
 
-/// Asserts of each row, a count, what is left and the places, what a loop leaves of a memory of these
-/// digits; `trap` where it traps.
+/// The memory of digits. None for the word `trap`.
+fn memory_of(alloc: Global, word: &str) -> Result<Option<Vec<u8>>, Fail> {
+    if word == "trap" {
+        return Ok(None);
+    }
+    Ok(Some(digits(alloc, word)?))
+}
+
+/// Asserts of a row, a count, what is left and the places, what a loop leaves of a memory; `trap` where
+/// it traps.
+fn expect_row(
+    rt: &impl Abort,
+    alloc: Global,
+    text: &str,
+    memory: &[u8],
+    row: &str,
+) -> Result<(), Fail> {
+    let Some((count, behind)) = row.split_once(' ') else {
+        return Err("a count is missing".into());
+    };
+    let Some((word, places)) = behind.split_once(' ') else {
+        return Err("places are missing".into());
+    };
+    let args = [count.parse::<u64>()?];
+    let left = memory_of(alloc, word)?;
+    let places = numbers(alloc, places)?;
+    let inputs = Inputs {
+        places: places.as_slice(),
+        args: &args,
+    };
+    expect(rt, alloc, text, inputs, memory, &left)
+}
+
+/// Asserts the same of each row for a memory of these digits.
 fn expect_all(
     rt: &impl Abort,
     alloc: Global,
@@ -65,24 +92,7 @@ fn expect_all(
 ) -> Result<(), Fail> {
     let memory = digits(alloc, memory)?;
     for row in rows.lines() {
-        let Some((count, behind)) = row.trim_start().split_once(' ') else {
-            return Err("a count is missing".into());
-        };
-        let Some((word, places)) = behind.split_once(' ') else {
-            return Err("places are missing".into());
-        };
-        let places = numbers(alloc, places)?;
-        let inputs = Inputs {
-            places: places.as_slice(),
-            args: &[count.parse::<u64>()?],
-        };
-        let left = digits(alloc, word)?;
-        let left = if word == "trap" {
-            None
-        } else {
-            Some(left.as_slice())
-        };
-        expect(rt, alloc, text, inputs, memory.as_slice(), left)?;
+        expect_row(rt, alloc, text, memory.as_slice(), row.trim_start())?;
     }
     Ok(())
 }
@@ -141,49 +151,53 @@ fn a_count_has_no_sign(rt: HostRuntime) -> Result<(), Fail> {
         places: &[0],
         args: &[255],
     };
-    expect(
-        &rt,
-        alloc,
-        fill,
-        inputs,
-        memory.as_slice(),
-        Some(left.as_slice()),
-    )
+    expect(&rt, alloc, fill, inputs, memory.as_slice(), &Some(left))
 }
 
-/// Asserts of each row how many turns a block has: the turns, the steps, the number of times that a
-/// statement stands in the body, and the statement, a `|` between them.
-fn expect_turns(rt: &impl Abort, alloc: Global, rows: &str) -> Result<(), Fail> {
-    for row in rows.lines() {
-        let Some((turns, behind)) = row.trim_start().split_once('|') else {
-            return Err("steps are missing".into());
-        };
-        let Some((steps, behind)) = behind.split_once('|') else {
-            return Err("a count is missing".into());
-        };
-        let Some((count, statement)) = behind.split_once('|') else {
-            return Err("a statement is missing".into());
-        };
-        let source = repeated(alloc, steps, count.parse::<u32>()?, statement)?;
-        assert!(rt; turns_of(&source) == turns.parse::<u32>()?, "{row}");
+/// So many copies of a statement.
+fn copies(alloc: Global, count: u32, statement: &str) -> Result<String, Fail> {
+    let mut text = String::new(alloc);
+    for _ in 0..count {
+        text.push_str(statement)?;
     }
-    Ok(())
+    Ok(text)
 }
 
 /// A loop whose body has a statement so many times.
 fn repeated(alloc: Global, steps: &str, count: u32, statement: &str) -> Result<Loop, Fail>
     ensures { IfOk result (λ l. IsLoop (loop_of l)) }
 {
-    let mut text = String::new(alloc);
-    write!(
-        text,
-        "loop l(p: ptr, q: ptr, n: i8) times n step {steps} {{ "
-    )?;
-    for _ in 0..count {
-        text.push_str(statement)?;
-    }
-    text.push_str(" }")?;
+    let body = copies(alloc, count, statement)?;
+    let front = "loop l(p: ptr, q: ptr, n: i8) times n step";
+    let text = format!(in alloc; "{front} {steps} {{ {body} }}")?;
     read(alloc, text.as_str())
+}
+
+/// The loop of a row: the steps, the number of times that a statement stands in the body, and the
+/// statement, a `|` between them.
+fn repeated_by(alloc: Global, row: &str) -> Result<Loop, Fail>
+    ensures { IfOk result (λ l. IsLoop (loop_of l)) }
+{
+    let Some((steps, behind)) = row.split_once('|') else {
+        return Err("a count is missing".into());
+    };
+    let Some((count, statement)) = behind.split_once('|') else {
+        return Err("a statement is missing".into());
+    };
+    repeated(alloc, steps, count.parse::<u32>()?, statement)
+}
+
+/// Asserts of each row how many turns a block has: the turns, a `|`, and the row of a loop.
+fn expect_turns(rt: &impl Abort, alloc: Global, rows: &str) -> Result<(), Fail> {
+    for row in rows.lines() {
+        let Some((turns, behind)) = row.trim_start().split_once('|') else {
+            return Err("steps are missing".into());
+        };
+        let turns = turns.parse::<u32>()?;
+        let source = repeated_by(alloc, behind)?;
+        assert!(rt; turns_of(&source) == turns, "{row}");
+    }
+    Ok(())
 }
 
 #[test]
@@ -210,6 +224,12 @@ fn a_block_has_as_many_turns_as_keep_the_limits(rt: HostRuntime) -> Result<(), F
     )
 }
 
+/// How many of its statements are stores.
+fn stores_in(kernel: &Kernel) -> usize {
+    let stores = |s: &&KStmt| matches!(**s, KStmt::Store { .. });
+    kernel.statements.as_slice().iter().filter(stores).count()
+}
+
 /// Asserts that the kernel of sixteen turns of a loop has these numbers of statements and stores, and
 /// leaves of a memory what the turns leave.
 fn expect_unrolled(
@@ -217,39 +237,39 @@ fn expect_unrolled(
     alloc: Global,
     source: &Loop,
     kernel: &Kernel,
-    memory: &mut [u8],
+    memory: &[u8],
 ) -> Result<(), Fail> {
-    assert!(rt; kernel.statements.as_slice().len() == 48);
-    let stores = |s: &&KStmt| matches!(**s, KStmt::Store { .. });
-    assert!(rt; kernel.statements.as_slice().iter().filter(stores).count() == 32);
+    assert!(rt; kernel.statements.as_slice().len() == 48 && stores_in(kernel) == 32);
     let inputs = Inputs {
         places: &[1, 0],
         args: &[16],
     };
-    let Some(left) = left_by_loop(alloc, source, inputs, memory)? else {
-        return Err("a loop traps".into());
-    };
-    let mut state = KState::new(alloc, kernel)?;
-    let done = run_kernel(kernel, &mut state, memory, &[1, 0], &[16]);
-    assert!(rt; matches!(done, Outcome::Done));
-    assert!(rt; *memory == *left.as_slice());
+    let by_turns = left_by_loop(alloc, source, inputs, memory)?;
+    let by_kernel = left_by_kernel(alloc, kernel, inputs, memory)?;
+    assert!(rt; by_turns.is_some() && are_same(&by_turns, &by_kernel));
     Ok(())
+}
+
+/// Asserts that a block has sixteen turns, and how its kernel is.
+fn expect_sixteen(rt: &impl Abort, alloc: Global, source: &Loop, memory: &[u8]) -> Result<(), Fail>
+    requires { IsLoop (loop_of source.now) }
+{
+    let turns = turns_of(source);
+    assert!(rt; turns == 16);
+    let kernel = unroll(alloc, source, turns)?;
+    expect_unrolled(rt, alloc, source, &kernel, memory)
 }
 
 #[test]
 fn the_kernel_of_a_block_leaves_what_its_turns_leave(rt: HostRuntime) -> Result<(), Fail> {
-    let alloc = rt.alloc();
-    let mut memory = Vec::new(alloc);
+    let mut memory = Vec::new(rt.alloc());
     for byte in 0..33u8 {
         memory.push(byte)?;
     }
     let text = "loop l(p: ptr, q: ptr, n: i8) times n step p 2
         { x = load8(p + 1); store8(p, x + load8(q)); store8(q, x); }";
-    let source = read(alloc, text)?;
-    let turns = turns_of(&source);
-    assert!(rt; turns == 16);
-    let kernel = unroll(alloc, &source, turns)?;
-    expect_unrolled(&rt, alloc, &source, &kernel, memory.as_mut_slice())
+    let source = read(rt.alloc(), text)?;
+    expect_sixteen(&rt, rt.alloc(), &source, memory.as_slice())
 }
 
 const MARKS: &str = "looped marks(p: ptr, n: i8) times n step p 1 block 3
@@ -271,10 +291,27 @@ fn marks(alloc: Global) -> Result<Looped, Fail>
     }
 }
 
+/// Asserts of a row, a count and digits, what the looped text leaves of nine zeros; `trap` where it
+/// traps.
+fn expect_marks(rt: &impl Abort, alloc: Global, looped: &Looped, row: &str) -> Result<(), Fail>
+    requires { IsLooped [] looped.now }
+{
+    let Some((count, word)) = row.split_once(' ') else {
+        return Err("a count is missing".into());
+    };
+    let inputs = Inputs {
+        places: &[0],
+        args: &[count.parse::<u64>()?],
+    };
+    let left = memory_of(alloc, word)?;
+    let found = left_by_looped(alloc, &[], looped, inputs, &[0; 9])?;
+    assert!(rt; are_same(&found, &left), "{row}");
+    Ok(())
+}
+
 #[test]
 fn blocks_run_first_and_then_the_turns_that_are_left(rt: HostRuntime) -> Result<(), Fail> {
-    let alloc = rt.alloc();
-    let looped = marks(alloc)?;
+    let looped = marks(rt.alloc())?;
     for row in "0 000000000
         2 220000000
         3 100000000
@@ -283,20 +320,7 @@ fn blocks_run_first_and_then_the_turns_that_are_left(rt: HostRuntime) -> Result<
         11 trap"
         .lines()
     {
-        let Some((count, left)) = row.trim_start().split_once(' ') else {
-            return Err("a count is missing".into());
-        };
-        let inputs = Inputs {
-            places: &[0],
-            args: &[count.parse::<u64>()?],
-        };
-        match left_by_looped(alloc, &[], &looped, inputs, &[0; 9])? {
-            Some(found) => assert!(rt;
-                found.as_slice() == digits(alloc, left)?.as_slice(),
-                "{row}"
-            ),
-            None => assert!(rt; left == "trap", "{row}"),
-        }
+        expect_marks(&rt, rt.alloc(), &looped, row.trim_start())?;
     }
     Ok(())
 }
