@@ -3,6 +3,8 @@
 ghost use Rattle.std.specs.Prelude.{IfOk};
 ghost use Rattle.vg_catalog.specs.Called.{headers_of};
 ghost use Rattle.vg_catalog.specs.Catalogs.{entries_in};
+ghost use Rattle.vg_kernel.specs.Tree.{tree_of};
+ghost use Rattle.vg_kernel.specs.WellFormed.{IsWellFormed};
 ghost use Rattle.vg_program.specs.Valid.{KeepsRules};
 
 use bitflags::Flags;
@@ -58,9 +60,24 @@ impl Beside {
     {
         let catalog = parse_file(alloc, instructions)?;
         let kernel = parse_kernel(alloc, kernel)?;
+        Beside::compiled(alloc, catalog, kernel, allowed, more)
+    }
+
+    /// Compiles a kernel with entries.
+    fn compiled(
+        alloc: Global,
+        catalog: Catalog,
+        kernel: Kernel,
+        allowed: u16,
+        more: bool,
+    ) -> Result<Beside, Fail>
+        requires kernel { IsWellFormed (tree_of kernel) }
+        ensures rules { IfOk result (λ b.
+            KeepsRules (headers_of (entries_in b.catalog)) b.program) }
+    {
         let set = Extensions::from_bits_retain(allowed);
-        let program = compile_by(alloc, &catalog, set, &kernel, WIDTH, more)?;
         let plan = explain_by(alloc, &catalog, set, &kernel, WIDTH, more)?;
+        let program = compile_by(alloc, &catalog, set, &kernel, WIDTH, more)?;
         Ok(Beside {
             catalog,
             kernel,
@@ -79,8 +96,8 @@ impl Beside {
     ) -> Result<Option<Vec<u8>>, Fail>
         requires rules { KeepsRules (headers_of (entries_in self.now.catalog)) self.now.program }
     {
-        let mut machine = Machine::new(alloc, self.catalog.entries(), &self.program)?;
         let mut memory = memory.to_vec(alloc)?;
+        let mut machine = Machine::new(alloc, self.catalog.entries(), &self.program)?;
         match machine.run(memory.as_mut_slice(), places, args) {
             Outcome::Done => Ok(Some(memory)),
             Outcome::Trap => Ok(None),
@@ -95,8 +112,8 @@ impl Beside {
         places: &[u64],
         args: &[u64],
     ) -> Result<Option<Vec<u8>>, Fail> {
-        let mut state = KState::new(alloc, &self.kernel)?;
         let mut memory = memory.to_vec(alloc)?;
+        let mut state = KState::new(alloc, &self.kernel)?;
         match run_kernel(
             &self.kernel,
             &mut state,
@@ -109,18 +126,14 @@ impl Beside {
         }
     }
 
-    /// Whether the program and the kernel leave `left` of a memory, with pointers at these places.
-    fn leaves(
-        &self,
-        alloc: Global,
-        places: &[u64],
-        memory: &[u8],
-        left: &[u8],
-    ) -> Result<bool, Fail>
+    /// Whether the program and the kernel leave of a memory what they are to leave.
+    fn leaves(&self, alloc: Global, run: &Run) -> Result<bool, Fail>
         requires rules { KeepsRules (headers_of (entries_in self.now.catalog)) self.now.program }
     {
+        let (memory, places) = (run.memory.as_slice(), run.places.as_slice());
         let by_kernel = self.left_by_kernel(alloc, memory, places, &[])?;
         let by_program = self.left_by_program(alloc, memory, places, &[])?;
+        let left = run.left.as_slice();
         Ok(is_left(&by_kernel, left) && is_left(&by_program, left))
     }
 
@@ -132,6 +145,27 @@ impl Beside {
         let by_program = self.left_by_program(alloc, memory, places, &[])?;
         Ok(by_kernel.is_none() && by_program.is_none())
     }
+
+    /// Asserts what the program and the kernel cost.
+    fn expect_costs(&self, rt: &impl Abort, case: &Case) {
+        assert!(rt; self.program.cost == case.cost && self.program.scalar == case.scalar);
+    }
+}
+
+/// Places of pointers, a memory, and what is to be left of it.
+#[derive(Drop)]
+struct Run {
+    places: Vec<u64>,
+    memory: Vec<u8>,
+    left: Vec<u8>,
+}
+
+fn run_of(alloc: Global, unit: Unit, places: &str, memory: &str, left: &str) -> Result<Run, Fail> {
+    Ok(Run {
+        places: places_of(alloc, places)?,
+        memory: memory_of(alloc, unit, memory)?,
+        left: memory_of(alloc, unit, left)?,
+    })
 }
 
 /// Whether a run left this.
@@ -164,7 +198,22 @@ pub enum Unit {
 /// Asserts what a program and its kernel cost.
 pub fn expect_costs(rt: &impl Abort, alloc: Global, case: &Case) -> Result<(), Fail> {
     let made = Beside::within(alloc, case.instructions, case.allowed, case.kernel)?;
-    assert!(rt; made.program.cost == case.cost && made.program.scalar == case.scalar);
+    made.expect_costs(rt, case);
+    Ok(())
+}
+
+/// Asserts what a program, of more plans or not, and its kernel cost, and what they leave of a memory.
+fn expect_run(
+    rt: &impl Abort,
+    alloc: Global,
+    case: &Case,
+    more: bool,
+    run: &Run,
+) -> Result<(), Fail> {
+    let made = Beside::made(alloc, case.instructions, case.allowed, case.kernel, more)?;
+    made.expect_costs(rt, case);
+    let leaves = made.leaves(alloc, run)?;
+    assert!(rt; leaves);
     Ok(())
 }
 
@@ -178,27 +227,8 @@ pub fn expect_left(
     memory: &str,
     left: &str,
 ) -> Result<(), Fail> {
-    let places = places_of(alloc, places)?;
-    let memory = memory_of(alloc, case.unit, memory)?;
-    let left = memory_of(alloc, case.unit, left)?;
-    let made = Beside::within(alloc, case.instructions, case.allowed, case.kernel)?;
-    assert!(rt; made.program.cost == case.cost && made.program.scalar == case.scalar);
-    let leaves = made.leaves(alloc, places.as_slice(), memory.as_slice(), left.as_slice())?;
-    assert!(rt; leaves);
-    Ok(())
-}
-
-/// Asserts what a program of more plans costs, and the last line on its plan.
-pub fn expect_more_told(
-    rt: &impl Abort,
-    alloc: Global,
-    case: &Case,
-    line: &[u8],
-) -> Result<(), Fail> {
-    let made = Beside::made(alloc, case.instructions, case.allowed, case.kernel, true)?;
-    assert!(rt; made.program.cost == case.cost && made.program.scalar == case.scalar);
-    assert!(rt; made.plan.as_slice().ends_with(line));
-    Ok(())
+    let run = run_of(alloc, case.unit, places, memory, left)?;
+    expect_run(rt, alloc, case, false, &run)
 }
 
 /// Asserts what a program of more plans and its kernel cost, and what they leave of a memory, with
@@ -211,14 +241,42 @@ pub fn expect_more_left(
     memory: &str,
     left: &str,
 ) -> Result<(), Fail> {
-    let places = places_of(alloc, places)?;
-    let memory = memory_of(alloc, case.unit, memory)?;
-    let left = memory_of(alloc, case.unit, left)?;
-    let made = Beside::made(alloc, case.instructions, case.allowed, case.kernel, true)?;
-    assert!(rt; made.program.cost == case.cost && made.program.scalar == case.scalar);
-    let leaves = made.leaves(alloc, places.as_slice(), memory.as_slice(), left.as_slice())?;
-    assert!(rt; leaves);
+    let run = run_of(alloc, case.unit, places, memory, left)?;
+    expect_run(rt, alloc, case, true, &run)
+}
+
+/// Asserts what a program, of more plans or not, and its kernel cost, and the last line on its plan.
+fn expect_told(
+    rt: &impl Abort,
+    alloc: Global,
+    case: &Case,
+    more: bool,
+    line: &[u8],
+) -> Result<(), Fail> {
+    let made = Beside::made(alloc, case.instructions, case.allowed, case.kernel, more)?;
+    made.expect_costs(rt, case);
+    assert!(rt; made.plan.as_slice().ends_with(line));
     Ok(())
+}
+
+/// Asserts what a program and its kernel cost, and what the last line on its plan is.
+pub fn expect_told_cost(
+    rt: &impl Abort,
+    alloc: Global,
+    case: &Case,
+    line: &[u8],
+) -> Result<(), Fail> {
+    expect_told(rt, alloc, case, false, line)
+}
+
+/// Asserts what a program of more plans costs, and the last line on its plan.
+pub fn expect_more_told(
+    rt: &impl Abort,
+    alloc: Global,
+    case: &Case,
+    line: &[u8],
+) -> Result<(), Fail> {
+    expect_told(rt, alloc, case, true, line)
 }
 
 /// Asserts that a program and its kernel trap.
@@ -229,10 +287,10 @@ pub fn expect_trap(
     places: &str,
     memory: &str,
 ) -> Result<(), Fail> {
-    let places = places_of(alloc, places)?;
-    let memory = memory_of(alloc, case.unit, memory)?;
+    let run = run_of(alloc, case.unit, places, memory, "")?;
     let made = Beside::within(alloc, case.instructions, case.allowed, case.kernel)?;
-    assert!(rt; made.traps(alloc, places.as_slice(), memory.as_slice())?);
+    let traps = made.traps(alloc, run.places.as_slice(), run.memory.as_slice())?;
+    assert!(rt; traps);
     Ok(())
 }
 
@@ -257,19 +315,6 @@ pub fn expect_plan(
     Ok(())
 }
 
-/// Asserts what a program and its kernel cost, and what the last line on its plan is.
-pub fn expect_told_cost(
-    rt: &impl Abort,
-    alloc: Global,
-    case: &Case,
-    line: &[u8],
-) -> Result<(), Fail> {
-    let made = Beside::within(alloc, case.instructions, case.allowed, case.kernel)?;
-    assert!(rt; made.program.cost == case.cost && made.program.scalar == case.scalar);
-    assert!(rt; made.plan.as_slice().ends_with(line));
-    Ok(())
-}
-
 /// The places of pointers, decimal words.
 fn places_of(alloc: Global, text: &str) -> Result<Vec<u64>, Fail> {
     let mut places = Vec::new(alloc);
@@ -283,15 +328,20 @@ fn places_of(alloc: Global, text: &str) -> Result<Vec<u64>, Fail> {
 fn memory_of(alloc: Global, unit: Unit, text: &str) -> Result<Vec<u8>, Fail> {
     let mut memory = Vec::new(alloc);
     for word in text.split_whitespace() {
-        let (count, digits) = word.split_once('*').unwrap_or(("1", word));
-        let count = count.parse::<u32>()?;
-        let bytes = u32::from_str_radix(digits, 16)?.to_le_bytes();
-        match unit {
-            Unit::Byte => append(&mut memory, count, &bytes[..1])?,
-            Unit::DoubleWord => append(&mut memory, count, &bytes)?,
-        }
+        append_word(&mut memory, unit, word)?;
     }
     Ok(memory)
+}
+
+/// Appends the numbers of a word.
+fn append_word(memory: &mut Vec<u8>, unit: Unit, word: &str) -> Result<(), Fail> {
+    let (count, digits) = word.split_once('*').unwrap_or(("1", word));
+    let count = count.parse::<u32>()?;
+    let bytes = u32::from_str_radix(digits, 16)?.to_le_bytes();
+    match unit {
+        Unit::Byte => append(memory, count, &bytes[..1]),
+        Unit::DoubleWord => append(memory, count, &bytes),
+    }
 }
 
 fn append(memory: &mut Vec<u8>, count: u32, bytes: &[u8]) -> Result<(), Fail> {
