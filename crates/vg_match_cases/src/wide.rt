@@ -1,13 +1,13 @@
 //! The matches of a kernel whose values have cut terms.
 
 use crate::shown::shown;
-use crate::terms::{description, leaf, load, product, sum};
+use crate::terms::{descriptions, term};
 use std::alloc::{AllocError, Global};
 use std::test::Fail;
 use vg_base::{Address, Items, Name, Width};
 use vg_match::build;
-use vg_shapes::{Description, Operands, Operator, Ssa, SsaUnit, Wanted};
-use vg_terms::{LeafKey, Term, TwoOp, make_const, make_leaf, make_sel, make_two};
+use vg_shapes::{Operands, Operator, Ssa, SsaUnit, Wanted};
+use vg_terms::Term;
 
 /// Values that are being numbered: their units, terms and cut terms.
 #[derive(Drop)]
@@ -23,6 +23,52 @@ const PLACE: Address = Address {
     offset: 0,
 };
 
+/// A load of 32 bits.
+const LOAD: SsaUnit = SsaUnit::Load {
+    address: PLACE,
+    width: Width::W32,
+};
+
+/// An operation. The matches of a kernel do not tell what it does, as terms do.
+const OPERATION: SsaUnit = SsaUnit::Operation {
+    op: Operator::Select,
+    width: Width::W32,
+    amount: 0,
+    operands: Operands {
+        first: Wanted::Nothing,
+        second: Wanted::Nothing,
+        third: Wanted::Nothing,
+    },
+};
+
+/// A store of a value.
+fn store(value: u32) -> SsaUnit {
+    SsaUnit::Store {
+        address: PLACE,
+        width: Width::W32,
+        value: Wanted::Value(value),
+    }
+}
+
+/// `load`, `store` and the number of a value, or another word for an operation.
+fn unit(words: &str) -> Result<SsaUnit, Fail> {
+    match words.strip_prefix("store ") {
+        Some(value) => Ok(store(value.parse::<u32>()?)),
+        None => Ok(if words == "load" { LOAD } else { OPERATION }),
+    }
+}
+
+/// The three columns of a row, which arrows stand between.
+fn columns(row: &str) -> Result<(&str, &str, &str), Fail> {
+    let Some((first, behind)) = row.trim().split_once(" => ") else {
+        return Err("a term is missing".into());
+    };
+    match behind.split_once(" => ") {
+        Some((second, third)) => Ok((first, second, third)),
+        None => Err("a cut term is missing".into()),
+    }
+}
+
 impl Values {
     fn push(&mut self, unit: SsaUnit, term: Term, cut: Term) -> Result<(), AllocError> {
         self.units.push(unit)?;
@@ -31,132 +77,48 @@ impl Values {
         Ok(())
     }
 
-    /// A load of 32 bits, by its number.
-    fn load(&mut self, value: u32) -> Result<(), AllocError> {
-        let unit = SsaUnit::Load {
-            address: PLACE,
-            width: Width::W32,
-        };
-        self.push(unit, load(value), load(value))
-    }
-
-    /// An operation. The matches of a kernel do not tell what it does, as terms do.
-    fn operation(&mut self, term: Term, cut: Term) -> Result<(), AllocError> {
-        let unit = SsaUnit::Operation {
-            op: Operator::Select,
-            width: Width::W32,
-            amount: 0,
-            operands: Operands {
-                first: Wanted::Nothing,
-                second: Wanted::Nothing,
-                third: Wanted::Nothing,
-            },
-        };
-        self.push(unit, term, cut)
-    }
-
-    /// A store of a value.
-    fn store(&mut self, value: u32) -> Result<(), AllocError> {
-        let unit = SsaUnit::Store {
-            address: PLACE,
-            width: Width::W32,
-            value: Wanted::Value(value),
-        };
-        self.push(unit, make_const(8, 0), make_const(8, 0))
+    /// A row is a unit, its term and its cut term.
+    fn push_row(&mut self, alloc: Global, row: &str) -> Result<(), Fail> {
+        let (words, whole, cut) = columns(row)?;
+        let unit = unit(words)?;
+        let whole = term(alloc, whole)?;
+        let cut = term(alloc, cut)?;
+        Ok(self.push(unit, whole, cut)?)
     }
 }
 
-/// The leaf of a value of 32 bits that is not looked into.
-fn cut(value: u32) -> Term {
-    let key = LeafKey {
-        kind: 3,
-        first: value,
-        second: 0,
-        third: 0,
-    };
-    make_leaf(32, key)
-}
+/// Values 0 to 3 are loads, 4 to 6 the sums of two and two and their sum, 7 the first sum again, and
+/// 8 a product of it. 9 is 7 less a load, and 10 a store of it. 11 and 12 are sums of which one part
+/// is the store, or a later value, which is 13. 14 is whether two loads are equal, and 15 a selection
+/// by it. The kernel has no load 90 and 91, so that their sum fits no lane whole.
+const VALUES: &str = "
+    load => l0 => l0
+    load => l1 => l1
+    load => l2 => l2
+    load => l3 => l3
+    sum => l0 l1 + => c0 c1 +
+    sum => l2 l3 + => c2 c3 +
+    sum => l0 l1 + l2 + l3 + => c4 c5 +
+    sum => l0 l1 + => c0 c1 +
+    product => l0 l1 + l2 * => c7 c2 *
+    difference => l0 4294967295i32 * 7i32 + => c0 4294967295i32 * 7i32 +
+    store 9 => 0i8 => 0i8
+    sum => l90 l91 + => c10 c0 +
+    sum => l90 l91 + => c13 c0 +
+    product => l90 l91 + => c0 c0 *
+    comparison => l0 l1 == => c0 c1 ==
+    selection => l90 l91 + => c0 c1 == c2 c3 ?
+";
 
-/// A bit of a parameter.
-fn bit(parameter: u32, low: i64) -> Term {
-    let key = LeafKey {
-        kind: 0,
-        first: parameter,
-        second: low,
-        third: 0,
-    };
-    make_leaf(1, key)
-}
-
-fn difference(alloc: Global, x: Term, y: Term) -> Result<Term, AllocError> {
-    let negated = product(alloc, y, make_const(32, 4_294_967_295))?;
-    sum(alloc, x, negated)
-}
-
-fn equal(alloc: Global, x: Term, y: Term) -> Result<Term, AllocError> {
-    make_two(alloc, TwoOp::Eq, 1, x, y)
-}
-
-/// A term of two loads of which the kernel has none, so that it fits no lane whole.
-fn strange(alloc: Global) -> Result<Term, AllocError> {
-    sum(alloc, load(90), load(91))
-}
-
-/// Four loads; the sums of two and two, and their sum; the first sum again, and a product of it.
-fn add_sums(alloc: Global, values: &mut Values) -> Result<(), AllocError> {
-    values.load(0)?;
-    values.load(1)?;
-    values.load(2)?;
-    values.load(3)?;
-    values.operation(sum(alloc, load(0), load(1))?, sum(alloc, cut(0), cut(1))?)?;
-    values.operation(sum(alloc, load(2), load(3))?, sum(alloc, cut(2), cut(3))?)?;
-    let three = sum(alloc, sum(alloc, load(0), load(1))?, load(2))?;
-    values.operation(sum(alloc, three, load(3))?, sum(alloc, cut(4), cut(5))?)?;
-    values.operation(sum(alloc, load(0), load(1))?, sum(alloc, cut(0), cut(1))?)?;
-    let first = sum(alloc, load(0), load(1))?;
-    values.operation(
-        product(alloc, first, load(2))?,
-        product(alloc, cut(7), cut(2))?,
-    )
-}
-
-/// 7 less a load, and a store of it; sums of which one part is the store, or a later value; that
-/// value.
-fn add_others(alloc: Global, values: &mut Values) -> Result<(), AllocError> {
-    let negative = product(alloc, load(0), make_const(32, 4_294_967_295))?;
-    let negative_cut = product(alloc, cut(0), make_const(32, 4_294_967_295))?;
-    values.operation(
-        sum(alloc, negative, make_const(32, 7))?,
-        sum(alloc, negative_cut, make_const(32, 7))?,
-    )?;
-    values.store(9)?;
-    values.operation(strange(alloc)?, sum(alloc, cut(10), cut(0))?)?;
-    values.operation(strange(alloc)?, sum(alloc, cut(13), cut(0))?)?;
-    values.operation(strange(alloc)?, product(alloc, cut(0), cut(0))?)
-}
-
-/// Whether two loads are equal, and a selection by it.
-fn add_selection(alloc: Global, values: &mut Values) -> Result<(), AllocError> {
-    values.operation(
-        equal(alloc, load(0), load(1))?,
-        equal(alloc, cut(0), cut(1))?,
-    )?;
-    let condition = equal(alloc, cut(0), cut(1))?;
-    values.operation(
-        strange(alloc)?,
-        make_sel(alloc, 32, condition, cut(2), cut(3))?,
-    )
-}
-
-fn all_values(alloc: Global) -> Result<Values, AllocError> {
+fn all_values(alloc: Global) -> Result<Values, Fail> {
     let mut values = Values {
         units: Vec::new(alloc),
         terms: Vec::new(alloc),
         cuts: Vec::new(alloc),
     };
-    add_sums(alloc, &mut values)?;
-    add_others(alloc, &mut values)?;
-    add_selection(alloc, &mut values)?;
+    for row in VALUES.trim().lines() {
+        values.push_row(alloc, row)?;
+    }
     Ok(values)
 }
 
@@ -173,22 +135,14 @@ fn kernel(alloc: Global, values: Values, is_wide: bool) -> Result<Ssa, AllocErro
 }
 
 /// Lanes: a sum, a product, a difference, a selection by a bit, a selection by a comparison.
-fn lanes(alloc: Global) -> Result<Description, AllocError> {
-    let compared = equal(alloc, leaf(0, 0), leaf(1, 0))?;
-    description(
-        alloc,
-        vec![in alloc;
-            sum(alloc, leaf(0, 0), leaf(1, 0))?,
-            product(alloc, leaf(0, 0), leaf(1, 0))?,
-            difference(alloc, leaf(0, 0), leaf(1, 0))?,
-            make_sel(alloc, 32, bit(0, 96), leaf(0, 0), leaf(1, 0))?,
-            make_sel(alloc, 32, compared, leaf(0, 32), leaf(1, 32))?,
-        ]?,
-    )
-}
+const LANES: &str = "p0.0 p1.0 +, \
+    p0.0 p1.0 *, \
+    p0.0 p1.0 4294967295i32 * +, \
+    b0.96 p0.0 p1.0 ?, \
+    p0.0 p1.0 == p0.32 p1.32 ?";
 
 fn matches(alloc: Global, is_wide: bool) -> Result<String, Fail> {
-    let descriptions = vec![in alloc; lanes(alloc)?]?;
+    let descriptions = descriptions(alloc, LANES)?;
     let ssa = kernel(alloc, all_values(alloc)?, is_wide)?;
     let table = build(alloc, descriptions.as_slice(), &ssa)?;
     Ok(shown(alloc, table.as_slice())?)
