@@ -1,16 +1,16 @@
 //! Operations of an entry with the parameters `a`, of unsigned lanes, and `b`, of signed ones,
 //! and the immediate `imm8`. An `@` marks the place of a fault, and is no part of the text.
 
-use std::alloc::Global;
+use std::alloc::{AllocError, Global};
 use std::process::Abort;
 use std::test::Fail;
 use vg_base::{Items, Name};
 use vg_names::{NameFault, Resolved, resolve};
-use vg_pseudo::{Header, ImmRange, Param, parse_operation};
+use vg_pseudo::{Header, ImmRange, Operation, Param, parse_operation};
 use vg_text::Lexer;
 use vg_text::place::{Place, place_after};
 
-fn param(alloc: Global, name: &[u8], is_signed: bool) -> Result<Param, Fail> {
+fn param(alloc: Global, name: &[u8], is_signed: bool) -> Result<Param, AllocError> {
     Ok(Param {
         name: Name::new(alloc, name)?,
         register: 128,
@@ -19,24 +19,36 @@ fn param(alloc: Global, name: &[u8], is_signed: bool) -> Result<Param, Fail> {
     })
 }
 
-fn header(alloc: Global) -> Result<Header, Fail> {
-    let mut params = Vec::new(alloc);
-    params.push(param(alloc, b"a", false)?)?;
-    params.push(param(alloc, b"b", true)?)?;
-    let imm = ImmRange {
+fn params(alloc: Global) -> Result<Vec<Param>, AllocError> {
+    Ok(vec![in alloc; param(alloc, b"a", false)?, param(alloc, b"b", true)?]?)
+}
+
+fn immediate(alloc: Global) -> Result<ImmRange, AllocError> {
+    Ok(ImmRange {
         name: Name::new(alloc, b"imm8")?,
         lo: 0,
         hi: 255,
-    };
+    })
+}
+
+fn header(alloc: Global) -> Result<Header, AllocError> {
     Ok(Header {
         name: Name::new(alloc, b"_mm_of_a_case")?,
-        params: Items::from_vec(params),
-        imm: Some(imm),
+        params: Items::from_vec(params(alloc)?),
+        imm: Some(immediate(alloc)?),
         register: 128,
         lane_width: 32,
         extension: 0,
         cost: 1,
     })
+}
+
+fn operation(rt: &impl Abort, alloc: Global, text: &[u8]) -> Result<Operation, Fail> {
+    assert!(rt; text.len() <= 1_000_000);
+    match parse_operation(alloc, &mut Lexer::new(text)) {
+        Ok(operation) => Ok(operation),
+        Err(_) => Err("a text of an operation is refused".into()),
+    }
 }
 
 /// What the names of an operation are.
@@ -45,11 +57,7 @@ fn names_of(
     alloc: Global,
     text: &[u8],
 ) -> Result<Result<Resolved, NameFault>, Fail> {
-    assert!(rt; text.len() <= 1_000_000);
-    let mut lexer = Lexer::new(text);
-    let Ok(operation) = parse_operation(alloc, &mut lexer) else {
-        return Err("a text of an operation is refused".into());
-    };
+    let operation = operation(rt, alloc, text)?;
     let header = header(alloc)?;
     Ok(resolve(alloc, &header, &operation))
 }
@@ -71,22 +79,32 @@ fn told(fault: NameFault) -> Option<(u32, Place)> {
     }
 }
 
-/// Asserts that the text without its `@` is refused with this number at the place of the `@`.
-pub fn refuse(rt: &impl Abort, alloc: Global, number: u32, marked: &str) -> Result<(), Fail> {
-    let marked_bytes = marked.as_bytes();
-    assert!(rt; marked_bytes.len() <= 1_000_000);
-    let Some(at) = marked_bytes.iter().position(|byte| *byte == b'@') else {
+/// The number and the place of the fault of the names of an operation.
+fn fault_of(rt: &impl Abort, alloc: Global, text: &[u8]) -> Result<Option<(u32, Place)>, Fail> {
+    match names_of(rt, alloc, text)? {
+        Ok(_) => Err("names that are not known are found".into()),
+        Err(fault) => Ok(told(fault)),
+    }
+}
+
+/// The text without its `@`, and the place of that.
+fn unmarked(rt: &impl Abort, alloc: Global, marked: &[u8]) -> Result<(Vec<u8>, Place), Fail> {
+    assert!(rt; marked.len() <= 1_000_000);
+    let Some(at) = marked.iter().position(|byte| *byte == b'@') else {
         return Err("a mark is missing".into());
     };
-    assert!(rt; at < marked_bytes.len());
-    let (front, behind) = marked_bytes.split_at(at);
+    assert!(rt; at < marked.len());
+    let (front, behind) = marked.split_at(at);
     let mut text = Vec::from_slice(alloc, front)?;
     text.extend_from_slice(&behind[1..])?;
-    let place = place_after(Place { line: 1, column: 1 }, front);
-    let Err(fault) = names_of(rt, alloc, text.as_slice())? else {
-        return Err("names that are not known are found".into());
-    };
-    assert!(rt; told(fault) == Some((number, place)), "{marked}");
+    Ok((text, place_after(Place { line: 1, column: 1 }, front)))
+}
+
+/// Asserts that the text without its `@` is refused with this number at the place of the `@`.
+pub fn refuse(rt: &impl Abort, alloc: Global, number: u32, marked: &str) -> Result<(), Fail> {
+    let (text, place) = unmarked(rt, alloc, marked.as_bytes())?;
+    let fault = fault_of(rt, alloc, text.as_slice())?;
+    assert!(rt; fault == Some((number, place)), "{marked}");
     Ok(())
 }
 

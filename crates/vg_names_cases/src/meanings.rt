@@ -4,7 +4,7 @@ use crate::entries::resolved;
 use std::alloc::Global;
 use std::process::Abort;
 use std::test::Fail;
-use vg_names::{Code, Resolved, ResolvedExpr};
+use vg_names::{Body, Code, Resolved, ResolvedExpr};
 
 /// The sign, the register and the size of the right side of an assignment, where it is a bare
 /// name or `name.elem`.
@@ -126,6 +126,12 @@ fn number_variables_are_unsigned(rt: HostRuntime) -> Result<(), Fail> {
     )
 }
 
+/// Whether a body has registers of these widths, so many of them parameters, and so many number
+/// variables.
+fn counts(body: &Body, widths: &[u128], parameters: usize, numbers: usize) -> bool {
+    body.widths.as_slice() == widths && body.parameters == parameters && body.numbers == numbers
+}
+
 #[test]
 fn registers_and_variables_are_counted(rt: HostRuntime) -> Result<(), Fail> {
     let operation = resolved(
@@ -133,11 +139,8 @@ fn registers_and_variables_are_counted(rt: HostRuntime) -> Result<(), Fail> {
         rt.alloc(),
         "DEFINE f(x[31:0], y) { z[7:0] := 1 t := 2 RETURN x + t } n := 1 r[0] := n m := f(n, r[7:0]) dst := m END",
     )?;
-    assert!(rt; operation.body.widths.as_slice() == [128, 128, 8, 128, 512].as_slice());
-    assert!(rt; (operation.body.parameters, operation.result) == (3, 3));
-    assert!(rt; operation.body.numbers == 2);
+    assert!(rt; operation.result == 3 && counts(&operation.body, &[128, 128, 8, 128, 512], 3, 2));
     let function = operation.functions.as_slice().first().ok_or("a DEFINE")?;
-    assert!(rt; function.body.widths.as_slice() == [32, 512, 512].as_slice());
-    assert!(rt; (function.body.parameters, function.body.numbers) == (2, 1));
+    assert!(rt; counts(&function.body, &[32, 512, 512], 2, 1));
     Ok(())
 }
