@@ -30,18 +30,18 @@ fn param(alloc: Global, name: &[u8]) -> Result<Param, Fail>
 fn header(alloc: Global) -> Result<Header, Fail>
     ensures { IfOk result (λ h. IsNarrow h) }
 {
-    let mut params = Vec::new(alloc);
-    params.push(param(alloc, b"a")?)?;
-    params.push(param(alloc, b"b")?)?;
-    let imm = ImmRange {
-        name: Name::new(alloc, b"imm8")?,
-        lo: 3,
-        hi: 9,
-    };
+    let first = param(alloc, b"a")?;
+    let second = param(alloc, b"b")?;
+    let params = vec![in alloc; first, second]?;
+    let imm = Name::new(alloc, b"imm8")?;
     Ok(Header {
         name: Name::new(alloc, b"_mm_of_a_case")?,
         params: Items::from_vec(params),
-        imm: Some(imm),
+        imm: Some(ImmRange {
+            name: imm,
+            lo: 3,
+            hi: 9,
+        }),
         register: 128,
         lane_width: 32,
         extension: 0,
@@ -68,14 +68,27 @@ fn checked(rt: &impl Abort, alloc: Global, text: &[u8]) -> Result<Checked, Fail>
 
 const TEXT: &str = "dst[127:0] := a[127:0] dst[15:8] := imm8 dst[imm8:imm8] := b[0] END";
 
+/// A register of 128 bits.
+fn register(bits: u128) -> Reg<32> {
+    let mut register = Reg::<32>::zero();
+    register.put(0, 128, bits);
+    register
+}
+
+/// What an entry answers to an immediate without being made ready. None where it has no instance.
+fn answer(alloc: Global, entry: &Checked, params: &[Reg<32>], imm: u8) -> Result<Option<u128>, Fail>
+    requires { IsWritten (header_in entry.now) (operation_in entry.now) }
+{
+    match answer_once(alloc, entry, params, imm)? {
+        Some(found) => Ok(Some(found.get(0, 128))),
+        None => Ok(None),
+    }
+}
+
 #[test]
 fn an_entry_answers_for_each_immediate(rt: HostRuntime) -> Result<(), Fail> {
     let entry = checked(&rt, rt.alloc(), TEXT.as_bytes())?;
-    let mut first = Reg::<32>::zero();
-    first.put(0, 128, 0x1234_0000);
-    let mut second = Reg::<32>::zero();
-    second.put(0, 128, 1);
-    let params = [first, second];
+    let params = [register(0x1234_0000), register(1)];
     let mut prepared = Prepared::new(rt.alloc(), &entry)?;
     for (imm, left) in [
         (3, 0x1234_0308),
@@ -85,12 +98,12 @@ fn an_entry_answers_for_each_immediate(rt: HostRuntime) -> Result<(), Fail> {
     ] {
         let found = prepared.apply(params.as_slice(), imm);
         assert!(rt; found.get(0, 128) == left);
-        let Some(found) = answer_once(rt.alloc(), &entry, params.as_slice(), imm)? else {
-            return Err("an immediate has no instance".into());
-        };
-        assert!(rt; found.get(0, 128) == left);
+        let once = answer(rt.alloc(), &entry, params.as_slice(), imm)?;
+        assert!(rt; once == Some(left));
     }
-    assert!(rt; answer_once(rt.alloc(), &entry, params.as_slice(), 2)?.is_none());
-    assert!(rt; answer_once(rt.alloc(), &entry, params.as_slice(), 10)?.is_none());
+    for imm in [2, 10] {
+        let once = answer(rt.alloc(), &entry, params.as_slice(), imm)?;
+        assert!(rt; once.is_none());
+    }
     Ok(())
 }

@@ -20,11 +20,7 @@ use vg_terms::{OneOp, TwoOp};
 fn prepared(alloc: Global, least: Option<u8>, script: Script) -> Result<Prepared, AllocError>
     requires { ScriptFormed (128 ∷ 128 ∷ 128 ∷ 256 ∷ []) (script_of script) }
 {
-    let mut widths = Vec::new(alloc);
-    widths.push(128)?;
-    widths.push(128)?;
-    widths.push(128)?;
-    widths.push(256)?;
+    let widths = vec![in alloc; 128, 128, 128, 256]?;
     let whole = Whole {
         widths: Items::from_vec(widths),
         parameters: 2,
@@ -34,8 +30,8 @@ fn prepared(alloc: Global, least: Option<u8>, script: Script) -> Result<Prepared
         is_dynamic: false,
         nodes: 16,
     };
-    let mut instances = Vec::new(alloc);
-    instances.push(Instance::new(whole)?)?;
+    let instance = Instance::new(whole)?;
+    let instances = vec![in alloc; instance]?;
     Prepared::from_instances(alloc, least, instances)
 }
 
@@ -92,16 +88,24 @@ fn byte(alloc: Global, low: u128, value: u128) -> Result<Script, AllocError>
     make_put(alloc, 2, low, 8, Word::Constant { width: 128, value })
 }
 
-/// A CASE on the lowest 16 bits of the first parameter with two arms of one number.
+/// The arms of one number each, the last one again of the first number.
+fn arms(alloc: Global) -> Result<Script, AllocError>
+    ensures { IfOk result (λ s. ScriptFormed (128 ∷ 128 ∷ 128 ∷ 256 ∷ []) (script_of s)) }
+{
+    let again = byte(alloc, 16, 0x33)?;
+    let last = make_arm(alloc, 1, again, Script::Stop)?;
+    let two = byte(alloc, 8, 0x22)?;
+    let behind = make_arm(alloc, 2, two, last)?;
+    let one = byte(alloc, 0, 0x11)?;
+    make_arm(alloc, 1, one, behind)
+}
+
+/// A CASE on the lowest 16 bits of the first parameter with these arms.
 fn choice(alloc: Global) -> Result<Script, AllocError>
     ensures { IfOk result (λ s. ScriptFormed (128 ∷ 128 ∷ 128 ∷ 256 ∷ []) (script_of s)) }
 {
     let selector = signed_slice(alloc, 0, 0)?;
-    let one = byte(alloc, 0, 0x11)?;
-    let two = byte(alloc, 8, 0x22)?;
-    let again = byte(alloc, 16, 0x33)?;
-    let last = make_arm(alloc, 1, again, Script::Stop)?;
-    let arms = make_arm(alloc, 1, one, make_arm(alloc, 2, two, last)?)?;
+    let arms = arms(alloc)?;
     make_pick(alloc, selector, arms)
 }
 
