@@ -1,10 +1,14 @@
 //! A kernel and a program from texts, and what a comparison of them ends with.
 
+ghost use Rattle.std.specs.Prelude.{IfOk};
+ghost use Rattle.vg_shapes.specs.Sound.{IsSound};
+
 use std::alloc::Global;
 use std::test::Fail;
 use vg_catalog::parse_file;
 use vg_kernel::parse_kernel;
 use vg_program::parse_program;
+use vg_shapes::Ssa;
 use vg_ssa::number_values;
 use vg_verify::{Difference, Verdict, verify};
 
@@ -58,6 +62,15 @@ fn expected_in(difference: &Difference) -> Expected {
     }
 }
 
+/// The numbered values of a kernel's text.
+fn numbered(alloc: Global, text: &[u8]) -> Result<Ssa, Fail>
+    ensures { IfOk result (λ ssa. IsSound ssa) }
+{
+    let kernel = parse_kernel(alloc, text)?;
+    let ssa = number_values(alloc, &kernel)?;
+    Ok(ssa)
+}
+
 /// What the comparison of a kernel's text with a program's text ends with, over the entries of a file's text.
 pub fn compared(
     alloc: Global,
@@ -65,10 +78,9 @@ pub fn compared(
     kernel: &[u8],
     program: &[u8],
 ) -> Result<Expected, Fail> {
+    let ssa = numbered(alloc, kernel)?;
     let catalog = parse_file(alloc, entries)?;
-    let kernel = parse_kernel(alloc, kernel)?;
     let program = parse_program(alloc, program, catalog.headers())?;
-    let ssa = number_values(alloc, &kernel)?;
     let verdict = verify(alloc, &catalog, &ssa, &program)?;
     Ok(expected_of(&verdict))
 }

@@ -5,35 +5,52 @@ use std::alloc::Global;
 use std::process::Abort;
 use std::test::Fail;
 
+/// The sums of 2 to 67 bytes, each of the one before and the next byte.
+fn sums_of_bytes(alloc: Global) -> Result<String, Fail> {
+    let mut text = String::new(alloc);
+    for i in 0..66u64 {
+        write!(text, " s{} = s{i} + load8(p + {});", i + 1, i + 1)?;
+    }
+    Ok(text)
+}
+
 /// A kernel that stores the sum of 67 bytes, of which a term would have 133 nodes.
 fn sum_of_bytes(alloc: Global) -> Result<String, Fail> {
+    let sums = sums_of_bytes(alloc)?;
+    let front = "kernel large(d: noalias ptr, p: ptr) { s0 = load8(p);";
+    Ok(format!(in alloc; "{front}{sums} store8(d + 0, s66); }}")?)
+}
+
+/// The lines that load 67 bytes.
+fn loads(alloc: Global) -> Result<String, Fail> {
     let mut text = String::new(alloc);
-    text.push_str("kernel large(d: noalias ptr, p: ptr) { s0 = load8(p);")?;
-    for i in 0..66u64 {
-        let line = format!(in alloc; " s{} = s{i} + load8(p + {});", i + 1, i + 1)?;
-        text.push_str(line.as_str())?;
+    for i in 0..67u64 {
+        write!(text, "%s{i}:i8 = load p+{i}\n")?;
     }
-    text.push_str(" store8(d + 0, s66); }")?;
+    Ok(text)
+}
+
+/// The lines that add all bytes but the first two and the last.
+fn sums(alloc: Global) -> Result<String, Fail> {
+    let mut text = String::new(alloc);
+    for i in 2..66u64 {
+        write!(text, "%s{}:i8 = add %s{} %s{i}\n", i + 66, i + 65)?;
+    }
     Ok(text)
 }
 
 /// A program that loads all bytes first and adds them in the order of the kernel, the last one by this operation.
 fn sum_by_lines(alloc: Global, last: &str) -> Result<String, Fail> {
-    let mut text = String::new(alloc);
-    text.push_str("program large(d: ptr, p: ptr)\n")?;
-    for i in 0..67u64 {
-        let line = format!(in alloc; "%s{i}:i8 = load p+{i}\n")?;
-        text.push_str(line.as_str())?;
-    }
-    text.push_str("%s67:i8 = add %s0 %s1\n")?;
-    for i in 2..66u64 {
-        let line = format!(in alloc; "%s{}:i8 = add %s{} %s{i}\n", i + 66, i + 65)?;
-        text.push_str(line.as_str())?;
-    }
-    let line = format!(in alloc; "%s132:i8 = {last} %s131 %s66\n")?;
-    text.push_str(line.as_str())?;
-    text.push_str("store d+0 %s132\nend cost 134 scalar 134\n")?;
-    Ok(text)
+    let loads = loads(alloc)?;
+    let sums = sums(alloc)?;
+    Ok(format!(in alloc;
+        "program large(d: ptr, p: ptr)
+{loads}%s67:i8 = add %s0 %s1
+{sums}%s132:i8 = {last} %s131 %s66
+store d+0 %s132
+end cost 134 scalar 134
+"
+    )?)
 }
 
 fn compared_by(alloc: Global, last: &str) -> Result<Expected, Fail> {
