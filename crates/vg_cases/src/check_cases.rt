@@ -1,7 +1,8 @@
 //! Worked cases of `check`.
 
-use crate::desk::{Desk, status_of};
-use crate::memories::lines_of;
+use crate::desk::{Desk, expect_endings};
+use crate::hostile_cases::{KERNEL, PROGRAM};
+use crate::memories::{cut, cut_line, lines_of};
 use std::alloc::Global;
 use std::process::Abort;
 use std::test::Fail;
@@ -30,8 +31,7 @@ fn desk_with(
     program: &str,
 ) -> Result<Desk, Fail> {
     let body = lines_of(alloc, program, b'|')?;
-    let mut desk = Desk::new(alloc, 1000)?;
-    desk.shelf.put("i", instructions)?;
+    let mut desk = Desk::holding(alloc, 1000, &[("i", instructions)])?;
     desk.shelf.put("k", kernel.as_bytes())?;
     desk.shelf.put("p", body.as_slice())?;
     Ok(desk)
@@ -75,12 +75,8 @@ fn expect_difference(
 
 /// A row is a kernel, an arrow, a program, an arrow, and the first difference, or `same`.
 fn expect_row(rt: &impl Abort, alloc: Global, row: &str) -> Result<(), Fail> {
-    let Some((kernel, row)) = row.trim().split_once(" => ") else {
-        return Err("an arrow is missing".into());
-    };
-    let Some((program, difference)) = row.split_once(" => ") else {
-        return Err("a difference is missing".into());
-    };
+    let (kernel, row) = cut_line(row)?;
+    let (program, difference) = cut(row)?;
     if difference == "same" {
         expect_same(rt, alloc, b"", kernel, program)
     } else {
@@ -88,32 +84,10 @@ fn expect_row(rt: &impl Abort, alloc: Global, row: &str) -> Result<(), Fail> {
     }
 }
 
-/// A row is words, an arrow, a status, an arrow, and the line on it. So many files are read.
-fn expect_ending(rt: &impl Abort, alloc: Global, row: &str, reads: u64) -> Result<(), Fail> {
-    let Some((words, row)) = row.trim().split_once(" => ") else {
-        return Err("an arrow is missing".into());
-    };
-    let Some((status, line)) = row.split_once(" => ") else {
-        return Err("a status is missing".into());
-    };
-    let err = format!(in alloc; "vegen: {line}\n")?;
-    let mut desk = desk_with(alloc, b"", COPY, COPIED)?;
-    desk.shelf.put("bad_i", b"INSTRUCTION")?;
-    desk.shelf.put("bad_k", b"")?;
-    desk.shelf.put("bad_p", b"")?;
-    desk.shelf.put(
-        "loop",
-        b"loop l(p: ptr, n: i8) times n step p 1 { store8(p, 1i8); }",
-    )?;
-    desk.shelf.put(
-        "bad_loop",
-        b"loop l(p: ptr, n: i8) times n step p 0 { store8(p, 1i8); }",
-    )?;
-    desk.shelf
-        .put("guarded", b"guarded copy(d: ptr, s: ptr)\n")?;
-    desk.shelf.put("looped", b"looped copy(d: ptr, s: ptr)\n")?;
-    desk.expect(rt, words, status_of(status), b"", err.as_str().as_bytes())?;
-    desk.expect_reads(rt, reads);
+fn expect_rows(rt: &impl Abort, alloc: Global, rows: &str) -> Result<(), Fail> {
+    for row in rows.lines() {
+        expect_row(rt, alloc, row)?;
+    }
     Ok(())
 }
 
@@ -124,69 +98,67 @@ fn programs_that_mean_their_kernels(rt: HostRuntime) -> Result<(), Fail> {
     let madd =
         "program madd(d: ptr, p: ptr, q: ptr)|%v0 = vload 16 p+0|%v1 = vload 16 q+0|%v2 = call _mm_madd_epi16 %v0 %v1|vstore 16 d+0 %v2|end cost 4 scalar 48|";
     expect_same(&rt, alloc, MADD, PRODUCTS, madd)?;
-    for row in "kernel two(p: noalias ptr, q: ptr) { store32(p + 0, load32(q + 0)); store32(p + 4, load32(q + 4)); } => program two(p: ptr, q: ptr)|%v0 = vload 8 q+0|vstore 8 p+0 %v0|end cost 2 scalar 4| => same
+    let rows =
+        "kernel two(p: noalias ptr, q: ptr) { store32(p + 0, load32(q + 0)); store32(p + 4, load32(q + 4)); } => program two(p: ptr, q: ptr)|%v0 = vload 8 q+0|vstore 8 p+0 %v0|end cost 2 scalar 4| => same
         kernel word(d: ptr) { store16(d - 2, 513i16); } => program word(d: ptr)|store d-1 2i8|store d-2 1i8|end cost 2 scalar 1| => same
-        kernel x(d: noalias ptr, p: ptr) { x = load8(p); y = load8(p); store8(d, x); store8(d + 1, y); } => program x(d: ptr, p: ptr)|%s0:i8 = load p+0|%s1:i8 = load p+0|store d+1 %s0|store d+0 %s1|end cost 4 scalar 4| => same"
-        .lines()
-    {
-        expect_row(&rt, alloc, row)?;
-    }
-    Ok(())
+        kernel x(d: noalias ptr, p: ptr) { x = load8(p); y = load8(p); store8(d, x); store8(d + 1, y); } => program x(d: ptr, p: ptr)|%s0:i8 = load p+0|%s1:i8 = load p+0|store d+1 %s0|store d+0 %s1|end cost 4 scalar 4| => same";
+    expect_rows(&rt, alloc, rows)
 }
 
 #[test]
 fn programs_that_differ(rt: HostRuntime) -> Result<(), Fail> {
     let alloc = rt.alloc();
-    for row in "kernel copy(d: ptr, s: ptr) { store32(d + 0, load32(s + 0)); } => program copy(d: ptr, s: ptr)|%s0:i32 = load s+4|store d+0 %s0|end cost 2 scalar 2| => access load s+0 kernel 1 program 0
+    let rows =
+        "kernel copy(d: ptr, s: ptr) { store32(d + 0, load32(s + 0)); } => program copy(d: ptr, s: ptr)|%s0:i32 = load s+4|store d+0 %s0|end cost 2 scalar 2| => access load s+0 kernel 1 program 0
         kernel two(p: ptr, q: ptr) { store32(p + 0, load32(q + 0)); store32(p + 4, load32(q + 4)); } => program two(p: ptr, q: ptr)|%v0 = vload 8 q+0|vstore 8 p+0 %v0|end cost 2 scalar 4| => order 1 2
         kernel inc(d: ptr, k: i8) { store8(d + 0, k + 1i8); } => program inc(d: ptr, k: i8)|%s0:i8 = add k 2i8|store d+0 %s0|end cost 2 scalar 2| => value 2 (add8 k:8 1:8) (add8 k:8 2:8)
         kernel none() { } => program copy(d: ptr, s: ptr)|%s0:i32 = load s+0|store d+0 %s0|end cost 2 scalar 2| => params
         kernel put(d: ptr) { store16(d - 2, 513i16); } => program put(d: ptr)|store d-2 513i16|store d-1 2i8|end cost 2 scalar 1| => access store d-1 kernel 1 program 2
         kernel put(d: ptr, k: i8) { store8(d, k); } => program put(d: ptr, k: i16)|store d+0 1i8|end cost 1 scalar 1| => params
-        kernel sum(d: ptr, q: ptr) { x = load8(q + 1); store8(d, x); y = load8(q + 1); store8(d + 1, y); } => program sum(d: ptr, q: ptr)|%s0:i8 = load q+1|store d+0 %s0|%s1:i8 = load q+1|store d+1 %s0|end cost 4 scalar 4| => value 3 q+1@2:8 q+1@0:8"
-        .lines()
-    {
-        expect_row(&rt, alloc, row)?;
-    }
+        kernel sum(d: ptr, q: ptr) { x = load8(q + 1); store8(d, x); y = load8(q + 1); store8(d + 1, y); } => program sum(d: ptr, q: ptr)|%s0:i8 = load q+1|store d+0 %s0|%s1:i8 = load q+1|store d+1 %s0|end cost 4 scalar 4| => value 3 q+1@2:8 q+1@0:8";
+    expect_rows(&rt, alloc, rows)?;
     let picked =
         "program copy(d: ptr, s: ptr)|%v0 = vload 4 s+0|%v1 = call pick %v0 %v0|vstore 4 d+0 %v0|end cost 3 scalar 2|";
     expect_difference(&rt, alloc, SHUFFLE, COPY, picked, "opaque 3")
 }
 
+/// The files of a copy, and others.
+const FILES: [(&str, &[u8]); 10] = [
+    ("i", b""),
+    ("k", KERNEL),
+    ("p", PROGRAM),
+    ("bad_i", b"INSTRUCTION"),
+    ("bad_k", b""),
+    ("bad_p", b""),
+    (
+        "loop",
+        b"loop l(p: ptr, n: i8) times n step p 1 { store8(p, 1i8); }",
+    ),
+    (
+        "bad_loop",
+        b"loop l(p: ptr, n: i8) times n step p 0 { store8(p, 1i8); }",
+    ),
+    ("guarded", b"guarded copy(d: ptr, s: ptr)\n"),
+    ("looped", b"looped copy(d: ptr, s: ptr)\n"),
+];
+
 #[test]
 fn files_are_judged_one_after_the_other(rt: HostRuntime) -> Result<(), Fail> {
-    let alloc = rt.alloc();
-    for row in "check => Usage => usage
-        check i k => Usage => usage
-        check i k p p => Usage => usage
-        check i k p d=0 => Usage => usage
-        check --guard i k p => Usage => usage
-        check i k --width=1 => Usage => usage"
-        .lines()
-    {
-        expect_ending(&rt, alloc, row, 0)?;
-    }
-    for row in "check none none none => InputAbsent => absent: none
-        check bad_i none none => InstructionsRefused => instructions: 12 Header at 1:12"
-        .lines()
-    {
-        expect_ending(&rt, alloc, row, 1)?;
-    }
-    for row in "check i none none => InputAbsent => absent: none
-        check i bad_k none => KernelRefused => kernel: 2 Shape at 1:1
-        check i bad_loop none => KernelRefused => kernel: 6 LiteralRange at 1:38
-        check i loop none => KernelRefused => kernel: 12 LoopHere at 1:1"
-        .lines()
-    {
-        expect_ending(&rt, alloc, row, 2)?;
-    }
-    for row in "check i k none => InputAbsent => absent: none
-        check i k bad_p => ProgramRefused => program: 2 Shape at 1:1
-        check i k guarded => ProgramRefused => program: 2 Shape at 1:1
-        check i k looped => ProgramRefused => program: 2 Shape at 1:1"
-        .lines()
-    {
-        expect_ending(&rt, alloc, row, 3)?;
-    }
-    Ok(())
+    let rows = "check => 0 => Usage => usage
+        check i k => 0 => Usage => usage
+        check i k p p => 0 => Usage => usage
+        check i k p d=0 => 0 => Usage => usage
+        check --guard i k p => 0 => Usage => usage
+        check i k --width=1 => 0 => Usage => usage
+        check none none none => 1 => InputAbsent => absent: none
+        check bad_i none none => 1 => InstructionsRefused => instructions: 12 Header at 1:12
+        check i none none => 2 => InputAbsent => absent: none
+        check i bad_k none => 2 => KernelRefused => kernel: 2 Shape at 1:1
+        check i bad_loop none => 2 => KernelRefused => kernel: 6 LiteralRange at 1:38
+        check i loop none => 2 => KernelRefused => kernel: 12 LoopHere at 1:1
+        check i k none => 3 => InputAbsent => absent: none
+        check i k bad_p => 3 => ProgramRefused => program: 2 Shape at 1:1
+        check i k guarded => 3 => ProgramRefused => program: 2 Shape at 1:1
+        check i k looped => 3 => ProgramRefused => program: 2 Shape at 1:1";
+    expect_endings(&rt, rt.alloc(), &FILES, rows)
 }

@@ -1,7 +1,7 @@
 //! Worked cases of `compile`.
 
-use crate::desk::Desk;
-use crate::memories::lines_of;
+use crate::desk::{Desk, USAGE, expect_each, expect_ended};
+use crate::memories::{cut_line, lines_of};
 use std::alloc::Global;
 use std::process::Abort;
 use std::test::Fail;
@@ -20,9 +20,7 @@ fn expect_program(rt: &impl Abort, alloc: Global, kernel: &[u8], text: &[u8]) ->
 
 /// A row is a kernel, an arrow, and its program, in which each `|` ends a line.
 fn expect_row(rt: &impl Abort, alloc: Global, row: &str) -> Result<(), Fail> {
-    let Some((kernel, program)) = row.trim().split_once(" => ") else {
-        return Err("an arrow is missing".into());
-    };
+    let (kernel, program) = cut_line(row)?;
     let text = lines_of(alloc, program, b'|')?;
     expect_program(rt, alloc, kernel.as_bytes(), text.as_slice())
 }
@@ -54,33 +52,24 @@ fn kernels_and_their_programs(rt: HostRuntime) -> Result<(), Fail> {
     Ok(())
 }
 
-/// Asserts that words are no request, and that nothing is read.
-fn expect_usage(rt: &impl Abort, alloc: Global, line: &str) -> Result<(), Fail> {
-    let mut desk = Desk::with_kernel(alloc, COPY)?;
-    desk.expect(rt, line, Status::Usage, b"", b"vegen: usage\n")?;
-    desk.expect_reads(rt, 0);
-    Ok(())
-}
-
 #[test]
 fn words_that_are_no_request_read_nothing(rt: HostRuntime) -> Result<(), Fail> {
-    for line in ",compile i,compile i k k,compile i -x,compile -- k,lift i k".split(',') {
-        expect_usage(&rt, rt.alloc(), line)?;
-    }
-    Ok(())
+    let files: [(&str, &[u8]); 2] = [("i", b""), ("k", COPY)];
+    let lines = "compile i
+        compile i k k
+        compile i -x
+        compile -- k
+        lift i k";
+    expect_each(&rt, rt.alloc(), &files, USAGE, lines)?;
+    expect_ended(&rt, rt.alloc(), &files, "", USAGE)
 }
 
 /// Asserts what is said of a kernel that is refused, after which nothing is read.
 fn expect_refusal(rt: &impl Abort, alloc: Global, kernel: &[u8], said: &str) -> Result<(), Fail> {
     let line = format!(in alloc; "vegen: kernel: {said}\n")?;
     let mut desk = Desk::with_kernel(alloc, kernel)?;
-    desk.expect(
-        rt,
-        "compile i k",
-        Status::KernelRefused,
-        b"",
-        line.as_bytes(),
-    )?;
+    let err = line.as_bytes();
+    desk.expect(rt, "compile i k", Status::KernelRefused, b"", err)?;
     desk.expect_reads(rt, 2);
     Ok(())
 }
@@ -88,9 +77,7 @@ fn expect_refusal(rt: &impl Abort, alloc: Global, kernel: &[u8], said: &str) -> 
 /// A row is a kernel, an arrow and what is said of it: asserts it.
 fn expect_refusals(rt: &impl Abort, alloc: Global, rows: &str) -> Result<(), Fail> {
     for row in rows.trim().lines() {
-        let Some((kernel, said)) = row.trim().split_once(" => ") else {
-            return Err("an arrow is missing".into());
-        };
+        let (kernel, said) = cut_line(row)?;
         expect_refusal(rt, alloc, kernel.as_bytes(), said)?;
     }
     Ok(())
@@ -123,9 +110,7 @@ fn kernels_that_are_refused(rt: HostRuntime) -> Result<(), Fail> {
 
 #[test]
 fn a_sink_of_too_little_room_keeps_the_front(rt: HostRuntime) -> Result<(), Fail> {
-    let mut desk = Desk::new(rt.alloc(), 10)?;
-    desk.shelf.put("i", b"")?;
-    desk.shelf.put("k", COPY)?;
+    let mut desk = Desk::holding(rt.alloc(), 10, &[("i", b""), ("k", COPY)])?;
     desk.expect(
         &rt,
         "compile i k",
@@ -137,15 +122,8 @@ fn a_sink_of_too_little_room_keeps_the_front(rt: HostRuntime) -> Result<(), Fail
 
 #[test]
 fn a_file_that_is_not_there_is_named(rt: HostRuntime) -> Result<(), Fail> {
-    let mut desk = Desk::new(rt.alloc(), 100)?;
-    desk.shelf.put("i", b"")?;
-    desk.expect(
-        &rt,
-        "compile i k",
-        Status::InputAbsent,
-        b"",
-        b"vegen: absent: k\n",
-    )
+    let absent = "2 => InputAbsent => absent: k";
+    expect_ended(&rt, rt.alloc(), &[("i", b"")], "compile i k", absent)
 }
 
 /// A kernel of so many statements of one text.
@@ -161,8 +139,8 @@ fn repeated(alloc: Global, statement: &[u8], count: usize) -> Result<Vec<u8>, Fa
 /// Asserts that a kernel is compiled, to a program with this end.
 fn expect_end(rt: &impl Abort, alloc: Global, kernel: &[u8], last: &[u8]) -> Result<(), Fail> {
     let mut desk = Desk::with_kernel(alloc, kernel)?;
-    assert!(rt; desk.run("compile i k")? == Status::Ok);
-    assert!(rt; desk.out.written().ends_with(last));
+    let status = desk.run("compile i k")?;
+    assert!(rt; status == Status::Ok && desk.out.written().ends_with(last));
     Ok(())
 }
 
@@ -201,14 +179,9 @@ fn the_most_statements_are_accepted_and_one_more_refused(rt: HostRuntime) -> Res
 
 /// Asserts that a kernel file is too large.
 fn expect_too_large(rt: &impl Abort, alloc: Global, kernel: &[u8]) -> Result<(), Fail> {
-    let mut desk = Desk::with_kernel(alloc, kernel)?;
-    desk.expect(
-        rt,
-        "compile i k",
-        Status::TooLarge,
-        b"",
-        b"vegen: too large: k\n",
-    )
+    let files: [(&str, &[u8]); 2] = [("i", b""), ("k", kernel)];
+    let row = "2 => TooLarge => too large: k";
+    expect_ended(rt, alloc, &files, "compile i k", row)
 }
 
 #[test]

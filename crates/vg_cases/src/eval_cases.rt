@@ -1,7 +1,7 @@
 //! Worked cases of `eval`, and of what `run` makes of what `compile` writes.
 
-use crate::desk::{Desk, status_of};
-use crate::memories::bytes_of;
+use crate::desk::{Desk, expect_each, expect_ended, expect_endings, expect_left};
+use crate::memories::cut;
 use std::alloc::Global;
 use std::process::Abort;
 use std::test::Fail;
@@ -48,34 +48,14 @@ fn kernel_of(name: &str) -> &'static [u8] {
     }
 }
 
-/// A kernel, bindings, a memory, and the memory that is left.
-#[derive(Drop)]
-struct Left<'a> {
-    kernel: &'static [u8],
-    bindings: &'a str,
-    memory: Vec<u8>,
-    left: Vec<u8>,
-}
-
-/// A row is the name of a kernel, bindings, an arrow, a memory, an arrow, and the memory that is
-/// left.
-fn left_of<'a>(alloc: Global, row: &'a str) -> Result<Left<'a>, Fail> {
-    let Some((words, memories)) = row.split_once(" => ") else {
-        return Err("an arrow is missing".into());
-    };
-    let Some((memory, left)) = memories.split_once(" => ") else {
-        return Err("a memory is missing".into());
-    };
+/// The kernel that a row names, and the bindings behind its name.
+fn named(words: &str) -> (&'static [u8], &str) {
     let (name, bindings) = words.split_once(' ').unwrap_or((words, ""));
-    Ok(Left {
-        kernel: kernel_of(name),
-        bindings,
-        memory: bytes_of(alloc, memory)?,
-        left: bytes_of(alloc, left)?,
-    })
+    (kernel_of(name), bindings)
 }
 
-/// Both words of `two` overlap what they are copied from; a load that nothing uses leaves the
+/// Each row is the name of a kernel, bindings, an arrow, a memory, an arrow, and the memory that is
+/// left. Both words of `two` overlap what they are copied from; a load that nothing uses leaves the
 /// memory; the second word of `lap` begins in the first; 255 and -1 are one byte. Of `mix`: 10 -
 /// 3 and 10 / 16, and, since -257 + 3 is 65282 with the low byte 2, that and -257 / 16, which is
 /// -17.
@@ -91,12 +71,11 @@ none => 0*0 => 0*0";
 
 /// Asserts what `eval` leaves.
 fn expect_eval(rt: &impl Abort, alloc: Global, row: &str) -> Result<(), Fail> {
-    let case = left_of(alloc, row)?;
-    let line = format!(in alloc; "eval k m {}", case.bindings)?;
-    let mut desk = desk_with(alloc, case.kernel, case.memory.as_slice())?;
-    desk.expect(rt, line.as_str(), Status::Ok, case.left.as_slice(), b"")?;
-    desk.expect_reads(rt, 2);
-    Ok(())
+    let (words, memories) = cut(row)?;
+    let (kernel, bindings) = named(words);
+    let line = format!(in alloc; "eval k m {bindings}")?;
+    let files: [(&str, &[u8]); 2] = [("i", b""), ("k", kernel)];
+    expect_left(rt, alloc, &files, line.as_str(), memories, 2)
 }
 
 #[test]
@@ -107,15 +86,22 @@ fn kernels_and_the_memory_that_they_leave(rt: HostRuntime) -> Result<(), Fail> {
     Ok(())
 }
 
+/// The program that `compile` makes of a kernel.
+fn compiled(rt: &impl Abort, alloc: Global, kernel: &[u8]) -> Result<Vec<u8>, Fail> {
+    let mut desk = Desk::with_kernel(alloc, kernel)?;
+    let status = desk.run("compile i k")?;
+    assert!(rt; status == Status::Ok);
+    Ok(Vec::from_slice(alloc, desk.out.written())?)
+}
+
 /// Asserts what `run` leaves of what `compile` makes.
 fn expect_run(rt: &impl Abort, alloc: Global, row: &str) -> Result<(), Fail> {
-    let case = left_of(alloc, row)?;
-    let line = format!(in alloc; "run i p m {}", case.bindings)?;
-    let mut desk = Desk::with_kernel(alloc, case.kernel)?;
-    assert!(rt; desk.run("compile i k")? == Status::Ok, "{row}");
-    let mut machine = desk_with(alloc, case.kernel, case.memory.as_slice())?;
-    machine.shelf.put("p", desk.out.written())?;
-    machine.expect(rt, line.as_str(), Status::Ok, case.left.as_slice(), b"")
+    let (words, memories) = cut(row)?;
+    let (kernel, bindings) = named(words);
+    let line = format!(in alloc; "run i p m {bindings}")?;
+    let program = compiled(rt, alloc, kernel)?;
+    let files: [(&str, &[u8]); 2] = [("i", b""), ("p", program.as_slice())];
+    expect_left(rt, alloc, &files, line.as_str(), memories, 3)
 }
 
 #[test]
@@ -150,14 +136,14 @@ fn kernels_that_trap(rt: HostRuntime) -> Result<(), Fail> {
     expect_trap(&rt, alloc, LAP, &[0; 5], "eval k m d=0")
 }
 
-/// Asserts that the bindings of a line are refused.
-fn refuse_bindings(rt: &impl Abort, alloc: Global, kernel: &[u8], line: &str) -> Result<(), Fail> {
-    let mut desk = desk_with(alloc, kernel, &[0; 20])?;
-    desk.expect(rt, line, Status::BindingsRefused, b"", b"vegen: bindings\n")
-}
+const ZEROS: &[u8] = &[0; 20];
+
+/// How bindings are refused, after both files.
+const BINDINGS: &str = "2 => BindingsRefused => bindings";
 
 #[test]
 fn bindings_that_are_refused(rt: HostRuntime) -> Result<(), Fail> {
+    let put: [(&str, &[u8]); 2] = [("k", PUT), ("m", ZEROS)];
     let lines = "
         eval k m d=0 d=4
         eval k m d=0
@@ -165,44 +151,23 @@ fn bindings_that_are_refused(rt: HostRuntime) -> Result<(), Fail> {
         eval k m d=0 k=1 z=1
         eval k m d=0 k=1 put=1
     ";
-    for line in lines.trim().lines() {
-        refuse_bindings(&rt, rt.alloc(), PUT, line)?;
-    }
-    refuse_bindings(&rt, rt.alloc(), FAR, "eval k m p=18446744073709551616")
-}
-
-/// A row is a line of words, an arrow, how it ends, how many files are read, and what is said.
-fn expect_reads(rt: &impl Abort, alloc: Global, row: &str) -> Result<(), Fail> {
-    let Some((line, wanted)) = row.trim().split_once(" => ") else {
-        return Err("an arrow is missing".into());
-    };
-    let Some((status, behind)) = wanted.split_once(' ') else {
-        return Err("a count is missing".into());
-    };
-    let Some((reads, said)) = behind.split_once(' ') else {
-        return Err("a line is missing".into());
-    };
-    let reads = reads.parse::<u64>()?;
-    let said = format!(in alloc; "vegen: {said}\n")?;
-    let mut desk = desk_with(alloc, PUT, b"123")?;
-    desk.expect(rt, line, status_of(status), b"", said.as_bytes())?;
-    desk.expect_reads(rt, reads);
-    Ok(())
+    expect_each(&rt, rt.alloc(), &put, BINDINGS, lines)?;
+    let far: [(&str, &[u8]); 2] = [("k", FAR), ("m", ZEROS)];
+    let line = "eval k m p=18446744073709551616";
+    expect_ended(&rt, rt.alloc(), &far, line, BINDINGS)
 }
 
 #[test]
 fn files_are_read_up_to_the_refused_one(rt: HostRuntime) -> Result<(), Fail> {
+    let files: [(&str, &[u8]); 2] = [("k", PUT), ("m", b"123")];
     let rows = "
-        eval k => Usage 0 usage
-        eval k -m => Usage 0 usage
-        eval k m d => Usage 0 usage
-        eval x m => InputAbsent 1 absent: x
-        eval m x => KernelRefused 1 kernel: 2 Shape at 1:1
-        eval k x => InputAbsent 2 absent: x
-        eval k m d=0 => BindingsRefused 2 bindings
+        eval k => 0 => Usage => usage
+        eval k -m => 0 => Usage => usage
+        eval k m d => 0 => Usage => usage
+        eval x m => 1 => InputAbsent => absent: x
+        eval m x => 1 => KernelRefused => kernel: 2 Shape at 1:1
+        eval k x => 2 => InputAbsent => absent: x
+        eval k m d=0 => 2 => BindingsRefused => bindings
     ";
-    for row in rows.trim().lines() {
-        expect_reads(&rt, rt.alloc(), row)?;
-    }
-    Ok(())
+    expect_endings(&rt, rt.alloc(), &files, rows)
 }

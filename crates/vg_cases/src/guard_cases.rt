@@ -1,7 +1,7 @@
 //! Worked cases of `compile --guard` and of `run` on guarded texts.
 
-use crate::desk::{Desk, status_of};
-use crate::memories::{bytes_of, lines_of};
+use crate::desk::{Desk, USAGE, expect_each, expect_left};
+use crate::memories::{cut, cut_line, lines_of};
 use std::alloc::Global;
 use std::process::Abort;
 use std::test::Fail;
@@ -19,51 +19,37 @@ const SIDES: &str =
 
 /// A desk with no instructions, this program and this memory.
 fn desk_with(alloc: Global, program: &[u8], memory: &[u8]) -> Result<Desk, Fail> {
-    let mut desk = Desk::new(alloc, 1000)?;
-    desk.shelf.put("i", b"")?;
-    desk.shelf.put("p", program)?;
+    let mut desk = Desk::holding(alloc, 1000, &[("i", b""), ("p", program)])?;
     desk.shelf.put("m", memory)?;
     Ok(desk)
 }
 
 /// A row is bindings, an arrow, a memory, an arrow, and what the program leaves of it.
-fn expect_left(rt: &impl Abort, alloc: Global, program: &[u8], row: &str) -> Result<(), Fail> {
-    let Some((bindings, memories)) = row.trim().split_once(" => ") else {
-        return Err("an arrow is missing".into());
-    };
-    let Some((memory, left)) = memories.split_once(" => ") else {
-        return Err("a memory is missing".into());
-    };
-    let memory = bytes_of(alloc, memory)?;
-    let left = bytes_of(alloc, left)?;
+fn expect_row(rt: &impl Abort, alloc: Global, program: &[u8], row: &str) -> Result<(), Fail> {
+    let (bindings, memories) = cut_line(row)?;
     let line = format!(in alloc; "run i p m {bindings}")?;
-    let mut desk = desk_with(alloc, program, memory.as_slice())?;
-    desk.expect(rt, line.as_str(), Status::Ok, left.as_slice(), b"")
+    let files: [(&str, &[u8]); 2] = [("i", b""), ("p", program)];
+    expect_left(rt, alloc, &files, line.as_str(), memories, 3)
+}
+
+/// Asserts the same of rows for the text of two sides.
+fn expect_sides(rt: &impl Abort, alloc: Global, rows: &str) -> Result<(), Fail> {
+    let sides = lines_of(alloc, SIDES, b'|')?;
+    for row in rows.lines() {
+        expect_row(rt, alloc, sides.as_slice(), row)?;
+    }
+    Ok(())
 }
 
 /// A row is a text, in which each `|` ends a line, an arrow, bindings, an arrow, a status, an arrow, and
 /// the line on it.
 fn expect_refusal(rt: &impl Abort, alloc: Global, row: &str) -> Result<(), Fail> {
-    let Some((program, row)) = row.trim().split_once(" => ") else {
-        return Err("an arrow is missing".into());
-    };
-    let Some((bindings, row)) = row.split_once(" => ") else {
-        return Err("bindings are missing".into());
-    };
-    let Some((status, line)) = row.split_once(" => ") else {
-        return Err("a status is missing".into());
-    };
+    let (program, row) = cut_line(row)?;
+    let (bindings, ending) = cut(row)?;
     let text = lines_of(alloc, program, b'|')?;
     let words = format!(in alloc; "run i p m {bindings}")?;
-    let err = format!(in alloc; "vegen: {line}\n")?;
     let mut desk = desk_with(alloc, text.as_slice(), b"12345678")?;
-    desk.expect(
-        rt,
-        words.as_str(),
-        status_of(status),
-        b"",
-        err.as_str().as_bytes(),
-    )
+    desk.expect_ending(rt, words.as_str(), ending)
 }
 
 #[test]
@@ -81,7 +67,7 @@ fn kernels_and_their_guarded_texts(rt: HostRuntime) -> Result<(), Fail> {
 
 #[test]
 fn guard_stands_once_and_behind_compile_alone(rt: HostRuntime) -> Result<(), Fail> {
-    for line in "compile --guard i k --guard
+    let lines = "compile --guard i k --guard
         compile --guard=1 i k
         compile --guard= i k
         compile --guards i k
@@ -91,42 +77,31 @@ fn guard_stands_once_and_behind_compile_alone(rt: HostRuntime) -> Result<(), Fai
         lift --guard i
         eval --guard k m
         run --guard i k m
-        --guard compile i k"
-        .lines()
-    {
-        let mut desk = Desk::with_kernel(rt.alloc(), TWO)?;
-        desk.expect(&rt, line.trim(), Status::Usage, b"", b"vegen: usage\n")?;
-        desk.expect_reads(&rt, 0);
-    }
-    Ok(())
+        --guard compile i k";
+    expect_each(&rt, rt.alloc(), &[("i", b""), ("k", TWO)], USAGE, lines)
 }
 
 #[test]
 fn the_side_that_the_checks_name_is_run(rt: HostRuntime) -> Result<(), Fail> {
     let alloc = rt.alloc();
-    expect_left(
+    expect_row(
         &rt,
         alloc,
         GUARDED,
         "p=4 q=0 => 1 2 3 4 5 6 7 8 9 10 11 12 => 1 2 3 4 1 2 3 4 1 2 3 4",
     )?;
-    expect_left(
+    expect_row(
         &rt,
         alloc,
         GUARDED,
         "p=8 q=0 => 1 2 3 4 5 6 7 8 9 10 11 12 13 14 15 16 => 1 2 3 4 5 6 7 8 1 2 3 4 5 6 7 8",
     )?;
     // Ranges that touch are disjoint; at the end of the numbers nothing wraps.
-    let sides = lines_of(alloc, SIDES, b'|')?;
-    for row in "p=0 q=2 => 9 9 9 9 => 1 9 9 9
+    let rows = "p=0 q=2 => 9 9 9 9 => 1 9 9 9
         p=0 q=1 => 9 9 9 9 => 2 9 9 9
         p=2 q=0 => 9 9 9 9 => 9 9 1 9
-        p=0 q=18446744073709551615 => 9 9 9 9 => 1 9 9 9"
-        .lines()
-    {
-        expect_left(&rt, alloc, sides.as_slice(), row)?;
-    }
-    Ok(())
+        p=0 q=18446744073709551615 => 9 9 9 9 => 1 9 9 9";
+    expect_sides(&rt, alloc, rows)
 }
 
 #[test]

@@ -3,6 +3,7 @@
 
 use crate::desk::{Desk, status_of};
 use crate::instruction_files::ADD;
+use crate::memories::cut;
 use std::alloc::Global;
 use std::process::Abort;
 use std::test::Fail;
@@ -30,13 +31,14 @@ trial none 0 => none
 
 /// A desk with all files of the commands, and so much room for an answer.
 pub fn desk_of_room(alloc: Global, room: usize) -> Result<Desk, Fail> {
-    let mut desk = Desk::new(alloc, room)?;
-    desk.shelf.put("none", b"")?;
-    desk.shelf.put("i", ADD.as_bytes())?;
-    desk.shelf.put("k", KERNEL)?;
-    desk.shelf.put("p", PROGRAM)?;
-    desk.shelf.put("m", b"12345678")?;
-    Ok(desk)
+    let files: [(&str, &[u8]); 5] = [
+        ("none", b""),
+        ("i", ADD.as_bytes()),
+        ("k", KERNEL),
+        ("p", PROGRAM),
+        ("m", b"12345678"),
+    ];
+    Desk::holding(alloc, room, &files)
 }
 
 /// Asserts that a command ends with the read of this number, which fails and is of this file.
@@ -47,25 +49,29 @@ fn expect_read_fault(
     number: u64,
     file: &str,
 ) -> Result<(), Fail> {
+    let said = format!(in alloc; "vegen: read fault: {file}\n")?;
     let mut desk = desk_of_room(alloc, 1000)?;
     desk.shelf.fail_read(number)?;
-    let said = format!(in alloc; "vegen: read fault: {file}\n")?;
     desk.expect(rt, line, Status::ReadFault, b"", said.as_bytes())?;
     desk.expect_reads(rt, number.saturating_add(1));
+    Ok(())
+}
+
+/// Asserts the same of each read of a command, a line of words, an arrow, and its files.
+fn expect_read_faults(rt: &impl Abort, alloc: Global, row: &str) -> Result<(), Fail> {
+    let (line, files) = cut(row)?;
+    let mut number = 0u64;
+    for file in files.split_whitespace() {
+        expect_read_fault(rt, alloc, line, number, file)?;
+        number = number.saturating_add(1);
+    }
     Ok(())
 }
 
 #[test]
 fn a_read_that_fails_ends_each_command(rt: HostRuntime) -> Result<(), Fail> {
     for row in COMMANDS.trim().lines() {
-        let Some((line, files)) = row.split_once(" => ") else {
-            return Err(Fail::new("a row without files"));
-        };
-        let mut number = 0u64;
-        for file in files.split_whitespace() {
-            expect_read_fault(&rt, rt.alloc(), line, number, file)?;
-            number = number.saturating_add(1);
-        }
+        expect_read_faults(&rt, rt.alloc(), row)?;
     }
     Ok(())
 }
@@ -78,22 +84,39 @@ fn answer_to(rt: &impl Abort, alloc: Global, line: &str) -> Result<Vec<u8>, Fail
     Ok(Vec::from_slice(alloc, desk.out.written())?)
 }
 
+/// Asserts that a command writes a front of its answer where there is room for no more.
+fn expect_front(rt: &impl Abort, alloc: Global, line: &str, front: &[u8]) -> Result<(), Fail> {
+    let mut desk = desk_of_room(alloc, front.len())?;
+    let said = b"vegen: write fault\n";
+    desk.expect(rt, line, Status::WriteFault, front, said)
+}
+
+/// Asserts the same of each front that is not the whole.
+fn expect_fronts(rt: &impl Abort, alloc: Global, line: &str) -> Result<(), Fail> {
+    let answer = answer_to(rt, alloc, line)?;
+    assert!(rt; !answer.is_empty(), "{line}");
+    for room in 0..answer.len() {
+        expect_front(rt, alloc, line, &answer.as_slice()[..room])?;
+    }
+    Ok(())
+}
+
 #[test]
 fn each_room_that_is_too_small_keeps_a_front(rt: HostRuntime) -> Result<(), Fail> {
     for row in COMMANDS.trim().lines() {
-        let Some((line, _)) = row.split_once(" => ") else {
-            return Err(Fail::new("a row without files"));
-        };
-        let answer = answer_to(&rt, rt.alloc(), line)?;
-        assert!(rt; !answer.is_empty(), "{line}");
-        for room in 0..answer.len() {
-            let mut desk = desk_of_room(rt.alloc(), room)?;
-            let front = &answer.as_slice()[..room];
-            let said = b"vegen: write fault\n";
-            desk.expect(&rt, line, Status::WriteFault, front, said)?;
-        }
+        let (line, _) = cut(row)?;
+        expect_fronts(&rt, rt.alloc(), line)?;
     }
     Ok(())
+}
+
+/// Asserts how a command ends where `err` has room for three bytes.
+fn expect_full(rt: &impl Abort, alloc: Global, row: &str) -> Result<(), Fail> {
+    let (line, status) = cut(row)?;
+    let mut desk = desk_of_room(alloc, 1000)?;
+    desk.put_all(&[("dead", DEAD), ("four", b"1234")])?;
+    desk.err = MemSink::new(alloc, 3)?;
+    desk.expect(rt, line, status_of(status), b"", b"veg")
 }
 
 #[test]
@@ -109,14 +132,7 @@ eval k m d=5 s=0 => Trap
 run none dead four p=0 => Trap
 ";
     for row in rows.trim().lines() {
-        let Some((line, status)) = row.split_once(" => ") else {
-            return Err(Fail::new("a row without a status"));
-        };
-        let mut desk = desk_of_room(rt.alloc(), 1000)?;
-        desk.shelf.put("dead", DEAD)?;
-        desk.shelf.put("four", b"1234")?;
-        desk.err = MemSink::new(rt.alloc(), 3)?;
-        desk.expect(&rt, line, status_of(status), b"", b"veg")?;
+        expect_full(&rt, rt.alloc(), row)?;
     }
     Ok(())
 }

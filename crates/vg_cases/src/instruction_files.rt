@@ -1,7 +1,7 @@
 //! Instruction files of the commands: entries that are read, and the first refusal with its place.
 
-use crate::desk::Desk;
-use crate::memories::lines_of;
+use crate::desk::{Desk, expect_ended};
+use crate::memories::{cut_line, lines_of};
 use std::alloc::Global;
 use std::process::Abort;
 use std::test::Fail;
@@ -26,8 +26,8 @@ fn expect_compile(
     status: Status,
     said: &[u8],
 ) -> Result<(), Fail> {
-    let mut desk = Desk::with_kernel(alloc, NOTHING)?;
-    desk.shelf.put("i", file)?;
+    let files: [(&str, &[u8]); 2] = [("i", file), ("k", NOTHING)];
+    let mut desk = Desk::holding(alloc, 1 << 20, &files)?;
     let written: &[u8] = if said.is_empty() { PROGRAM } else { b"" };
     desk.expect(rt, "compile i k", status, written, said)
 }
@@ -40,10 +40,8 @@ fn expect_run(
     status: Status,
     said: &[u8],
 ) -> Result<(), Fail> {
-    let mut desk = Desk::with_kernel(alloc, NOTHING)?;
-    desk.shelf.put("i", file)?;
-    desk.shelf.put("p", PROGRAM)?;
-    desk.shelf.put("m", b"")?;
+    let files: [(&str, &[u8]); 3] = [("i", file), ("p", PROGRAM), ("m", b"")];
+    let mut desk = Desk::holding(alloc, 1 << 20, &files)?;
     desk.expect(rt, "run i p m", status, b"", said)
 }
 
@@ -52,12 +50,12 @@ fn expect_both(
     rt: &impl Abort,
     alloc: Global,
     front: &str,
-    back: &str,
+    back: &[u8],
     status: Status,
     said: &[u8],
 ) -> Result<(), Fail> {
     let mut text = Vec::from_slice(alloc, front.as_bytes())?;
-    text.extend_from_slice(back.as_bytes())?;
+    text.extend_from_slice(back)?;
     expect_compile(rt, alloc, text.as_slice(), status, said)?;
     expect_run(rt, alloc, text.as_slice(), status, said)
 }
@@ -65,10 +63,10 @@ fn expect_both(
 #[test]
 fn files_without_a_fault_change_nothing(rt: HostRuntime) -> Result<(), Fail> {
     let alloc = rt.alloc();
-    expect_both(&rt, alloc, " ", "\n", Status::Ok, b"")?;
-    expect_both(&rt, alloc, "// a comment\n", "", Status::Ok, b"")?;
-    expect_both(&rt, alloc, ADD, "", Status::Ok, b"")?;
-    let copy = "dst[31:0] := a[31:0]\nEND";
+    expect_both(&rt, alloc, " ", b"\n", Status::Ok, b"")?;
+    expect_both(&rt, alloc, "// a comment\n", b"", Status::Ok, b"")?;
+    expect_both(&rt, alloc, ADD, b"", Status::Ok, b"")?;
+    let copy = b"dst[31:0] := a[31:0]\nEND";
     expect_both(&rt, alloc, HEADER, copy, Status::Ok, b"")
 }
 
@@ -77,67 +75,48 @@ fn refused(
     rt: &impl Abort,
     alloc: Global,
     front: &str,
-    back: &str,
+    back: &[u8],
     said: &str,
 ) -> Result<(), Fail> {
     let line = format!(in alloc; "vegen: instructions: {said}\n")?;
-    expect_both(
-        rt,
-        alloc,
-        front,
-        back,
-        Status::InstructionsRefused,
-        line.as_bytes(),
-    )
+    let status = Status::InstructionsRefused;
+    expect_both(rt, alloc, front, back, status, line.as_bytes())
 }
 
-/// A row is the operation after the header, in which each `;` ends a line, an arrow, and what is said.
-fn refuse_row(rt: &impl Abort, alloc: Global, row: &str) -> Result<(), Fail> {
-    let Some((operation, said)) = row.trim().split_once(" => ") else {
-        return Err("an arrow is missing".into());
-    };
-    let file = lines_of(alloc, operation, b';')?;
-    let line = format!(in alloc; "vegen: instructions: {said}\n")?;
-    let mut text = Vec::from_slice(alloc, HEADER.as_bytes())?;
-    text.extend_from_slice(file.as_slice())?;
-    expect_compile(
-        rt,
-        alloc,
-        text.as_slice(),
-        Status::InstructionsRefused,
-        line.as_bytes(),
-    )?;
-    expect_run(
-        rt,
-        alloc,
-        text.as_slice(),
-        Status::InstructionsRefused,
-        line.as_bytes(),
-    )
+/// Each row is the operation after the header, in which each `;` ends a line, an arrow, and what is
+/// said.
+fn refuse_operations(rt: &impl Abort, alloc: Global, rows: &str) -> Result<(), Fail> {
+    for row in rows.trim().lines() {
+        let (operation, said) = cut_line(row)?;
+        let lines = lines_of(alloc, operation, b';')?;
+        refused(rt, alloc, HEADER, lines.as_slice(), said)?;
+    }
+    Ok(())
 }
 
-#[test]
-fn the_first_refusal_is_told_with_its_place(rt: HostRuntime) -> Result<(), Fail> {
-    let alloc = rt.alloc();
-    refused(&rt, alloc, "\u{80}", "", "1 Token at 1:1")?;
-    refused(&rt, alloc, "INSTRUCTION", "", "12 Header at 1:12")?;
-    refused(
-        &rt,
-        alloc,
-        "INSTRUCTION x PARAM a 256 M512",
-        "",
-        "12 Header at 1:27",
-    )?;
-    refused(&rt, alloc, ADD, ADD, "13 DuplicateName at 8:13")?;
-    refused(
-        &rt,
-        alloc,
+// Two texts that are one file, and what is said of it.
+const REFUSED: [(&str, &str, &str); 6] = [
+    ("\u{80}", "", "1 Token at 1:1"),
+    ("INSTRUCTION", "", "12 Header at 1:12"),
+    ("INSTRUCTION x PARAM a 256 M512", "", "12 Header at 1:27"),
+    (ADD, ADD, "13 DuplicateName at 8:13"),
+    (
         "INSTRUCTION x PARAM a 128 SI32 RESULT dst 128 SI32 EXTENSION SSE9",
         "",
         "15 ExtensionUnknown at 1:62",
-    )?;
-    refused(&rt, alloc, ADD, "END", "12 Header at 8:1")?;
-    let rows = "
+    ),
+    (ADD, "END", "12 Header at 8:1"),
+];
+
+#[test]
+fn the_first_refusal_is_told_with_its_place(rt: HostRuntime) -> Result<(), Fail> {
+    for (front, back, said) in REFUSED {
+        refused(&rt, rt.alloc(), front, back.as_bytes(), said)?;
+    }
+    refuse_operations(
+        &rt,
+        rt.alloc(),
+        "
         FOR j := 0 to 3;END => 2 Shape at 8:1
         dst[31:0] := b[31:0];END => 4 UnknownName at 7:14
         dst[159:128] := a[31:0];END => 5 IndexOutside at 7:1
@@ -146,24 +125,13 @@ fn the_first_refusal_is_told_with_its_place(rt: HostRuntime) -> Result<(), Fail>
         FOR j := 1 to 4097 ENDFOR;END => 9 TooLong at 7:1
         dst[31:0] := SignExtend8(a[15:0]);END => 10 BadExtend at 7:14
         t[3:0] := 1;dst[31:0] := t;END => 11 BareRegister at 8:14
-    ";
-    for row in rows.trim().lines() {
-        refuse_row(&rt, alloc, row)?;
-    }
-    Ok(())
+    ",
+    )
 }
 
 #[test]
 fn nothing_behind_a_refused_file_is_read(rt: HostRuntime) -> Result<(), Fail> {
-    let mut desk = Desk::with_kernel(rt.alloc(), b"no kernel")?;
-    desk.shelf.put("i", b"INSTRUCTION")?;
-    desk.expect(
-        &rt,
-        "compile i k",
-        Status::InstructionsRefused,
-        b"",
-        b"vegen: instructions: 12 Header at 1:12\n",
-    )?;
-    desk.expect_reads(&rt, 1);
-    Ok(())
+    let files: [(&str, &[u8]); 2] = [("i", b"INSTRUCTION"), ("k", b"no kernel")];
+    let row = "1 => InstructionsRefused => instructions: 12 Header at 1:12";
+    expect_ended(&rt, rt.alloc(), &files, "compile i k", row)
 }

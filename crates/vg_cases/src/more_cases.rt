@@ -19,11 +19,12 @@ const WITH: &[u8] = b"\nend cost 8 scalar 32\n";
 
 /// Asserts how the answer to a line ends.
 fn expect_end(rt: &impl Abort, alloc: Global, line: &str, end: &[u8]) -> Result<(), Fail> {
-    let mut desk = Desk::new(alloc, 1 << 16)?;
-    desk.shelf.put("i", ADD)?;
-    desk.shelf.put("k", SUMS)?;
-    assert!(rt; desk.run(line)? == Status::Ok, "{line}");
-    assert!(rt; desk.out.written().ends_with(end), "{line}");
+    let mut desk = Desk::holding(alloc, 1 << 16, &[("i", ADD), ("k", SUMS)])?;
+    let status = desk.run(line)?;
+    assert!(rt;
+        status == Status::Ok && desk.out.written().ends_with(end),
+        "{line}"
+    );
     Ok(())
 }
 

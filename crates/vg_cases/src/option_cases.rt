@@ -1,6 +1,6 @@
 //! Worked cases of the options of `compile` and `explain`, and of `explain`.
 
-use crate::desk::Desk;
+use crate::desk::{Desk, USAGE, expect_each};
 use std::alloc::Global;
 use std::process::Abort;
 use std::test::Fail;
@@ -15,13 +15,6 @@ const PROGRAM: &[u8] =
 
 const PLAN: &[u8] = b"pack store 8 p+0\npack load 8 q+0\nplan cost 2 plain 2 scalar 4\n";
 
-fn expect_usage(rt: &impl Abort, alloc: Global, line: &str) -> Result<(), Fail> {
-    let mut desk = Desk::with_kernel(alloc, TWO)?;
-    desk.expect(rt, line, Status::Usage, b"", b"vegen: usage\n")?;
-    desk.expect_reads(rt, 0);
-    Ok(())
-}
-
 fn expect_answer(rt: &impl Abort, alloc: Global, line: &str, out: &[u8]) -> Result<(), Fail> {
     let mut desk = Desk::with_kernel(alloc, TWO)?;
     desk.expect(rt, line, Status::Ok, out, b"")?;
@@ -29,9 +22,16 @@ fn expect_answer(rt: &impl Abort, alloc: Global, line: &str, out: &[u8]) -> Resu
     Ok(())
 }
 
+fn expect_answers(rt: &impl Abort, alloc: Global, lines: &str, out: &[u8]) -> Result<(), Fail> {
+    for line in lines.lines() {
+        expect_answer(rt, alloc, line, out)?;
+    }
+    Ok(())
+}
+
 #[test]
 fn options_that_are_no_request_read_nothing(rt: HostRuntime) -> Result<(), Fail> {
-    for line in "compile --width 0 i k
+    let lines = "compile --width 0 i k
         compile --width 4097 i k
         compile --width=1 --width=1 i k
         compile --width= i k
@@ -59,37 +59,25 @@ fn options_that_are_no_request_read_nothing(rt: HostRuntime) -> Result<(), Fail>
         run --more i p m
         eval k m --more
         trial --more i 1
-        check --more i k p"
-        .lines()
-    {
-        expect_usage(&rt, rt.alloc(), line)?;
-    }
-    Ok(())
+        check --more i k p";
+    expect_each(&rt, rt.alloc(), &[("i", b""), ("k", TWO)], USAGE, lines)
 }
 
 #[test]
 fn options_stand_anywhere(rt: HostRuntime) -> Result<(), Fail> {
-    for line in "compile i k
+    let lines = "compile i k
         compile --width=1 --with AVX2 --with=SSE2 i k
         compile i --width 0004096 k --with AVX512BW
         compile i k --with SSE2 --with SSE2
         compile --more i k
-        compile --width=8 i k --more --with AVX2"
-        .lines()
-    {
-        expect_answer(&rt, rt.alloc(), line, PROGRAM)?;
-    }
-    Ok(())
+        compile --width=8 i k --more --with AVX2";
+    expect_answers(&rt, rt.alloc(), lines, PROGRAM)
 }
 
 #[test]
 fn the_plan_of_two_words_is_explained(rt: HostRuntime) -> Result<(), Fail> {
-    for line in "explain i k
+    let lines = "explain i k
         explain --width 1 i --with=SSE4.1 k
-        explain i --more k"
-        .lines()
-    {
-        expect_answer(&rt, rt.alloc(), line, PLAN)?;
-    }
-    Ok(())
+        explain i --more k";
+    expect_answers(&rt, rt.alloc(), lines, PLAN)
 }

@@ -1,7 +1,7 @@
 //! Worked cases of `run`.
 
-use crate::desk::{Desk, status_of};
-use crate::memories::{bytes_of, lines_of};
+use crate::desk::{Desk, USAGE, expect_each, expect_ended, expect_left, status_of};
+use crate::memories::{cut, cut_line, lines_of};
 use std::alloc::{AllocError, Global};
 use std::process::Abort;
 use std::test::Fail;
@@ -26,28 +26,17 @@ fn desk_with(alloc: Global, program: &[u8], memory: &[u8]) -> Result<Desk, Fail>
 
 /// The same, with room for so many bytes to be written.
 fn desk_of_room(alloc: Global, room: usize, program: &[u8], memory: &[u8]) -> Result<Desk, Fail> {
-    let mut desk = Desk::new(alloc, room)?;
-    desk.shelf.put("i", b"")?;
-    desk.shelf.put("p", program)?;
+    let mut desk = Desk::holding(alloc, room, &[("i", b""), ("p", program)])?;
     desk.shelf.put("m", memory)?;
     Ok(desk)
 }
 
 /// A row is bindings, an arrow, a memory, an arrow, and what the program leaves of it.
-fn expect_left(rt: &impl Abort, alloc: Global, program: &[u8], row: &str) -> Result<(), Fail> {
-    let Some((bindings, memories)) = row.split_once(" => ") else {
-        return Err("an arrow is missing".into());
-    };
-    let Some((memory, left)) = memories.split_once(" => ") else {
-        return Err("a memory is missing".into());
-    };
-    let memory = bytes_of(alloc, memory)?;
-    let left = bytes_of(alloc, left)?;
+fn expect_row(rt: &impl Abort, alloc: Global, program: &[u8], row: &str) -> Result<(), Fail> {
+    let (bindings, memories) = cut(row)?;
     let line = format!(in alloc; "run i p m {bindings}")?;
-    let mut desk = desk_with(alloc, program, memory.as_slice())?;
-    desk.expect(rt, line.as_str(), Status::Ok, left.as_slice(), b"")?;
-    desk.expect_reads(rt, 3);
-    Ok(())
+    let files: [(&str, &[u8]); 2] = [("i", b""), ("p", program)];
+    expect_left(rt, alloc, &files, line.as_str(), memories, 3)
 }
 
 #[test]
@@ -55,17 +44,17 @@ fn programs_and_the_memory_that_they_leave(rt: HostRuntime) -> Result<(), Fail> 
     let alloc = rt.alloc();
     // Both words overlap what they are copied from.
     let twelve = "p=4 q=0 => 1 2 3 4 5 6 7 8 9 10 11 12 => 1 2 3 4 1 2 3 4 1 2 3 4";
-    expect_left(&rt, alloc, TWO, twelve)?;
+    expect_row(&rt, alloc, TWO, twelve)?;
     // A load that nothing uses leaves the memory.
-    expect_left(&rt, alloc, DEAD, "p=0 => 9 8 7 6 5 => 9 8 7 6 5")?;
+    expect_row(&rt, alloc, DEAD, "p=0 => 9 8 7 6 5 => 9 8 7 6 5")?;
     // 255 and -1 are one byte.
-    expect_left(&rt, alloc, PUT, "d=0 k=255 => 3 => 255")?;
-    expect_left(&rt, alloc, PUT, "k=-1 d=0 => 3 => 255")?;
-    expect_left(&rt, alloc, PUT, "k=-128 d=1 => 3 4 => 3 128")?;
+    expect_row(&rt, alloc, PUT, "d=0 k=255 => 3 => 255")?;
+    expect_row(&rt, alloc, PUT, "k=-1 d=0 => 3 => 255")?;
+    expect_row(&rt, alloc, PUT, "k=-128 d=1 => 3 4 => 3 128")?;
     // 0x0201 + 0xff00 - 1 is 0x0100 modulo 2^16.
-    expect_left(&rt, alloc, SUM, "d=1 k=65280 => 7 7 1 2 => 0 1 1 2")?;
+    expect_row(&rt, alloc, SUM, "d=1 k=65280 => 7 7 1 2 => 0 1 1 2")?;
     let none = b"program none()\nend cost 0 scalar 0\n";
-    expect_left(&rt, alloc, none, " => 0*0 => 0*0")
+    expect_row(&rt, alloc, none, " => 0*0 => 0*0")
 }
 
 /// A memory of 16 MiB with this last byte.
@@ -110,16 +99,25 @@ fn largest_program(alloc: Global) -> Result<Vec<u8>, AllocError> {
     Ok(text)
 }
 
+/// Asserts that a program puts 7 into a memory of one byte.
+fn expect_put(rt: &impl Abort, alloc: Global, program: &[u8], line: &str) -> Result<(), Fail> {
+    let mut desk = desk_with(alloc, program, b"1")?;
+    desk.expect(rt, line, Status::Ok, &[7], b"")
+}
+
+/// Asserts that a program is too large.
+fn expect_too_long(rt: &impl Abort, alloc: Global, program: &[u8], line: &str) -> Result<(), Fail> {
+    let mut desk = desk_with(alloc, program, b"1")?;
+    desk.expect(rt, line, Status::TooLarge, b"", b"vegen: too large: p\n")
+}
+
 #[test]
 fn a_program_of_4_mib_is_the_largest(rt: HostRuntime) -> Result<(), Fail> {
     let line = "run i p m d=0 k=7";
     let mut text = largest_program(rt.alloc())?;
-    let mut desk = desk_with(rt.alloc(), text.as_slice(), b"1")?;
-    desk.expect(&rt, line, Status::Ok, &[7], b"")?;
+    expect_put(&rt, rt.alloc(), text.as_slice(), line)?;
     text.push(b'\n')?;
-    let mut desk = desk_with(rt.alloc(), text.as_slice(), b"1")?;
-    let said = b"vegen: too large: p\n";
-    desk.expect(&rt, line, Status::TooLarge, b"", said)
+    expect_too_long(&rt, rt.alloc(), text.as_slice(), line)
 }
 
 /// Asserts that a program traps on a memory.
@@ -152,16 +150,14 @@ fn accesses_outside_the_memory_trap(rt: HostRuntime) -> Result<(), Fail> {
     expect_trap(&rt, alloc, SUM, &[0; 20], "run i p m d=0 k=0")
 }
 
-/// Asserts that bindings are refused, after all three files.
-fn refuse_bindings(rt: &impl Abort, alloc: Global, program: &[u8], line: &str) -> Result<(), Fail> {
-    let mut desk = desk_with(alloc, program, &[0; 20])?;
-    desk.expect(rt, line, Status::BindingsRefused, b"", b"vegen: bindings\n")?;
-    desk.expect_reads(rt, 3);
-    Ok(())
-}
+const ZEROS: &[u8] = &[0; 20];
+
+/// How bindings are refused, after all three files.
+const BINDINGS: &str = "3 => BindingsRefused => bindings";
 
 #[test]
 fn bindings_that_are_refused(rt: HostRuntime) -> Result<(), Fail> {
+    let put: [(&str, &[u8]); 3] = [("i", b""), ("p", PUT), ("m", ZEROS)];
     let lines = "
         run i p m d=0 d=4
         run i p m d=0 d=0 k=1
@@ -171,22 +167,15 @@ fn bindings_that_are_refused(rt: HostRuntime) -> Result<(), Fail> {
         run i p m d=-1 k=1
         run i p m d=0 k=1 z=1
     ";
-    for line in lines.trim().lines() {
-        refuse_bindings(&rt, rt.alloc(), PUT, line)?;
-    }
-    refuse_bindings(&rt, rt.alloc(), FAR, "run i p m p=18446744073709551616")
-}
-
-/// Asserts that words are no request, and that nothing is read.
-fn expect_usage(rt: &impl Abort, alloc: Global, line: &str) -> Result<(), Fail> {
-    let mut desk = desk_with(alloc, PUT, b"1")?;
-    desk.expect(rt, line, Status::Usage, b"", b"vegen: usage\n")?;
-    desk.expect_reads(rt, 0);
-    Ok(())
+    expect_each(&rt, rt.alloc(), &put, BINDINGS, lines)?;
+    let far: [(&str, &[u8]); 3] = [("i", b""), ("p", FAR), ("m", ZEROS)];
+    let line = "run i p m p=18446744073709551616";
+    expect_ended(&rt, rt.alloc(), &far, line, BINDINGS)
 }
 
 #[test]
 fn words_that_are_no_request_to_run(rt: HostRuntime) -> Result<(), Fail> {
+    let files: [(&str, &[u8]); 3] = [("i", b""), ("p", PUT), ("m", b"1")];
     let lines = "
         run i p
         run i p -m
@@ -197,10 +186,7 @@ fn words_that_are_no_request_to_run(rt: HostRuntime) -> Result<(), Fail> {
         run i p m d=000000000000000000001
         run i p m 1d=1
     ";
-    for line in lines.trim().lines() {
-        expect_usage(&rt, rt.alloc(), line)?;
-    }
-    Ok(())
+    expect_each(&rt, rt.alloc(), &files, USAGE, lines)
 }
 
 /// Asserts what is said of a program that is refused, after which nothing is read.
@@ -221,9 +207,7 @@ fn refused(rt: &impl Abort, alloc: Global, program: &[u8], said: &str) -> Result
 /// Each line is a program, in which each `;` ends a line, an arrow, and what is said of it.
 fn refuse_rows(rt: &impl Abort, alloc: Global, rows: &str) -> Result<(), Fail> {
     for row in rows.trim().lines() {
-        let Some((program, said)) = row.trim().split_once(" => ") else {
-            return Err("an arrow is missing".into());
-        };
+        let (program, said) = cut_line(row)?;
         let text = lines_of(alloc, program, b';')?;
         refused(rt, alloc, text.as_slice(), said)?;
     }
@@ -307,17 +291,14 @@ fn programs_with_numbers_that_are_refused(rt: HostRuntime) -> Result<(), Fail> {
     )
 }
 
-/// A row is a line of words, an arrow, how it ends, and how many files are read.
+/// A row is a line of words, an arrow, how it ends, an arrow, and how many files are read.
 fn expect_reads(rt: &impl Abort, alloc: Global, row: &str) -> Result<(), Fail> {
-    let Some((line, wanted)) = row.trim().split_once(" => ") else {
-        return Err("an arrow is missing".into());
-    };
-    let Some((status, reads)) = wanted.split_once(' ') else {
-        return Err("a count is missing".into());
-    };
+    let (line, wanted) = cut_line(row)?;
+    let (status, reads) = cut(wanted)?;
     let reads = reads.parse::<u64>()?;
     let mut desk = desk_with(alloc, PUT, &[0; 20])?;
-    assert!(rt; desk.run(line)? == status_of(status), "{row}");
+    let ended = desk.run(line)?;
+    assert!(rt; ended == status_of(status), "{row}");
     desk.expect_reads(rt, reads);
     Ok(())
 }
@@ -325,15 +306,15 @@ fn expect_reads(rt: &impl Abort, alloc: Global, row: &str) -> Result<(), Fail> {
 #[test]
 fn files_are_read_up_to_the_refused_one(rt: HostRuntime) -> Result<(), Fail> {
     let rows = "
-        run -i p m => Usage 0
-        run x p m => InputAbsent 1
-        run m p m => InstructionsRefused 1
-        run i x m => InputAbsent 2
-        run i m x => ProgramRefused 2
-        run i p x d=0 => InputAbsent 3
-        run i p m d=0 => BindingsRefused 3
-        compile i x => InputAbsent 2
-        compile i p => KernelRefused 2
+        run -i p m => Usage => 0
+        run x p m => InputAbsent => 1
+        run m p m => InstructionsRefused => 1
+        run i x m => InputAbsent => 2
+        run i m x => ProgramRefused => 2
+        run i p x d=0 => InputAbsent => 3
+        run i p m d=0 => BindingsRefused => 3
+        compile i x => InputAbsent => 2
+        compile i p => KernelRefused => 2
     ";
     for row in rows.trim().lines() {
         expect_reads(&rt, rt.alloc(), row)?;

@@ -3,7 +3,7 @@
 use crate::desk::Desk;
 use crate::hostile_cases::{KERNEL, PROGRAM, desk_of_room};
 use crate::instruction_files::{ADD, HEADER};
-use crate::memories::fill;
+use crate::memories::cut;
 use std::alloc::Global;
 use std::process::Abort;
 use std::test::Fail;
@@ -28,8 +28,8 @@ fn expect_fronts(
 ) -> Result<(), Fail> {
     for len in count..text.len() {
         let mut desk = desk_with(alloc, file, &text[..len])?;
-        assert!(rt; desk.run(line)? == status, "{line}");
-        assert!(rt; desk.out.written().is_empty(), "{line}");
+        let ended = desk.run(line)?;
+        assert!(rt; ended == status && desk.out.written().is_empty(), "{line}");
     }
     Ok(())
 }
@@ -81,17 +81,39 @@ fn each_front_of_an_instruction_file_is_refused(rt: HostRuntime) -> Result<(), F
 /// A text in so many parentheses, between two others.
 fn in_parentheses(
     alloc: Global,
-    before: &[u8],
+    before: &str,
     depth: u32,
-    text: &[u8],
-    behind: &[u8],
-) -> Result<Vec<u8>, Fail> {
-    let mut all = Vec::from_slice(alloc, before)?;
-    fill(&mut all, depth, b'(')?;
-    all.extend_from_slice(text)?;
-    fill(&mut all, depth, b')')?;
-    all.extend_from_slice(behind)?;
+    text: &str,
+    behind: &str,
+) -> Result<String, Fail> {
+    let opening = copies(alloc, depth, "(")?;
+    let closing = copies(alloc, depth, ")")?;
+    Ok(format!(in alloc; "{before}{opening}{text}{closing}{behind}")?)
+}
+
+/// So many copies of a text.
+fn copies(alloc: Global, count: u32, text: &str) -> Result<String, Fail> {
+    let mut all = String::new(alloc);
+    for _ in 0..count {
+        all.push_str(text)?;
+    }
     Ok(all)
+}
+
+/// Asserts how a line ends where this file has this text.
+fn expect_end(
+    rt: &impl Abort,
+    alloc: Global,
+    line: &str,
+    file: &str,
+    text: &str,
+    status: Status,
+    said: &[u8],
+) -> Result<(), Fail> {
+    let mut desk = desk_with(alloc, file, text.as_bytes())?;
+    let ended = desk.run(line)?;
+    assert!(rt; ended == status && desk.err.written() == said);
+    Ok(())
 }
 
 /// Asserts how a kernel of a literal in so many parentheses is answered.
@@ -102,12 +124,17 @@ fn expect_literal(
     status: Status,
     said: &[u8],
 ) -> Result<(), Fail> {
-    let before = b"kernel deep(p: ptr) { store8(p + 0, ";
-    let text = in_parentheses(alloc, before, depth, b"0i8", b"); }")?;
-    let mut desk = desk_with(alloc, "k", text.as_slice())?;
-    assert!(rt; desk.run("compile none k")? == status);
-    assert!(rt; desk.err.written() == said);
-    Ok(())
+    let before = "kernel deep(p: ptr) { store8(p + 0, ";
+    let text = in_parentheses(alloc, before, depth, "0i8", "); }")?;
+    expect_end(
+        rt,
+        alloc,
+        "compile none k",
+        "k",
+        text.as_str(),
+        status,
+        said,
+    )
 }
 
 /// The literal is the node that is one too deep, after the 36 bytes before it and 256 parentheses.
@@ -126,13 +153,10 @@ fn expect_number(
     status: Status,
     said: &[u8],
 ) -> Result<(), Fail> {
-    let operation = in_parentheses(alloc, b"dst[7:0] := ", depth, b"0", b"\nEND\n")?;
-    let mut text = Vec::from_slice(alloc, HEADER.as_bytes())?;
-    text.extend_from_slice(operation.as_slice())?;
-    let mut desk = desk_with(alloc, "i", text.as_slice())?;
-    assert!(rt; desk.run("lift i")? == status);
-    assert!(rt; desk.err.written() == said);
-    Ok(())
+    let header = HEADER;
+    let operation = in_parentheses(alloc, "dst[7:0] := ", depth, "0", "\nEND\n")?;
+    let text = format!(in alloc; "{header}{operation}")?;
+    expect_end(rt, alloc, "lift i", "i", text.as_str(), status, said)
 }
 
 /// What is too deep is told at the front of the whole expression.
@@ -143,33 +167,29 @@ fn a_number_of_an_entry_in_63_parentheses_is_the_deepest(rt: HostRuntime) -> Res
     expect_number(&rt, rt.alloc(), 64, Status::InstructionsRefused, said)
 }
 
-/// A row is a line of words, an arrow, one of its files, and the most bytes of such a file: asserts
-/// that one byte more is too large.
+/// A row is a line of words, an arrow, one of its files, an arrow, and the most bytes of such a file:
+/// asserts that one byte more is too large.
 fn expect_too_large(rt: &impl Abort, alloc: Global, row: &str) -> Result<(), Fail> {
-    let Some((line, limit)) = row.split_once(" => ") else {
-        return Err("an arrow is missing".into());
-    };
-    let Some((file, most)) = limit.split_once(' ') else {
-        return Err("a limit is missing".into());
-    };
-    let mut text = vec![in alloc; b' '; most.parse::<usize>()?]?;
-    text.push(b' ')?;
-    let mut desk = desk_with(alloc, file, text.as_slice())?;
+    let (line, limit) = cut(row)?;
+    let (file, most) = cut(limit)?;
+    let size = most.parse::<usize>()?.saturating_add(1);
+    let text = vec![in alloc; b' '; size]?;
     let said = format!(in alloc; "vegen: too large: {file}\n")?;
+    let mut desk = desk_with(alloc, file, text.as_slice())?;
     desk.expect(rt, line, Status::TooLarge, b"", said.as_bytes())
 }
 
 #[test]
 fn files_of_one_byte_past_their_limit_are_too_large(rt: HostRuntime) -> Result<(), Fail> {
     let rows = "
-compile i k => i 1048576
-run i p m d=0 s=4 => i 1048576
-lift i => i 1048576
-trial i 0 => i 1048576
-explain none k => k 262144
-eval k m d=0 s=4 => k 262144
-run none p m d=0 s=4 => p 4194304
-eval k m d=0 s=4 => m 16777216
+compile i k => i => 1048576
+run i p m d=0 s=4 => i => 1048576
+lift i => i => 1048576
+trial i 0 => i => 1048576
+explain none k => k => 262144
+eval k m d=0 s=4 => k => 262144
+run none p m d=0 s=4 => p => 4194304
+eval k m d=0 s=4 => m => 16777216
 ";
     for row in rows.trim().lines() {
         expect_too_large(&rt, rt.alloc(), row)?;

@@ -1,16 +1,15 @@
 //! Worked cases of `trial`.
 
-use crate::desk::Desk;
+use crate::desk::{Desk, USAGE, expect_each, expect_ended};
 use crate::instruction_files::ADD;
+use crate::memories::cut;
 use std::alloc::Global;
 use std::process::Abort;
 use std::test::Fail;
 use vg_top::Status;
 
 fn desk_with(alloc: Global, instructions: &[u8]) -> Result<Desk, Fail> {
-    let mut desk = Desk::new(alloc, 1000)?;
-    desk.shelf.put("i", instructions)?;
-    Ok(desk)
+    Desk::holding(alloc, 1000, &[("i", instructions)])
 }
 
 /// Asserts the line on a number, with these instructions.
@@ -21,9 +20,9 @@ fn expect_line(
     number: &str,
     line: &str,
 ) -> Result<(), Fail> {
-    let mut desk = desk_with(alloc, instructions)?;
     let words = format!(in alloc; "trial i {number}")?;
     let out = format!(in alloc; "{line}\n")?;
+    let mut desk = desk_with(alloc, instructions)?;
     desk.expect(rt, words.as_str(), Status::Ok, out.as_bytes(), b"")?;
     desk.expect_reads(rt, 1);
     Ok(())
@@ -46,9 +45,7 @@ const BARE: &str = "
 #[test]
 fn without_instructions_a_kernel_costs_what_it_is_written(rt: HostRuntime) -> Result<(), Fail> {
     for row in BARE.trim().lines() {
-        let Some((number, line)) = row.split_once(" => ") else {
-            return Err(Fail::new("a row without a line"));
-        };
+        let (number, line) = cut(row)?;
         expect_line(&rt, rt.alloc(), b"", number, line)?;
     }
     Ok(())
@@ -64,16 +61,15 @@ fn four_sums_are_one_call(rt: HostRuntime) -> Result<(), Fail> {
 fn instructions_change_the_cost_alone(rt: HostRuntime) -> Result<(), Fail> {
     let mut desk = desk_with(rt.alloc(), ADD.as_bytes())?;
     let status = desk.run("trial i 39")?;
-    assert!(rt; status == Status::Ok);
     let line = desk.out.written();
+    assert!(rt; status == Status::Ok && line.ends_with(b" sum 405018\n"));
     assert!(rt; line.starts_with(b"trial 39: statements 288 scalar 2112 cost "));
-    assert!(rt; line.ends_with(b" sum 405018\n"));
     Ok(())
 }
 
 #[test]
 fn words_that_are_no_trial_read_nothing(rt: HostRuntime) -> Result<(), Fail> {
-    for line in "trial
+    let lines = "trial
         trial i
         trial i 4294967296
         trial i 99999999999999999999
@@ -84,32 +80,15 @@ fn words_that_are_no_trial_read_nothing(rt: HostRuntime) -> Result<(), Fail> {
         trial i 1 2
         trial --width 1 i 1
         trial --with SSE2 i 1
-        trial i d=1"
-        .lines()
-    {
-        let mut desk = desk_with(rt.alloc(), b"")?;
-        desk.expect(&rt, line, Status::Usage, b"", b"vegen: usage\n")?;
-        desk.expect_reads(&rt, 0);
-    }
-    Ok(())
+        trial i d=1";
+    expect_each(&rt, rt.alloc(), &[("i", b"")], USAGE, lines)
 }
 
 #[test]
 fn a_trial_ends_as_its_file_does(rt: HostRuntime) -> Result<(), Fail> {
-    let mut desk = desk_with(rt.alloc(), b"INSTRUCTION")?;
-    desk.expect(
-        &rt,
-        "trial i 1",
-        Status::InstructionsRefused,
-        b"",
-        b"vegen: instructions: 12 Header at 1:12\n",
-    )?;
-    let mut desk = desk_with(rt.alloc(), b"")?;
-    desk.expect(
-        &rt,
-        "trial j 1",
-        Status::InputAbsent,
-        b"",
-        b"vegen: absent: j\n",
-    )
+    let refused = "1 => InstructionsRefused => instructions: 12 Header at 1:12";
+    let files: [(&str, &[u8]); 1] = [("i", b"INSTRUCTION")];
+    expect_ended(&rt, rt.alloc(), &files, "trial i 1", refused)?;
+    let absent = "1 => InputAbsent => absent: j";
+    expect_ended(&rt, rt.alloc(), &[("i", b"")], "trial j 1", absent)
 }
