@@ -1,5 +1,9 @@
 //! What is printed of lifted lanes.
 
+ghost use Rattle.vg_names.specs.Written.{IsWritten};
+ghost use Rattle.vg_range.specs.Checks.{header_in, operation_in};
+ghost use Rattle.vg_lift.specs.Instances.{HasInstance, InResult};
+
 use crate::instances::is_instance;
 use std::alloc::Global;
 use std::process::Abort;
@@ -8,27 +12,41 @@ use vg_catalog::parse_file;
 use vg_lanes::{are_lanes, list_instance};
 use vg_lift::{has_lanes, lane_node, lane_term, lanes_of, lift_entry};
 use vg_pool::Pool;
+use vg_pseudo::Header;
+use vg_range::Checked;
 use vg_shapes::Lane;
+
+/// The lines on an instance with these lanes.
+fn lines_on(alloc: Global, header: &Header, lanes: Vec<Lane>) -> Result<Vec<u8>, Fail> {
+    if !are_lanes(header, lanes.as_slice()) {
+        return Err("they are no lanes".into());
+    }
+    let mut text = Vec::new(alloc);
+    list_instance(alloc, header, 0, lanes, &mut text)?;
+    Ok(text)
+}
+
+/// The lines on the instance of an entry.
+fn listed_entry(alloc: Global, entry: &Checked) -> Result<Vec<u8>, Fail>
+    requires { IsWritten (header_in entry.now) (operation_in entry.now) }
+{
+    if !has_lanes(entry.header()) || !is_instance(entry, 0) {
+        return Err("an entry has no lanes".into());
+    }
+    let mut pool = Pool::new(alloc);
+    let lanes = lanes_of(&mut pool, alloc, entry, 0)?;
+    lines_on(alloc, entry.header(), lanes)
+}
 
 /// The lines on the instance of the one entry of a file.
 fn listed(alloc: Global, file: &str) -> Result<Vec<u8>, Fail> {
     let Ok(catalog) = parse_file(alloc, file.as_bytes()) else {
         return Err("a file is refused".into());
     };
-    let [entry, ..] = catalog.entries() else {
-        return Err("a file has no entry".into());
-    };
-    if !has_lanes(entry.header()) || !is_instance(entry, 0) {
-        return Err("an entry has no lanes".into());
+    match catalog.entries() {
+        [entry, ..] => listed_entry(alloc, entry),
+        [] => Err("a file has no entry".into()),
     }
-    let mut pool = Pool::new(alloc);
-    let lanes = lanes_of(&mut pool, alloc, entry, 0)?;
-    if !are_lanes(entry.header(), lanes.as_slice()) {
-        return Err("they are no lanes".into());
-    }
-    let mut text = Vec::new(alloc);
-    list_instance(alloc, entry.header(), 0, lanes, &mut text)?;
-    Ok(text)
 }
 
 const PRODUCTS: &str = "INSTRUCTION _mm_mul_epi32 PARAM a 128 SI32 PARAM b 128 SI32
@@ -108,31 +126,47 @@ not packable TooLarge
     Ok(())
 }
 
-/// The number of nodes of lane 0 of the one entry of a file, as its pool counts them.
-fn first_size(rt: &impl Abort, alloc: Global, file: &str) -> Result<u32, Fail> {
-    let Ok(catalog) = parse_file(alloc, file.as_bytes()) else {
-        return Err("a file is refused".into());
-    };
-    let [entry, ..] = catalog.entries() else {
-        return Err("a file has no entry".into());
-    };
-    let header = entry.header();
-    if header.lane_width != 64 || header.register != 128 || !is_instance(entry, 0) {
-        return Err("an entry has no lane of 64 bits".into());
-    }
+/// The number of nodes of lane 0 of an entry, as its pool counts them.
+fn node_size(alloc: Global, entry: &Checked) -> Result<u32, Fail>
+    requires written { IsWritten (header_in entry.now) (operation_in entry.now) }
+    requires range { HasInstance (header_in entry.now) 0 }
+    requires lane { InResult (header_in entry.now) 0 }
+{
     let mut pool = Pool::new(alloc);
     let Some(_lifted) = lift_entry(&mut pool, alloc, entry, 0)? else {
         return Err("an instance is dynamic".into());
     };
     let node = lane_node(&mut pool, alloc, entry, 0, 0)?;
+    Ok(pool.size(node))
+}
+
+/// The same of an entry with a large lane of 64 bits.
+fn first_size(rt: &impl Abort, alloc: Global, entry: &Checked) -> Result<u32, Fail>
+    requires { IsWritten (header_in entry.now) (operation_in entry.now) }
+{
+    let header = entry.header();
+    if header.lane_width != 64 || header.register != 128 || !is_instance(entry, 0) {
+        return Err("an entry has no lane of 64 bits".into());
+    }
     let lane = lane_term(alloc, entry, 0, 0)?;
     assert!(rt; matches!(lane, Lane::Big));
-    Ok(pool.size(node))
+    node_size(alloc, entry)
+}
+
+/// The same of the one entry of a file.
+fn size_in_file(rt: &impl Abort, alloc: Global, file: &str) -> Result<u32, Fail> {
+    let Ok(catalog) = parse_file(alloc, file.as_bytes()) else {
+        return Err("a file is refused".into());
+    };
+    match catalog.entries() {
+        [entry, ..] => first_size(rt, alloc, entry),
+        [] => Err("a file has no entry".into()),
+    }
 }
 
 #[test]
 fn a_node_of_too_many_nodes(rt: HostRuntime) -> Result<(), Fail> {
-    let size = first_size(&rt, rt.alloc(), LARGE)?;
+    let size = size_in_file(&rt, rt.alloc(), LARGE)?;
     assert!(rt; size == 1025);
     Ok(())
 }
@@ -153,13 +187,8 @@ END";
 #[test]
 fn a_shuffle_by_data_has_no_terms(rt: HostRuntime) -> Result<(), Fail> {
     let text = listed(rt.alloc(), SHUFFLE)?;
-    assert!(rt;
-        text.as_slice()
-            .starts_with(b"instruction _mm_shuffle_epi8\nlane 0 dynamic\n")
-    );
-    assert!(rt;
-        text.as_slice()
-            .ends_with(b"lane 15 dynamic\nnot packable Dynamic\n")
-    );
+    let lines = text.as_slice();
+    assert!(rt; lines.starts_with(b"instruction _mm_shuffle_epi8\nlane 0 dynamic\n"));
+    assert!(rt; lines.ends_with(b"lane 15 dynamic\nnot packable Dynamic\n"));
     Ok(())
 }
