@@ -7,7 +7,7 @@ ghost use Rattle.vg_kernel.specs.WellFormed.{IsWellFormed};
 use std::alloc::Global;
 use std::process::Abort;
 use std::test::Fail;
-use vg_guard::{Check, all_noalias, checks_hold, checks_of, parse_guarded};
+use vg_guard::{Check, Guarded, all_noalias, checks_hold, checks_of, parse_guarded};
 use vg_kernel::{KParamKind, Kernel, parse_kernel};
 
 fn read(alloc: Global, text: &str) -> Result<Kernel, Fail>
@@ -19,11 +19,12 @@ fn read(alloc: Global, text: &str) -> Result<Kernel, Fail>
     }
 }
 
-/// Writes each check as two ranges, `0+0:8 1-4:2`, a pointer by its number.
-fn spell(to: &mut String, checks: &[Check]) -> Result<(), Fail> {
+/// Each check as two ranges, `0+0:8 1-4:2`, a pointer by its number.
+fn spelled(alloc: Global, checks: &[Check]) -> Result<String, Fail> {
+    let mut text = String::new(alloc);
     for check in checks {
         write!(
-            to,
+            text,
             "{}{:+}:{} {}{:+}:{};",
             check.first,
             check.first_low,
@@ -33,7 +34,15 @@ fn spell(to: &mut String, checks: &[Check]) -> Result<(), Fail> {
             check.second_len
         )?;
     }
-    Ok(())
+    Ok(text)
+}
+
+/// The checks of a kernel of these parameters and these statements.
+fn found(alloc: Global, params: &str, statements: &str) -> Result<String, Fail> {
+    let text = format!(in alloc; "kernel t({params}) {{ {statements} }}")?;
+    let kernel = read(alloc, text.as_str())?;
+    let checks = checks_of(alloc, &kernel)?;
+    spelled(alloc, checks.as_slice())
 }
 
 /// Asserts of each row, the checks of a kernel after its parameters and its statements, a `|` between
@@ -46,11 +55,7 @@ fn expect_all(rt: &impl Abort, alloc: Global, rows: &str) -> Result<(), Fail> {
         let Some((statements, checks)) = behind.split_once('|') else {
             return Err("checks are missing".into());
         };
-        let mut text = String::new(alloc);
-        write!(text, "kernel t({params}) {{ {statements} }}")?;
-        let kernel = read(alloc, text.as_str())?;
-        let mut found = String::new(alloc);
-        spell(&mut found, checks_of(alloc, &kernel)?.as_slice())?;
+        let found = found(alloc, params, statements)?;
         assert!(rt; found.as_str() == checks, "{row}");
     }
     Ok(())
@@ -83,21 +88,22 @@ fn a_check_goes_from_the_least_offset_to_the_farthest_byte(rt: HostRuntime) -> R
     )
 }
 
+/// Whether it is an integer or a noalias pointer.
+fn is_right(kind: &KParamKind) -> bool {
+    match kind {
+        KParamKind::Pointer { noalias } => *noalias,
+        KParamKind::Integer(_) => true,
+    }
+}
+
 #[test]
 fn every_pointer_is_made_noalias(rt: HostRuntime) -> Result<(), Fail> {
-    let alloc = rt.alloc();
-    let kernel = read(
-        alloc,
-        "kernel t(p: ptr, k: i8, q: noalias ptr) { store8(p, k); }",
-    )?;
-    let noalias = all_noalias(alloc, &kernel)?;
+    let text = "kernel t(p: ptr, k: i8, q: noalias ptr) { store8(p, k); }";
+    let kernel = read(rt.alloc(), text)?;
+    let noalias = all_noalias(rt.alloc(), &kernel)?;
     assert!(rt; noalias.statements.as_slice().len() == 1);
     for param in noalias.params.as_slice() {
-        let is_right = match param.kind {
-            KParamKind::Pointer { noalias } => noalias,
-            KParamKind::Integer(_) => true,
-        };
-        assert!(rt; is_right);
+        assert!(rt; is_right(&param.kind));
     }
     Ok(())
 }
@@ -111,6 +117,19 @@ else
 end cost 0 scalar 0
 end checks 1
 ";
+
+/// Asserts of a row, two places and a word, whether the checks hold there.
+fn expect_held(rt: &impl Abort, guarded: &Guarded, row: &str) -> Result<(), Fail> {
+    let Some((p, behind)) = row.split_once(' ') else {
+        return Err("a place is missing".into());
+    };
+    let Some((q, word)) = behind.split_once(' ') else {
+        return Err("a word is missing".into());
+    };
+    let places = [p.parse::<u64>()?, q.parse::<u64>()?];
+    assert!(rt; checks_hold(guarded, &places) == (word == "holds"), "{row}");
+    Ok(())
+}
 
 #[test]
 fn checks_hold_where_ranges_are_apart_or_touch(rt: HostRuntime) -> Result<(), Fail> {
@@ -129,17 +148,7 @@ fn checks_hold_where_ranges_are_apart_or_touch(rt: HostRuntime) -> Result<(), Fa
         18446744073709551615 0 holds"
         .lines()
     {
-        let Some((p, behind)) = row.trim_start().split_once(' ') else {
-            return Err("a place is missing".into());
-        };
-        let Some((q, word)) = behind.split_once(' ') else {
-            return Err("a word is missing".into());
-        };
-        let places = [p.parse::<u64>()?, q.parse::<u64>()?];
-        assert!(rt;
-            checks_hold(&guarded, &places) == (word == "holds"),
-            "{row}"
-        );
+        expect_held(&rt, &guarded, row.trim_start())?;
     }
     Ok(())
 }

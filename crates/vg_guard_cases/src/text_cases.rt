@@ -5,7 +5,7 @@ use std::alloc::Global;
 use std::process::Abort;
 use std::test::Fail;
 use vg_guard::{parse_guarded, print_guarded};
-use vg_marked::{lines_of, unmarked};
+use vg_marked::{Marked, lines_of, unmarked};
 
 const COPY: &str = "guarded two(p: ptr, q: ptr)
 check disjoint p+0 8 q+0 8
@@ -42,16 +42,39 @@ end cost 1 scalar 3
 end checks 3
 ";
 
+/// A guarded text that is read and printed again.
+fn printed_again(alloc: Global, text: &str) -> Result<Vec<u8>, Fail> {
+    match parse_guarded(alloc, text.as_bytes(), &[]) {
+        Ok(guarded) => Ok(print_guarded(alloc, &guarded)?),
+        Err(_) => Err("a guarded text is refused".into()),
+    }
+}
+
 #[test]
 fn what_is_read_is_printed_again(rt: HostRuntime) -> Result<(), Fail> {
     for text in [COPY, NONE, MANY] {
-        let Ok(guarded) = parse_guarded(rt.alloc(), text.as_bytes(), &[]) else {
-            return Err("a guarded text is refused".into());
-        };
-        let printed = print_guarded(rt.alloc(), &guarded)?;
+        let printed = printed_again(rt.alloc(), text)?;
         assert!(rt; printed.as_slice() == text.as_bytes(), "{text}");
     }
     Ok(())
+}
+
+/// The text of a row between two others, and the place of its mark.
+fn marked(alloc: Global, front: &str, row: &str, end: &str) -> Result<Marked, Fail> {
+    let whole = format!(in alloc; "{front}{row}{end}")?;
+    let lines = lines_of(alloc, whole.as_bytes())?;
+    match unmarked(alloc, lines.as_slice())? {
+        Some(marked) => Ok(marked),
+        None => Err("a mark is missing".into()),
+    }
+}
+
+/// Whether a text is refused with this number at its mark.
+fn is_refused(alloc: Global, number: u32, marked: &Marked) -> bool {
+    match parse_guarded(alloc, marked.text.as_slice(), &[]) {
+        Ok(_) => false,
+        Err(fault) => fault.number() == Some(number) && fault.place() == Some(marked.place),
+    }
 }
 
 /// Asserts of each row, a number and a text, that this text between two others is refused with this
@@ -67,18 +90,9 @@ fn refuse_all(
         let Some((number, text)) = row.trim_start().split_once(' ') else {
             return Err("a number is missing".into());
         };
-        let mut whole = String::new(alloc);
-        write!(whole, "{front}{text}{end}")?;
-        let lines = lines_of(alloc, whole.as_bytes())?;
-        let Some(marked) = unmarked(alloc, lines.as_slice())? else {
-            return Err("a mark is missing".into());
-        };
-        let Err(fault) = parse_guarded(alloc, marked.text.as_slice(), &[]) else {
-            return Err("a text that is none is read".into());
-        };
         let number = number.parse::<u32>()?;
-        let is_right = fault.number() == Some(number) && fault.place() == Some(marked.place);
-        assert!(rt; is_right, "{row}");
+        let marked = marked(alloc, front, text, end)?;
+        assert!(rt; is_refused(alloc, number, &marked), "{row}");
     }
     Ok(())
 }
