@@ -1,7 +1,8 @@
 //! Programs that call instructions, run by the top call.
 
-use crate::desk::Desk;
+use crate::desk::{Desk, repeated};
 use std::alloc::Global;
+use std::process::Abort;
 use std::test::Fail;
 use vg_top::Status;
 
@@ -46,8 +47,7 @@ fn desk_with(
     program: &str,
     memory: &[u8],
 ) -> Result<Desk, Fail> {
-    let mut desk = Desk::new(alloc, 1000)?;
-    desk.shelf.put("i", instructions.as_bytes())?;
+    let mut desk = Desk::holding(alloc, &[("i", instructions.as_bytes())])?;
     desk.shelf.put("p", program.as_bytes())?;
     desk.shelf.put("m", memory)?;
     Ok(desk)
@@ -55,18 +55,24 @@ fn desk_with(
 
 #[test]
 fn sixteen_products_are_added_in_pairs(rt: HostRuntime) -> Result<(), Fail> {
-    let mut memory = vec![in rt.alloc(); 7; 16]?;
-    let mut left = Vec::new(rt.alloc());
-    for _ in 0..4 {
-        left.extend_from_slice(&[0, 0, 0, 128])?;
-    }
-    for _ in 0..16 {
-        memory.extend_from_slice(&[0, 128])?;
-        left.extend_from_slice(&[0, 128])?;
-    }
+    let memory = repeated(rt.alloc(), &[(&[7], 16), (&[0, 128], 16)])?;
+    let left = repeated(rt.alloc(), &[(&[0, 0, 0, 128], 4), (&[0, 128], 16)])?;
     let words: [&str; 7] = ["run", "i", "p", "m", "d=0", "p=16", "q=32"];
     let mut desk = desk_with(rt.alloc(), PAIRS, PAIRS_PROGRAM, memory.as_slice())?;
     desk.expect(&rt, &words, Status::Ok, left.as_slice(), b"")
+}
+
+/// Asserts what is said of a program that is refused.
+fn expect_refused(
+    rt: &impl Abort,
+    alloc: Global,
+    instructions: &str,
+    program: &str,
+    said: &[u8],
+) -> Result<(), Fail> {
+    let words: [&str; 4] = ["run", "i", "p", "m"];
+    let mut desk = desk_with(alloc, instructions, program, b"")?;
+    desk.expect(rt, &words, Status::ProgramRefused, b"", said)
 }
 
 #[test]
@@ -89,65 +95,100 @@ fn calls_that_no_program_may_have(rt: HostRuntime) -> Result<(), Fail> {
         ),
     ];
     for (instructions, program, said) in &cases {
-        let mut desk = desk_with(rt.alloc(), instructions, program, b"")?;
-        desk.expect(
-            &rt,
-            &["run", "i", "p", "m"],
-            Status::ProgramRefused,
-            b"",
-            said,
-        )?;
+        expect_refused(&rt, rt.alloc(), instructions, program, said)?;
     }
     Ok(())
 }
 
+/// Asserts what a program with the shuffle leaves of 1, 2, 3 and 4.
+fn expect_shuffled(rt: &impl Abort, alloc: Global, program: &str, left: &[u8]) -> Result<(), Fail> {
+    let memory: [u8; 16] = [1, 0, 0, 0, 2, 0, 0, 0, 3, 0, 0, 0, 4, 0, 0, 0];
+    let words: [&str; 5] = ["run", "i", "p", "m", "p=0"];
+    let mut desk = desk_with(alloc, SHUFFLE, program, &memory)?;
+    desk.expect(rt, &words, Status::Ok, left, b"")
+}
+
 #[test]
 fn an_immediate_says_which_double_words_are_taken(rt: HostRuntime) -> Result<(), Fail> {
-    let memory: [u8; 16] = [1, 0, 0, 0, 2, 0, 0, 0, 3, 0, 0, 0, 4, 0, 0, 0];
     let turned: [u8; 16] = [4, 0, 0, 0, 3, 0, 0, 0, 2, 0, 0, 0, 1, 0, 0, 0];
     let doubled: [u8; 16] = [2, 0, 0, 0, 2, 0, 0, 0, 3, 0, 0, 0, 4, 0, 0, 0];
-    let words: [&str; 5] = ["run", "i", "p", "m", "p=0"];
-    let mut desk = desk_with(rt.alloc(), SHUFFLE, SHUFFLE_PROGRAM, &memory)?;
-    desk.expect(&rt, &words, Status::Ok, &turned, b"")?;
-    let mut desk = desk_with(rt.alloc(), SHUFFLE, SHUFFLES_PROGRAM, &memory)?;
-    desk.expect(&rt, &words, Status::Ok, &doubled, b"")
+    expect_shuffled(&rt, rt.alloc(), SHUFFLE_PROGRAM, &turned)?;
+    expect_shuffled(&rt, rt.alloc(), SHUFFLES_PROGRAM, &doubled)
+}
+
+/// Asserts how sums of 512 bits end on a memory.
+fn expect_sums(
+    rt: &impl Abort,
+    alloc: Global,
+    memory: &[u8],
+    status: Status,
+    out: &[u8],
+    err: &[u8],
+) -> Result<(), Fail> {
+    let words: [&str; 7] = ["run", "i", "p", "m", "d=0", "p=64", "q=128"];
+    let mut desk = desk_with(alloc, WIDE_SUM, WIDE_SUM_PROGRAM, memory)?;
+    desk.expect(rt, &words, status, out, err)
 }
 
 #[test]
 fn registers_of_512_bits_are_added(rt: HostRuntime) -> Result<(), Fail> {
+    let alloc = rt.alloc();
     // Double words of 0xffffffff and of 2 wrap to 1.
-    let mut memory = vec![in rt.alloc(); 9; 64]?;
-    let mut left = Vec::new(rt.alloc());
-    for _ in 0..16 {
-        left.extend_from_slice(&[1, 0, 0, 0])?;
-    }
-    for _ in 0..64 {
-        memory.push(255)?;
-        left.push(255)?;
-    }
-    for _ in 0..16 {
-        memory.extend_from_slice(&[2, 0, 0, 0])?;
-        left.extend_from_slice(&[2, 0, 0, 0])?;
-    }
-    let words: [&str; 7] = ["run", "i", "p", "m", "d=0", "p=64", "q=128"];
-    let mut desk = desk_with(rt.alloc(), WIDE_SUM, WIDE_SUM_PROGRAM, memory.as_slice())?;
-    desk.expect(&rt, &words, Status::Ok, left.as_slice(), b"")?;
+    let left = repeated(
+        alloc,
+        &[(&[1, 0, 0, 0], 16), (&[255], 64), (&[2, 0, 0, 0], 16)],
+    )?;
+    let mut memory = repeated(alloc, &[(&[9], 64), (&[255], 64), (&[2, 0, 0, 0], 16)])?;
+    expect_sums(
+        &rt,
+        alloc,
+        memory.as_slice(),
+        Status::Ok,
+        left.as_slice(),
+        b"",
+    )?;
     let _ = memory.pop();
-    let mut desk = desk_with(rt.alloc(), WIDE_SUM, WIDE_SUM_PROGRAM, memory.as_slice())?;
-    desk.expect(&rt, &words, Status::Trap, b"", b"vegen: trap\n")
+    expect_sums(
+        &rt,
+        alloc,
+        memory.as_slice(),
+        Status::Trap,
+        b"",
+        b"vegen: trap\n",
+    )
 }
 
 #[test]
 fn products_are_added_to_a_third_register(rt: HostRuntime) -> Result<(), Fail> {
-    let mut memory = vec![in rt.alloc(); 0; 64]?;
-    memory.as_mut_slice()[16..20].copy_from_slice(&[255, 255, 255, 127]);
-    memory.as_mut_slice()[32] = 1;
-    memory.as_mut_slice()[48] = 1;
-    let mut left = vec![in rt.alloc(); 0; 64]?;
-    left.as_mut_slice().copy_from_slice(memory.as_slice());
-    left.as_mut_slice()[3] = 128;
+    let alloc = rt.alloc();
+    // The greatest number and 1 sum to the least.
+    let memory = repeated(
+        alloc,
+        &[
+            (&[0], 16),
+            (&[255, 255, 255, 127], 1),
+            (&[0], 12),
+            (&[1], 1),
+            (&[0], 15),
+            (&[1], 1),
+            (&[0], 15),
+        ],
+    )?;
+    let left = repeated(
+        alloc,
+        &[
+            (&[0, 0, 0, 128], 1),
+            (&[0], 12),
+            (&[255, 255, 255, 127], 1),
+            (&[0], 12),
+            (&[1], 1),
+            (&[0], 15),
+            (&[1], 1),
+            (&[0], 15),
+        ],
+    )?;
     let words: [&str; 8] = ["run", "i", "p", "m", "d=0", "s=16", "p=32", "q=48"];
-    let mut desk = desk_with(rt.alloc(), QUADS, QUADS_PROGRAM, memory.as_slice())?;
+    let mut desk = desk_with(alloc, QUADS, QUADS_PROGRAM, memory.as_slice())?;
     desk.expect(&rt, &words, Status::Ok, left.as_slice(), b"")
 }
 
@@ -173,10 +214,8 @@ end cost 15 scalar 0
 
 /// How `run` ends with this program on an empty memory.
 fn ended_with(alloc: Global, program: &[u8]) -> Result<Status, Fail> {
-    let mut desk = Desk::new(alloc, 1000)?;
-    desk.shelf.put("i", SHUFFLE.as_bytes())?;
-    desk.shelf.put("p", program)?;
-    desk.shelf.put("m", b"")?;
+    let files: [(&str, &[u8]); 3] = [("i", SHUFFLE.as_bytes()), ("p", program), ("m", b"")];
+    let mut desk = Desk::holding(alloc, &files)?;
     desk.run(&["run", "i", "p", "m", "d=0", "k=0", "s=0"])
 }
 

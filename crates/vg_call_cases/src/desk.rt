@@ -35,6 +35,15 @@ impl Desk {
         })
     }
 
+    /// A desk with these files, each a name and its bytes.
+    pub fn holding(alloc: Global, files: &[(&str, &[u8])]) -> Result<Desk, Fail> {
+        let mut desk = Desk::new(alloc, 1000)?;
+        for (name, bytes) in files {
+            desk.shelf.put(name, bytes)?;
+        }
+        Ok(desk)
+    }
+
     pub fn run(&mut self, words: &[&str]) -> Result<Status, Fail> {
         let mut all = Words::new(self.alloc);
         for word in words {
@@ -64,4 +73,20 @@ impl Desk {
         assert!(rt; self.err.written() == err);
         Ok(())
     }
+}
+
+/// Bytes, each part so often.
+pub fn repeated(alloc: Global, parts: &[(&[u8], u32)]) -> Result<Vec<u8>, Fail> {
+    let mut all = Vec::new(alloc);
+    for (bytes, count) in parts {
+        append(&mut all, bytes, *count)?;
+    }
+    Ok(all)
+}
+
+fn append(to: &mut Vec<u8>, bytes: &[u8], count: u32) -> Result<(), Fail> {
+    for _ in 0..count {
+        to.extend_from_slice(bytes)?;
+    }
+    Ok(())
 }

@@ -2,6 +2,7 @@
 
 use crate::desk::Desk;
 use std::alloc::Global;
+use std::process::Abort;
 use std::test::Fail;
 use vg_top::Status;
 
@@ -109,30 +110,48 @@ const CASES: [Case; 14] = [
     ),
 ];
 
+/// Asserts how `lift` ends with this text of a file.
+fn expect_lifted(
+    rt: &impl Abort,
+    alloc: Global,
+    text: &str,
+    status: Status,
+    out: &str,
+    err: &str,
+) -> Result<(), Fail> {
+    let words: [&str; 2] = ["lift", "i"];
+    let mut desk = Desk::holding(alloc, &[("i", text.as_bytes())])?;
+    desk.expect(rt, &words, status, out.as_bytes(), err.as_bytes())
+}
+
 #[test]
 fn lines_on_instances(rt: HostRuntime) -> Result<(), Fail> {
     for (_name, text, status, out, err) in CASES {
-        let mut desk = Desk::new(rt.alloc(), 1000)?;
-        desk.shelf.put("i", text.as_bytes())?;
-        desk.expect(&rt, &["lift", "i"], status, out.as_bytes(), err.as_bytes())?;
+        expect_lifted(&rt, rt.alloc(), text, status, out, err)?;
     }
     Ok(())
 }
 
+/// Asserts how words end where there is no file.
+fn expect_refused(
+    rt: &impl Abort,
+    alloc: Global,
+    words: &[&str],
+    status: Status,
+    err: &[u8],
+) -> Result<(), Fail> {
+    let mut desk = Desk::new(alloc, 1000)?;
+    desk.expect(rt, words, status, b"", err)
+}
+
 #[test]
 fn words_of_lift(rt: HostRuntime) -> Result<(), Fail> {
-    let mut desk = Desk::new(rt.alloc(), 1000)?;
-    desk.expect(
-        &rt,
-        &["lift", "i"],
-        Status::InputAbsent,
-        b"",
-        b"vegen: absent: i\n",
-    )?;
-    let mut desk = Desk::new(rt.alloc(), 1000)?;
-    desk.expect(&rt, &["lift"], Status::Usage, b"", b"vegen: usage\n")?;
-    let mut desk = Desk::new(rt.alloc(), 1000)?;
-    desk.expect(&rt, &["lift", "-i"], Status::Usage, b"", b"vegen: usage\n")
+    let alloc = rt.alloc();
+    let absent = b"vegen: absent: i\n";
+    expect_refused(&rt, alloc, &["lift", "i"], Status::InputAbsent, absent)?;
+    let usage = b"vegen: usage\n";
+    expect_refused(&rt, alloc, &["lift"], Status::Usage, usage)?;
+    expect_refused(&rt, alloc, &["lift", "-i"], Status::Usage, usage)
 }
 
 /// Four lanes that each extend a byte by zeros, since the name of a number variable is unsigned.
@@ -148,12 +167,30 @@ const UNSIGNED_KERNEL: &str =
 const CALL_X: &str =
     "program p(m: ptr)\n%v0 = vload 16 m+0\n%v1 = call x %v0\nvstore 4 m+0 %v1\nend cost 3 scalar 0\n";
 
-/// A desk with the instruction of unsigned bytes and one file more.
-fn desk_with(alloc: Global, name: &str, text: &str) -> Result<Desk, Fail> {
-    let mut desk = Desk::new(alloc, 1000)?;
-    desk.shelf.put("i", UNSIGNED_BYTES.as_bytes())?;
-    desk.shelf.put(name, text.as_bytes())?;
-    Ok(desk)
+/// Asserts how the program ends that `compile` makes of a kernel with these instructions.
+fn expect_compiled(
+    rt: &impl Abort,
+    alloc: Global,
+    instructions: &str,
+    kernel: &str,
+    end: &[u8],
+) -> Result<(), Fail> {
+    let mut desk = Desk::holding(alloc, &[("i", instructions.as_bytes())])?;
+    desk.shelf.put("k", kernel.as_bytes())?;
+    let status = desk.run(&["compile", "i", "k"])?;
+    assert!(rt; status == Status::Ok && desk.out.written().ends_with(end));
+    Ok(())
+}
+
+/// Asserts what a program leaves that stores the first double word of a call with these
+/// instructions.
+fn expect_called(rt: &impl Abort, alloc: Global, instructions: &str) -> Result<(), Fail> {
+    let memory: [u8; 16] = [255, 1, 2, 3, 4, 5, 6, 7, 8, 9, 10, 11, 12, 13, 14, 15];
+    let left: [u8; 16] = [255, 0, 0, 0, 4, 5, 6, 7, 8, 9, 10, 11, 12, 13, 14, 15];
+    let files: [(&str, &[u8]); 2] = [("i", instructions.as_bytes()), ("p", CALL_X.as_bytes())];
+    let mut desk = Desk::holding(alloc, &files)?;
+    desk.shelf.put("m", &memory)?;
+    desk.expect(rt, &["run", "i", "p", "m", "m=0"], Status::Ok, &left, b"")
 }
 
 /// The same lanes by a call whose parameter has 2,097,153 bits.
@@ -162,33 +199,17 @@ const WIDE_PARAMETER: &str =
 
 #[test]
 fn a_parameter_of_many_bits_compiles_and_runs(rt: HostRuntime) -> Result<(), Fail> {
-    let mut desk = desk_with(rt.alloc(), "k", UNSIGNED_KERNEL)?;
-    desk.shelf.put("i", WIDE_PARAMETER.as_bytes())?;
-    assert!(rt; desk.run(&["compile", "i", "k"])? == Status::Ok);
-    assert!(rt; desk.out.written().ends_with(b"\nend cost 3 scalar 12\n"));
-    let mut desk = desk_with(rt.alloc(), "p", CALL_X)?;
-    desk.shelf.put("i", WIDE_PARAMETER.as_bytes())?;
-    desk.shelf.put(
-        "m",
-        &[255, 1, 2, 3, 4, 5, 6, 7, 8, 9, 10, 11, 12, 13, 14, 15],
-    )?;
-    let left: [u8; 16] = [255, 0, 0, 0, 4, 5, 6, 7, 8, 9, 10, 11, 12, 13, 14, 15];
-    desk.expect(&rt, &["run", "i", "p", "m", "m=0"], Status::Ok, &left, b"")
+    let end = b"\nend cost 3 scalar 12\n";
+    expect_compiled(&rt, rt.alloc(), WIDE_PARAMETER, UNSIGNED_KERNEL, end)?;
+    expect_called(&rt, rt.alloc(), WIDE_PARAMETER)
 }
 
 #[test]
 fn bytes_behind_number_variables_are_unsigned(rt: HostRuntime) -> Result<(), Fail> {
-    let mut desk = desk_with(rt.alloc(), "k", SIGNED_KERNEL)?;
-    assert!(rt; desk.run(&["compile", "i", "k"])? == Status::Ok);
-    assert!(rt; desk.out.written().ends_with(b"\nend cost 12 scalar 12\n"));
-    let mut desk = desk_with(rt.alloc(), "k", UNSIGNED_KERNEL)?;
-    assert!(rt; desk.run(&["compile", "i", "k"])? == Status::Ok);
-    assert!(rt; desk.out.written().ends_with(b"\nend cost 3 scalar 12\n"));
-    let mut desk = desk_with(rt.alloc(), "p", CALL_X)?;
-    desk.shelf.put(
-        "m",
-        &[255, 1, 2, 3, 4, 5, 6, 7, 8, 9, 10, 11, 12, 13, 14, 15],
-    )?;
-    let left: [u8; 16] = [255, 0, 0, 0, 4, 5, 6, 7, 8, 9, 10, 11, 12, 13, 14, 15];
-    desk.expect(&rt, &["run", "i", "p", "m", "m=0"], Status::Ok, &left, b"")
+    let alloc = rt.alloc();
+    let scalar = b"\nend cost 12 scalar 12\n";
+    expect_compiled(&rt, alloc, UNSIGNED_BYTES, SIGNED_KERNEL, scalar)?;
+    let called = b"\nend cost 3 scalar 12\n";
+    expect_compiled(&rt, alloc, UNSIGNED_BYTES, UNSIGNED_KERNEL, called)?;
+    expect_called(&rt, alloc, UNSIGNED_BYTES)
 }
