@@ -6,6 +6,7 @@ mod Calls
 mod CallsAt
 mod Choosing
 mod Estimated
+mod Folded
 mod Framing
 mod Immediates
 mod Instances

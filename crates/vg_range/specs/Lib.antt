@@ -1,6 +1,7 @@
 pub mod Acceptance
 pub mod Checks
 pub mod Estimates
+pub mod Folding
 pub mod Immediates
 pub mod Kept
 pub mod Meant

@@ -1,6 +1,6 @@
 //! What assignments do.
 
-ghost use Rattle.std.specs.Prelude.{◌≡◌, IfOk, None};
+ghost use Rattle.std.specs.Prelude.{◌≡◌, None};
 ghost use Rattle.std.specs.Option.{option_map};
 ghost use Rattle.vg_interval.specs.Views.{Gives, found_view, kept_view};
 ghost use Rattle.vg_names.specs.Views.{target_view};
@@ -11,7 +11,7 @@ ghost use Rattle.vg_range.specs.Walk.{assigned, target_number};
 use crate::goal::{Goal, kept_of, stored};
 use crate::walk_context::WalkContext;
 use crate::walk_state::{WalkState, with_script};
-use std::alloc::{AllocError, Global};
+use std::alloc::Global;
 use vg_interval::operands::operand;
 use vg_interval::{Found, KnownNumber, RangeFault};
 use vg_names::Target;
@@ -28,34 +28,18 @@ pub fn target_number(target: &Target) -> usize
     }
 }
 
-/// The state where this is known of a number variable. Fails for want of memory alone.
+/// The state where this is known of a number variable.
 #[inline(never)]
 #[tactic(auto, using(crate::proofs::Lists::view_set, crate::proofs::Lists::view_set_past))]
-pub fn with_number(
-    alloc: Global,
-    state: Box<WalkState>,
-    variable: usize,
-    kept: KnownNumber,
-) -> Result<Box<WalkState>, AllocError>
-    ensures { IfOk result (λ w. state_view w.value ≡ number_set (state_view state.value) variable
-        (kept_view kept)) }
+pub fn with_number(state: Box<WalkState>, variable: usize, kept: KnownNumber) -> Box<WalkState>
+    ensures { state_view result.value ≡ number_set (state_view state.value) variable (kept_view
+        kept) }
 {
-    let WalkState {
-        mut numbers,
-        count,
-        script,
-    } = Box::into_inner(state);
-    if variable < numbers.len() {
-        numbers[variable] = kept;
+    let mut state = state;
+    if variable < state.numbers.len() {
+        state.numbers[variable] = kept;
     }
-    Ok(Box::new(
-        alloc,
-        WalkState {
-            numbers,
-            count,
-            script,
-        },
-    )?)
+    state
 }
 
 #[inline(never)]
@@ -71,7 +55,7 @@ fn number_assigned(
         (number variable) None (found_view found) (state_view state.value)) }
 {
     let operand = operand(alloc, spot, found)?;
-    let state = with_number(alloc, state, variable, kept_of(&operand))?;
+    let state = with_number(state, variable, kept_of(&operand));
     let script = make_give(alloc, variable, operand.into_word())?;
     Ok(with_script(alloc, context, script, state)?)
 }

@@ -17,6 +17,7 @@ use crate::arms::{Arms, arm_of, no_arms, one_arm_more, picked_by};
 use crate::beginning::{beginning, turns_within};
 use crate::decision::Decision;
 use crate::estimating::decided;
+use crate::folding::constant_number;
 use crate::giving::{given, given_unwritten};
 use crate::goal::{Goal, constant_index};
 use crate::judging::judge;
@@ -29,6 +30,7 @@ use crate::walk_state::{WalkState, at_count};
 use crate::ways::{WayStep, Ways, closed, no_ways, one_way_more};
 use std::alloc::Global;
 use vg_interval::slices::{bits_between, bits_of_element, index_of};
+use vg_interval::whole_numbers::whole;
 use vg_interval::{Count, RangeFault};
 use vg_names::{Code, ResolvedExpr, Target};
 use vg_script::{WholeNumber, Word};
@@ -37,6 +39,7 @@ use vg_text::Place;
 /// An expression that has to be constant, and the state after it. DynamicIndex where it is not.
 #[inline(never)]
 #[cycle(judging)]
+#[tactic(auto, using(crate::proofs::Folded::settled_at))]
 fn settled(
     alloc: Global,
     context: &WalkContext,
@@ -46,6 +49,9 @@ fn settled(
     ensures { Gives (λ z. (number_of z.0, state_view z.1.value)) result
         (constant_at (context_view context.now) (state_view state.value) (expr_of expr.now)) }
 {
+    if let Some(number) = constant_number(context, state.numbers.as_slice(), expr) {
+        return Ok((whole(number), state));
+    }
     let (found, count) = judge(alloc, context, state.numbers.as_slice(), expr, state.count)?;
     let index = index_of(alloc, spot_of(expr), Box::into_inner(found))?;
     let number = constant_index(spot_of(expr).outer, index)?;

@@ -1,8 +1,8 @@
 //! What is known of operands but for their words, found in the order of the text. A tree of operators that are no shifts
 //! is gone through without a word; what else stands in it is judged, and its word left.
 
-ghost use Rattle.std.specs.Prelude.{◌≡◌, map, pos};
-ghost use Rattle.vg_interval.specs.Judge.{judge, settled, slice_at, spot_of};
+ghost use Rattle.std.specs.Prelude.{◌≡◌, map};
+ghost use Rattle.vg_interval.specs.Judge.{element_at, judge, settled, slice_at, spot_of};
 ghost use Rattle.vg_interval.specs.Views.{Gives, count_view, kept_view};
 ghost use Rattle.vg_names.specs.Views.{expr_of};
 ghost use Rattle.vg_pseudo.specs.Resolved as node;
@@ -11,20 +11,22 @@ ghost use Rattle.vg_range.specs.Seen.{decision_view, sight_view};
 
 use crate::decision::Decision;
 use crate::estimates::{condition_by, kept_found, kept_joined};
+use crate::folding::constant_number;
 use crate::judging::{judge, slice_of, tested};
 use crate::spots::spot_of;
 use crate::walk_context::WalkContext;
 use std::alloc::Global;
 use vg_interval::binary_uses::is_shift;
-use vg_interval::moving::slice_at;
+use vg_interval::moving::{element_at, slice_at};
+use vg_interval::whole_numbers::whole;
 use vg_interval::{Count, Index, KnownNumber, RangeFault};
 use vg_names::ResolvedExpr;
 use vg_pseudo::{BinaryOp, Spot};
-use vg_script::WholeNumber;
 
 /// What is known of an expression as an operand but for its word, given what is known of the number
 /// variables, and the counts after it; or its first fault.
 #[cycle(judging)]
+#[tactic(auto, using(crate::proofs::Folded::element_is))]
 pub fn estimate(
     alloc: Global,
     context: &WalkContext,
@@ -59,8 +61,52 @@ pub fn estimate(
                 joined(alloc, context, numbers, spot, *op, left, right, count)
             }
         }
+        ResolvedExpr::Element {
+            spot,
+            is_signed,
+            register,
+            size,
+            index,
+        } => match constant_number(context, numbers, index) {
+            Some(number) => element_at_constant(
+                alloc, context, spot, *is_signed, *register, *size, number, count,
+            ),
+            None => judged(alloc, context, numbers, expr, count),
+        },
         _ => judged(alloc, context, numbers, expr, count),
     }
+}
+
+/// An element by an index that is a constant.
+#[inline(never)]
+#[tactic(auto, using(crate::proofs::Lists::seen_element))]
+fn element_at_constant(
+    alloc: Global,
+    context: &WalkContext,
+    spot: &Spot,
+    is_signed: bool,
+    register: usize,
+    size: u32,
+    index: i128,
+    count: Count,
+) -> Result<(KnownNumber, Count), RangeFault>
+    ensures { Gives (λ k. (kept_view k.0, count_view k.1)) result (estimate_of spot.now (element_at
+        (sight_view context.now) spot.now.inner is_signed register size (settled index)
+        (count_view count))) }
+{
+    let (found, count) = element_at(
+        alloc,
+        context.widths,
+        context.constants,
+        spot.inner,
+        is_signed,
+        register,
+        size as u128,
+        Index::Settled(whole(index)),
+        count,
+    )?;
+    let kept = kept_found(*spot, &found)?;
+    Ok((kept, count))
 }
 
 /// What is judged, without its word.
@@ -82,7 +128,7 @@ fn judged(
     Ok((kept, count))
 }
 
-/// A slice by two indices that are written numbers.
+/// A slice by two indices that are constants.
 #[inline(never)]
 #[tactic(auto, using(crate::proofs::Lists::seen_slice))]
 fn slice_at_numbers(
@@ -92,13 +138,13 @@ fn slice_at_numbers(
     is_signed: bool,
     register: usize,
     spread: &Option<u128>,
-    high: u128,
-    low: u128,
+    high: i128,
+    low: i128,
     count: Count,
 ) -> Result<(KnownNumber, Count), RangeFault>
     ensures { Gives (λ k. (kept_view k.0, count_view k.1)) result (estimate_of spot.now (slice_at
-        (sight_view context.now) spot.now.inner is_signed register spread.now (settled (pos high))
-        (settled (pos low)) (count_view count))) }
+        (sight_view context.now) spot.now.inner is_signed register spread.now (settled high)
+        (settled low) (count_view count))) }
 {
     let (found, count) = slice_at(
         alloc,
@@ -108,8 +154,8 @@ fn slice_at_numbers(
         is_signed,
         register,
         *spread,
-        Index::Settled(WholeNumber::Natural(high)),
-        Index::Settled(WholeNumber::Natural(low)),
+        Index::Settled(whole(high)),
+        Index::Settled(whole(low)),
         count,
     )?;
     let kept = kept_found(*spot, &found)?;
@@ -119,6 +165,7 @@ fn slice_at_numbers(
 /// `name[high:low]`
 #[inline(never)]
 #[cycle(judging)]
+#[tactic(auto, using(crate::proofs::Folded::slice_is))]
 fn slice(
     alloc: Global,
     context: &WalkContext,
@@ -135,27 +182,18 @@ fn slice(
         (sight_view context.now) (map kept_view numbers.now) (node.slice spot.now is_signed register
         spread.now (expr_of high.now) (expr_of low.now)) (count_view count))) }
 {
-    match (high, low) {
-        (
-            ResolvedExpr::Literal {
-                spot: _,
-                value: last,
-            },
-            ResolvedExpr::Literal {
-                spot: _,
-                value: first,
-            },
-        ) => slice_at_numbers(
-            alloc, context, spot, is_signed, register, spread, *last, *first, count,
-        ),
-        _ => {
-            let (found, count) = slice_of(
-                alloc, context, numbers, spot, is_signed, register, spread, high, low, count,
-            )?;
-            let kept = kept_found(*spot, &found)?;
-            Ok((kept, count))
+    if let Some(last) = constant_number(context, numbers, high) {
+        if let Some(first) = constant_number(context, numbers, low) {
+            return slice_at_numbers(
+                alloc, context, spot, is_signed, register, spread, last, first, count,
+            );
         }
     }
+    let (found, count) = slice_of(
+        alloc, context, numbers, spot, is_signed, register, spread, high, low, count,
+    )?;
+    let kept = kept_found(*spot, &found)?;
+    Ok((kept, count))
 }
 
 /// An operator that is no shift.
@@ -184,6 +222,7 @@ fn joined(
 /// What a condition says, and the counts after it; its word only where scripts are kept.
 #[inline(never)]
 #[cycle(judging)]
+#[tactic(auto, using(crate::proofs::Folded::decided_is))]
 pub fn decided(
     alloc: Global,
     context: &WalkContext,
@@ -195,6 +234,9 @@ pub fn decided(
         context.now.is_kept (spot_of (expr_of expr.now)) (judge (sight_view context.now) (map
         kept_view numbers.now) (expr_of expr.now) (count_view count))) }
 {
+    if let Some(number) = constant_number(context, numbers, expr) {
+        return Ok((Box::new(alloc, Decision::Always(number))?, count));
+    }
     if context.is_kept {
         tested(alloc, context, numbers, expr, count)
     } else {

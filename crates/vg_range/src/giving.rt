@@ -10,18 +10,21 @@ ghost use Rattle.vg_range.specs.Seen.{context_view, goal_view, state_view};
 use crate::assigning::{assigned, target_number, with_number};
 use crate::estimates::{filled, is_joined};
 use crate::estimating::estimate;
+use crate::folding::constant_number;
 use crate::goal::Goal;
 use crate::judging::judge;
 use crate::spots::spot_of;
 use crate::walk_context::WalkContext;
 use crate::walk_state::{WalkState, at_count};
 use std::alloc::Global;
-use vg_interval::RangeFault;
+use vg_interval::whole_numbers::whole;
+use vg_interval::{Found, KnownNumber, RangeFault};
 use vg_names::{ResolvedExpr, Target};
 
 /// What an expression gives the bits that are its goal, or a number variable.
 #[inline(never)]
 #[cycle(judging)]
+#[tactic(auto, using(crate::proofs::Folded::given_is))]
 pub fn given(
     alloc: Global,
     context: &WalkContext,
@@ -34,6 +37,12 @@ pub fn given(
         (target_view target.now) (option_map goal_view goal) (expr_of value.now) (state_view
         state.value)) }
 {
+    if let Some(number) = constant_number(context, state.numbers.as_slice(), value) {
+        let found = Found::Known {
+            number: whole(number),
+        };
+        return assigned(alloc, context, spot_of(value), target, goal, found, state);
+    }
     let (found, count) = judge(alloc, context, state.numbers.as_slice(), value, state.count)?;
     let state = at_count(state, count);
     assigned(
@@ -50,6 +59,7 @@ pub fn given(
 /// What an expression gives a number variable, where no script is kept.
 #[inline(never)]
 #[cycle(judging)]
+#[tactic(auto, using(crate::proofs::Folded::number_is))]
 fn number_given(
     alloc: Global,
     context: &WalkContext,
@@ -60,9 +70,12 @@ fn number_given(
     ensures { Gives (λ w. state_view w.value) result (estimate_set (context_view context.now)
         variable (expr_of value.now) (state_view state.value)) }
 {
+    if let Some(number) = constant_number(context, state.numbers.as_slice(), value) {
+        return Ok(with_number(state, variable, KnownNumber::Constant(number)));
+    }
     let (kept, count) = estimate(alloc, context, state.numbers.as_slice(), value, state.count)?;
     let state = at_count(state, count);
-    Ok(with_number(alloc, state, variable, kept)?)
+    Ok(with_number(state, variable, kept))
 }
 
 /// What an operator that is no shift gives bits, where no script is kept.

@@ -12,6 +12,7 @@ ghost use Rattle.vg_range.specs.Walk.{walks_from};
 
 use crate::calling::called_at;
 use crate::decision::Decision;
+use crate::folding::constant_number;
 use crate::uses::{
     binary_behind, condition_in, either_behind, element_at_number, element_behind, give, index_in,
     operand_of, passed_in, plain_behind, slice_at_numbers, slice_behind, turn_of, unary_behind,
@@ -106,6 +107,7 @@ fn literal(alloc: Global, value: u128, count: Count) -> Result<(Box<Found>, Coun
 /// `name[high:low]`
 #[inline(never)]
 #[cycle(judging)]
+#[tactic(auto, using(crate::proofs::Folded::slice_is))]
 pub fn slice_of(
     alloc: Global,
     context: &WalkContext,
@@ -122,33 +124,25 @@ pub fn slice_of(
         context.now) (map kept_view numbers.now) (node.slice spot.now is_signed register spread.now
         (expr_of high.now) (expr_of low.now)) (count_view count)) }
 {
-    match (high, low) {
-        (
-            ResolvedExpr::Literal {
-                spot: _,
-                value: last,
-            },
-            ResolvedExpr::Literal {
-                spot: _,
-                value: first,
-            },
-        ) => slice_at_numbers(
-            alloc, context, spot, is_signed, register, spread, *last, *first, count,
-        ),
-        _ => {
-            let (found, count) = judge(alloc, context, numbers, high, count)?;
-            let last = index_in(alloc, high, found)?;
-            let (found, count) = judge(alloc, context, numbers, low, count)?;
-            slice_behind(
-                alloc, context, spot, is_signed, register, spread, last, low, found, count,
-            )
+    if let Some(last) = constant_number(context, numbers, high) {
+        if let Some(first) = constant_number(context, numbers, low) {
+            return slice_at_numbers(
+                alloc, context, spot, is_signed, register, spread, last, first, count,
+            );
         }
     }
+    let (found, count) = judge(alloc, context, numbers, high, count)?;
+    let last = index_in(alloc, high, found)?;
+    let (found, count) = judge(alloc, context, numbers, low, count)?;
+    slice_behind(
+        alloc, context, spot, is_signed, register, spread, last, low, found, count,
+    )
 }
 
 /// `name.elem[index]` or `name[index]`
 #[inline(never)]
 #[cycle(judging)]
+#[tactic(auto, using(crate::proofs::Folded::element_is))]
 fn element_of(
     alloc: Global,
     context: &WalkContext,
@@ -164,17 +158,15 @@ fn element_of(
         (judge (sight_view context.now) (map kept_view numbers.now)
         (node.element spot.now is_signed register size (expr_of index.now)) (count_view count)) }
 {
-    match index {
-        ResolvedExpr::Literal { spot: _, value } => element_at_number(
-            alloc, context, spot, is_signed, register, size, *value, count,
-        ),
-        _ => {
-            let (found, count) = judge(alloc, context, numbers, index, count)?;
-            element_behind(
-                alloc, context, spot, is_signed, register, size, index, found, count,
-            )
-        }
+    if let Some(number) = constant_number(context, numbers, index) {
+        return element_at_number(
+            alloc, context, spot, is_signed, register, size, number, count,
+        );
     }
+    let (found, count) = judge(alloc, context, numbers, index, count)?;
+    element_behind(
+        alloc, context, spot, is_signed, register, size, index, found, count,
+    )
 }
 
 /// The bits of a register from bit 0 on.

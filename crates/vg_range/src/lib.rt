@@ -19,6 +19,7 @@ mod code_walk;
 mod decision;
 mod estimates;
 mod estimating;
+mod folding;
 mod frames;
 mod giving;
 mod goal;

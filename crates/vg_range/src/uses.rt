@@ -20,10 +20,11 @@ use vg_interval::calls::passed;
 use vg_interval::operands::{condition, either, operand};
 use vg_interval::slices::index_of;
 use vg_interval::unary_uses::unary_at;
+use vg_interval::whole_numbers::whole;
 use vg_interval::{Count, Found, Index, KnownNumber, Operand, Passed, RangeFault};
 use vg_names::ResolvedExpr;
 use vg_pseudo::{BinaryOp, Spot, UnaryOp};
-use vg_script::{WholeNumber, Word};
+use vg_script::Word;
 
 /// What is known of the variable of a FOR, by how many FORs lie between, and the counts. Fails for
 /// want of memory alone.
@@ -136,7 +137,7 @@ pub(crate) fn give(given: &mut Vec<Passed>, passed: Box<Passed>) -> Result<(), A
     Ok(())
 }
 
-/// A slice by two indices that are written numbers.
+/// A slice by two indices that are constants.
 #[inline(never)]
 pub fn slice_at_numbers(
     alloc: Global,
@@ -145,22 +146,22 @@ pub fn slice_at_numbers(
     is_signed: bool,
     register: usize,
     spread: &Option<u128>,
-    high: u128,
-    low: u128,
+    high: i128,
+    low: i128,
     count: Count,
 ) -> Result<(Box<Found>, Count), RangeFault>
     ensures { Gives (λ f. (found_view f.0.value, count_view f.1)) result (slice_at (sight_view
-        context.now) spot.now.inner is_signed register spread.now (settled (pos high)) (settled (pos
-        low)) (count_view count)) }
+        context.now) spot.now.inner is_signed register spread.now (settled high) (settled low)
+        (count_view count)) }
 {
-    let high = Index::Settled(WholeNumber::Natural(high));
-    let low = Index::Settled(WholeNumber::Natural(low));
+    let high = Index::Settled(whole(high));
+    let low = Index::Settled(whole(low));
     slice(
         alloc, context, spot.inner, is_signed, register, *spread, high, low, count,
     )
 }
 
-/// An element by an index that is a written number.
+/// An element by an index that is a constant.
 #[inline(never)]
 pub fn element_at_number(
     alloc: Global,
@@ -169,14 +170,13 @@ pub fn element_at_number(
     is_signed: bool,
     register: usize,
     size: u32,
-    index: u128,
+    index: i128,
     count: Count,
 ) -> Result<(Box<Found>, Count), RangeFault>
     ensures { Gives (λ f. (found_view f.0.value, count_view f.1)) result (element_at (sight_view
-        context.now) spot.now.inner is_signed register size (settled (pos index)) (count_view
-        count)) }
+        context.now) spot.now.inner is_signed register size (settled index) (count_view count)) }
 {
-    let index = Index::Settled(WholeNumber::Natural(index));
+    let index = Index::Settled(whole(index));
     element(
         alloc, context, spot.inner, is_signed, register, size, index, count,
     )

@@ -8,6 +8,7 @@ ghost use Rattle.vg_range.specs.Walk.{at_count, behind, is_empty, with_script};
 
 use crate::walk_context::WalkContext;
 use std::alloc::{AllocError, Global};
+use std::mem;
 use vg_interval::{Count, KnownNumber};
 use vg_script::{Script, make_both};
 
@@ -66,18 +67,8 @@ pub fn with_script(
     if !context.is_kept {
         return Ok(state);
     }
-    let WalkState {
-        numbers,
-        count,
-        script: first,
-    } = Box::into_inner(state);
-    let script = behind(alloc, first, script)?;
-    Ok(Box::new(
-        alloc,
-        WalkState {
-            numbers,
-            count,
-            script,
-        },
-    )?)
+    let mut state = state;
+    let first = mem::replace(&mut state.script, Script::Stop);
+    state.script = behind(alloc, first, script)?;
+    Ok(state)
 }

@@ -1,4 +1,4 @@
-use Rattle.std.proofs.Common.{◌≡◌, ◌∙◌, map, ◌∷◌, ◌++◌, [], arith, refl, rules, subst, sym, ap, Ok, Some, None}
+use Rattle.std.proofs.Common.{◌≡◌, ◌∙◌, map, ◌∷◌, ◌++◌, [], arith, refl, rules, subst, sym, ap, to_z, of_z, Ok, Some, None}
 use Rattle.std.specs.Option.{option_map}
 use Rattle.std.proofs.lemmas.Int.{to_z-of_z}
 use Rattle.std.proofs.lemmas.List.{map-append}
@@ -6,20 +6,24 @@ use Rattle.std.proofs.lemmas.Result.{err_from_is_err_and}
 use Rattle.std.specs.Int.{w128}
 use Rattle.std.specs.Prelude.{FitsSigned}
 use Rattle.vg_base.specs.Gives.{FailsBy}
-use Rattle.vg_interval.specs.Judge.{judge, judge_all, spot_of}
+use Rattle.vg_interval.specs.Found.{known}
+use Rattle.vg_interval.specs.Judge.{element_at, judge, judge_all, settled, slice_at, spot_of}
 use Rattle.vg_interval.specs.Views.{Gives, told, count_view, found_view, kept_view, passed_view}
 use Rattle.vg_names.specs.Views.{code_view, expr_of, list_of, target_view}
-use Rattle.vg_pseudo.specs.Resolved.{binary, choice, more, way}
+use Rattle.vg_pseudo.specs.Resolved.{binary, choice, element, more, slice, way}
 use Rattle.vg_script.specs.Views.{number_of}
 use Rattle.vg_range.specs.Steps.{arm_of, arms_view, final, first_way, further, how_many, way_step_view, picked, selector_view, turns_left, ways_view}
 use Rattle.vg_range.specs.Estimates.{estimate_of, given_at}
+use Rattle.vg_range.specs.Folding.{IsNumber}
 use Rattle.vg_range.specs.Seen.{argument_of, behind_passed, context_view, goal_view, sight_view, state_view}
+use Rattle.vg_range.specs.Walk.{assigned}
 use Rattle.vg_range.specs.Weight.{weight, list_weight}
 use Rattle.vg_range.proofs.Arguments.{passed_none, passed_next, passed_done, passed_fails}
 use Rattle.vg_range.proofs.ArmsLeft.{arms_fail, arms_next, one_taken, none_taken}
 use Rattle.vg_range.proofs.CallsAt.{called_is, none_called, reaches}
 use Rattle.vg_range.proofs.Choosing.{choice_at}
 use Rattle.vg_range.proofs.Estimated.{filled_is, joined_is, way_is}
+use Rattle.vg_range.proofs.Folded.{element_is, given_is, slice_is}
 use Rattle.vg_range.proofs.Stepping.{walk_fails, walk_next}
 use Rattle.vg_range.proofs.TurnsLeft.{fewer, turns_are, turns_next}
 use Rattle.vg_range.proofs.WaysLeft.{ways_close, ways_fail, ways_next}
@@ -307,3 +311,77 @@ code_walk::first_way-returns-in-Way t c =
     let whole : first_way x (way e body (code_view c.in-Way.ways.value)) w found n ≡ first_way x (code_view c.args.code.now) w found n =
     rw (c.deref.ensures, c.deref-in-Way.ensures, c.in-Way.is) refl in
     subst (λ r. Gives way_step_view c.way_at.result r) (way_is x e body w found n ∙ whole) c.way_at.ensures
+
+pub estimating::estimate-returns-in-Some : goal.estimating::estimate-returns-in-Some
+estimating::estimate-returns-in-Some t c =
+    let s = sight_view c.args.context.now in
+    let ks = map kept_view c.args.numbers.now in
+    let d = count_view c.args.count in
+    let p = c.in-Element.spot in
+    let g = c.in-Element.is_signed in
+    let r = c.in-Element.register in
+    let n = c.in-Element.size in
+    let k = expr_of c.deref-in-Element.result.now in
+    let z = c.in-Some.number in
+    let fits : FitsSigned w128 z = search rules in
+    let found : element_at s p.inner g r n (settled (to_z w128 (of_z w128 z))) d ≡ judge s ks (element p g r n k) d =
+    rw (to_z-of_z w128 z fits) (element_is s ks p g r n k z d c.in-Some.ensures) in
+    let whole : estimate_of p (judge s ks (element p g r n k) d) ≡ estimate_of (spot_of (expr_of c.args.expr.now)) (judge s ks (expr_of c.args.expr.now) d) =
+    rw (c.deref-in-Element.ensures, c.in-Element.is) refl in
+    subst (λ v. Gives (λ k. (kept_view k.0, count_view k.1)) c.element_at_constant.result v)
+    (ap (estimate_of p) found ∙ whole) c.element_at_constant.ensures
+
+pub estimating::slice-returns-in-Some-constant_number : goal.estimating::slice-returns-in-Some-constant_number
+estimating::slice-returns-in-Some-constant_number t c =
+    let s = sight_view c.args.context.now in
+    let ks = map kept_view c.args.numbers.now in
+    let d = count_view c.args.count in
+    let p = c.args.spot.now in
+    let g = c.args.is_signed in
+    let r = c.args.register in
+    let n = c.args.spread.now in
+    let h = expr_of c.args.high.now in
+    let l = expr_of c.args.low.now in
+    let y = c.in-Some.last in
+    let z = c.in-Some-constant_number.first in
+    let fits : FitsSigned w128 y = search rules in
+    let fits-too : FitsSigned w128 z = search rules in
+    let found : slice_at s p.inner g r n (settled (to_z w128 (of_z w128 y))) (settled (to_z w128 (of_z w128 z))) d ≡ judge s ks (slice p g r n h l) d =
+    rw (to_z-of_z w128 y fits, to_z-of_z w128 z fits-too) (slice_is s ks p g r n h l y z d c.in-Some.ensures c.in-Some-constant_number.ensures) in
+    subst (λ v. Gives (λ k. (kept_view k.0, count_view k.1)) c.slice_at_numbers.result v) (ap (estimate_of p) found) c.slice_at_numbers.ensures
+
+pub giving::given-returns-in-Some : goal.giving::given-returns-in-Some
+giving::given-returns-in-Some t c =
+    let x = context_view c.args.context.now in
+    let a = target_view c.args.target.now in
+    let g = option_map goal_view c.args.goal in
+    let e = expr_of c.args.value.now in
+    let w = state_view c.args.state.value in
+    let z = c.in-Some.number in
+    let fits : FitsSigned w128 z = search rules in
+    let same : number_of c.whole.result ≡ z = c.whole.ensures ∙ to_z-of_z w128 z fits in
+    let numbers : c.as_slice.result.now ≡ c.args.state.value.numbers.items = c.as_slice.ensures.value ∙ ap (λ v. v.numbers.items) c.deref.ensures in
+    let is : IsNumber x.sight w.numbers e z = subst (λ l. IsNumber x.sight (map kept_view l) e z) numbers c.in-Some.ensures in
+    subst (λ v. Gives (λ u. state_view u.value) c.assigned.result v)
+    (ap (λ p. assigned x p a g (known (number_of c.whole.result) None) w) c.spot_of.ensures
+    ∙ ap (λ v. assigned x (spot_of e) a g (known v None) w) same
+    ∙ given_is x a g e w z is) c.assigned.ensures
+
+pub judging::slice_of-returns-in-Some-constant_number : goal.judging::slice_of-returns-in-Some-constant_number
+judging::slice_of-returns-in-Some-constant_number t c =
+    let s = sight_view c.args.context.now in
+    let ks = map kept_view c.args.numbers.now in
+    let d = count_view c.args.count in
+    let p = c.args.spot.now in
+    let g = c.args.is_signed in
+    let r = c.args.register in
+    let n = c.args.spread.now in
+    let h = expr_of c.args.high.now in
+    let l = expr_of c.args.low.now in
+    let y = c.in-Some.last in
+    let z = c.in-Some-constant_number.first in
+    let fits : FitsSigned w128 y = search rules in
+    let fits-too : FitsSigned w128 z = search rules in
+    let found : slice_at s p.inner g r n (settled (to_z w128 (of_z w128 y))) (settled (to_z w128 (of_z w128 z))) d ≡ judge s ks (slice p g r n h l) d =
+    rw (to_z-of_z w128 y fits, to_z-of_z w128 z fits-too) (slice_is s ks p g r n h l y z d c.in-Some.ensures c.in-Some-constant_number.ensures) in
+    subst (λ v. Gives (λ f. (found_view f.0.value, count_view f.1)) c.slice_at_numbers.result v) found c.slice_at_numbers.ensures
