@@ -7,6 +7,7 @@ ghost use Rattle.vg_script.specs.Script.{pick, put, way, width_of};
 ghost use Rattle.vg_script.specs.Views.{frame_of, given_of, low_of, script_of, word_of};
 ghost use Rattle.vg_terms.specs.Term.{constant, two};
 ghost use Rattle.vg_terms.specs.declared.term.TwoOp.TheVariants.{Eq};
+ghost use Rattle.vg_lift.specs.Assignments.{IsAssignment};
 ghost use Rattle.vg_lift.specs.Gather.{bits_from};
 ghost use Rattle.vg_lift.specs.LaneTerm.{absolute_term, first_bit, joined, left_by, lifted, of_bits, part, passed, term};
 ghost use Rattle.vg_lift.specs.Passed.{AllPassedFit, PassedFits, all_passed, passed_of};
@@ -306,47 +307,74 @@ pub(crate) fn lift(
                 return lift_pick(pool, alloc, state, selector, arms);
             }
             Script::Arm { .. } => return Ok(()),
-            Script::Put {
-                register,
-                low,
-                width,
-                word,
-            } => return lift_put(pool, alloc, state, *register, *low, *width, word),
-            Script::Fill {
-                register,
-                low,
-                width,
-                number,
-            } => return put_number(pool, alloc, state, *register, *low, *width, *number),
-            Script::Copy {
-                register,
-                low,
-                width,
-                from,
-                from_low,
-            } => {
-                let first = first_bit(from_low);
-                let bits = part_of(pool, alloc, state, *from, first, *width)?;
-                return put_bits(pool, alloc, state, *register, *low, bits.as_slice());
-            }
-            Script::CopyFrom {
-                register,
-                low,
-                width,
-                frame,
-                from,
-                from_low,
-            } => {
-                let first = first_bit(from_low);
-                let bits = handed(pool, alloc, state, frame, *from, first, *width)?;
-                return put_bits(pool, alloc, state, *register, *low, bits.as_slice());
-            }
-            Script::Give { variable, word } => {
-                let node = term(pool, alloc, state, word)?;
-                give(pool, state, *variable, node);
-                return Ok(());
-            }
+            Script::Put { .. }
+            | Script::Fill { .. }
+            | Script::Copy { .. }
+            | Script::CopyFrom { .. }
+            | Script::Give { .. } => return lift_assignment(pool, alloc, state, left),
         }
+    }
+}
+
+/// What a statement that has no others inside leaves in a state.
+#[tactic(auto, using(crate::proofs::Puts::state_kept, crate::proofs::Puts::state_fits, crate::proofs::Nodes::node_kept))]
+#[cycle(lift)]
+#[inline(never)]
+fn lift_assignment(
+    pool: &mut Pool,
+    alloc: Global,
+    state: &mut State,
+    script: &Script,
+) -> Result<(), AllocError>
+    requires fits { StateFits pool.old state.old }
+    requires formed { ScriptFormed (widths_in state.old) (script_of script.now) }
+    requires is_static { IsStatic (script_of script.now) }
+    requires assignment { IsAssignment (script_of script.now) }
+    ensures leaves { OnOk result (Leaves pool.new state.old state.new
+        (lifted (script_of script.now) (state_of pool.old state.old))) }
+    ensures keeps { Keeps pool.old pool.new }
+{
+    match script {
+        Script::Put {
+            register,
+            low,
+            width,
+            word,
+        } => lift_put(pool, alloc, state, *register, *low, *width, word),
+        Script::Fill {
+            register,
+            low,
+            width,
+            number,
+        } => put_number(pool, alloc, state, *register, *low, *width, *number),
+        Script::Copy {
+            register,
+            low,
+            width,
+            from,
+            from_low,
+        } => {
+            let bits = part_of(pool, alloc, state, *from, first_bit(from_low), *width)?;
+            put_bits(pool, alloc, state, *register, *low, bits.as_slice())
+        }
+        Script::CopyFrom {
+            register,
+            low,
+            width,
+            frame,
+            from,
+            from_low,
+        } => {
+            let first = first_bit(from_low);
+            let bits = handed(pool, alloc, state, frame, *from, first, *width)?;
+            put_bits(pool, alloc, state, *register, *low, bits.as_slice())
+        }
+        Script::Give { variable, word } => {
+            let node = term(pool, alloc, state, word)?;
+            give(pool, state, *variable, node);
+            Ok(())
+        }
+        _ => unreachable!(),
     }
 }
 

@@ -23,13 +23,13 @@ use Rattle.vg_lift.proofs.Sizes.{second_smaller, first_selected, second_selected
 use Rattle.vg_lift.proofs.Taking.{arm_next, copied, given_step, passed_more, keeps_itself, last_fits, last_size, leaves_as, leaves_behind, more_size, pushed_first, rest_fit, rest_size, taken_kept, turns_behind, turns_kept, turns_step, way_next, way_step}
 use Rattle.vg_lift.proofs.scripts.+lift.Goals as goal
 
-pub lift-put_bits-requires-in-CopyFrom-clause-fits : goal.lift-put_bits-requires-in-CopyFrom-clause-fits
-lift-put_bits-requires-in-CopyFrom-clause-fits t c =
-    state_fits c.statements.pool c.handed.new.pool c.statements.state c.handed.ensures.keeps c.statements.invariant.fits
+pub lift_assignment-put_bits-requires-in-CopyFrom-clause-fits : goal.lift_assignment-put_bits-requires-in-CopyFrom-clause-fits
+lift_assignment-put_bits-requires-in-CopyFrom-clause-fits t c =
+    state_fits c.args.pool.now c.handed.new.pool c.args.state.now c.handed.ensures.keeps c.requires.fits
 
-pub lift-give-requires-clause-fits : goal.lift-give-requires-clause-fits
-lift-give-requires-clause-fits t c =
-    state_fits c.statements.pool c.term.new.pool c.statements.state c.term.ensures.keeps c.statements.invariant.fits
+pub lift_assignment-give-requires-clause-fits : goal.lift_assignment-give-requires-clause-fits
+lift_assignment-give-requires-clause-fits t c =
+    state_fits c.args.pool.now c.term.new.pool c.args.state.now c.term.ensures.keeps c.requires.fits
 
 pub lift_put-put_node-requires-clause-fits : goal.lift_put-put_node-requires-clause-fits
 lift_put-put_node-requires-clause-fits t c =

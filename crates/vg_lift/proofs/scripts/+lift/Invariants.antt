@@ -22,34 +22,37 @@ abbrev pub decreases-passed_word : goal.decreases-passed_word
 decreases-passed_word l = 8 * size-Word l.word.now + 1
 
 abbrev pub decreases-block : goal.decreases-block
-decreases-block l = 8 * max (max (size-Given l.frame.now.given) (size-Script l.frame.now.script)) (size-Word l.answer.now) + 5
+decreases-block l = 8 * max (max (size-Given l.frame.now.given) (size-Script l.frame.now.script)) (size-Word l.answer.now) + 6
 
 abbrev pub decreases-handed : goal.decreases-handed
-decreases-handed l = 8 * max (size-Given l.frame.now.given) (size-Script l.frame.now.script) + 5
+decreases-handed l = 8 * max (size-Given l.frame.now.given) (size-Script l.frame.now.script) + 6
 
 abbrev pub decreases-call : goal.decreases-call
-decreases-call l = 8 * max (size-Given l.frame.now.given) (size-Script l.frame.now.script) + 4
+decreases-call l = 8 * max (size-Given l.frame.now.given) (size-Script l.frame.now.script) + 5
 
 abbrev pub decreases-passed : goal.decreases-passed
 decreases-passed l = 8 * size-Given l.given.now
 
 abbrev pub decreases-lift : goal.decreases-lift
-decreases-lift l = 8 * size-Script l.script.now
+decreases-lift l = 8 * size-Script l.script.now + 1
+
+abbrev pub decreases-lift_assignment : goal.decreases-lift_assignment
+decreases-lift_assignment l = 8 * size-Script l.script.now
 
 abbrev pub decreases-lift_put : goal.decreases-lift_put
 decreases-lift_put l = 8 * size-Word l.word.now + 1
 
 abbrev pub decreases-lift_ways : goal.decreases-lift_ways
-decreases-lift_ways l = 8 * max (size-Word l.condition.now) (max (size-Script l.body.now) (size-Script l.ways.now)) + 3
+decreases-lift_ways l = 8 * max (size-Word l.condition.now) (max (size-Script l.body.now) (size-Script l.ways.now)) + 4
 
 abbrev pub decreases-lift_pick : goal.decreases-lift_pick
-decreases-lift_pick l = 8 * max (size-Word l.selector.now) (size-Script l.arms.now) + 3
+decreases-lift_pick l = 8 * max (size-Word l.selector.now) (size-Script l.arms.now) + 4
 
 abbrev pub decreases-lift_turns : goal.decreases-lift_turns
-decreases-lift_turns l = 8 * turns_size l.turns.items + 2
+decreases-lift_turns l = 8 * turns_size l.turns.items + 3
 
 abbrev pub decreases-lift_turn : goal.decreases-lift_turn
-decreases-lift_turn l = 8 * size-Script l.turn.body.now + 1
+decreases-lift_turn l = 8 * size-Script l.turn.body.now + 2
 
 abbrev pub invariant-passed-registers : goal.invariant-passed-registers
 invariant-passed-registers l = record {
