@@ -4,6 +4,7 @@ ghost use Rattle.std.specs.Prelude.{◌≡◌, ◌+◌, ◌^◌, ◌<◌, ◌≤
 ghost use Rattle.std.specs.Fmt.{decimal, signed_decimal};
 ghost use Rattle.vg_program.specs.Params.{pointers, integers, name_of};
 ghost use Rattle.vg_program.specs.Before.{counted};
+ghost use Rattle.vg_program.specs.VectorLines.{HasVectors};
 ghost use Rattle.vg_program.specs.Vectors.{bytes_of, hex_digit, hex_text};
 ghost use Rattle.vg_program.specs.Text.{type_text, kind_text, param_text, params_text, offset_text, address_text, scalar_text, vector_text, bits_text, operand_text, pair_text, registers_text, imm_text, operands_text, no_counts, left_text, line_text, lines_text, signature_text, signature_of, first_line, last_line, body_text, text_of};
 
@@ -265,6 +266,7 @@ pub fn put_imm(alloc: Global, to: &mut Vec<u8>, imm: Option<u8>) -> Result<(), A
     to.extend_from_slice(text.as_slice())
 }
 
+/// What a line says after its word.
 fn put_operands(
     alloc: Global,
     to: &mut Vec<u8>,
@@ -302,6 +304,27 @@ fn put_operands(
             to.extend_from_slice(b" ")?;
             put_pair(alloc, to, params, *first, *second)?;
         }
+        Line::VectorLoad { .. }
+        | Line::VectorStore { .. }
+        | Line::Constant { .. }
+        | Line::Insert { .. }
+        | Line::Extract { .. }
+        | Line::Call { .. } => put_vector_operands(alloc, to, params, line)?,
+    }
+    Ok(())
+}
+
+/// What a line with vectors says after its word.
+fn put_vector_operands(
+    alloc: Global,
+    to: &mut Vec<u8>,
+    params: &[Param],
+    line: &Line,
+) -> Result<(), AllocError>
+    requires { HasVectors line.now }
+    ensures { OnOk result (to.new.items ≡ to.old.items ++ operands_text params.now line.now) }
+{
+    match line {
         Line::VectorLoad { size, address } => {
             put_sized(alloc, to, *size)?;
             write_address(alloc, to, params, *address)?;
@@ -338,6 +361,7 @@ fn put_operands(
             put_registers(alloc, to, registers.as_slice())?;
             put_imm(alloc, to, *imm)?;
         }
+        _ => unreachable!(),
     }
     Ok(())
 }
