@@ -5,7 +5,7 @@ use std::alloc::Global;
 use std::process::Abort;
 use std::test::Fail;
 use vg_guard::{parse_guarded, print_guarded};
-use vg_marked::{Marked, lines_of, unmarked};
+use vg_marked::{Marked, unmarked_between};
 
 const COPY: &str = "guarded two(p: ptr, q: ptr)
 check disjoint p+0 8 q+0 8
@@ -61,9 +61,7 @@ fn what_is_read_is_printed_again(rt: HostRuntime) -> Result<(), Fail> {
 
 /// The text of a row between two others, and the place of its mark.
 fn marked(alloc: Global, front: &str, row: &str, end: &str) -> Result<Marked, Fail> {
-    let whole = format!(in alloc; "{front}{row}{end}")?;
-    let lines = lines_of(alloc, whole.as_bytes())?;
-    match unmarked(alloc, lines.as_slice())? {
+    match unmarked_between(alloc, front.as_bytes(), row.as_bytes(), end.as_bytes())? {
         Some(marked) => Ok(marked),
         None => Err("a mark is missing".into()),
     }

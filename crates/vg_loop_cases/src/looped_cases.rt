@@ -6,7 +6,7 @@ use std::alloc::Global;
 use std::process::Abort;
 use std::test::Fail;
 use vg_looped::parse_looped;
-use vg_marked::{Marked, lines_of, unmarked};
+use vg_marked::{Marked, unmarked_between};
 
 const COPY: &str = "looped copy(d: ptr, s: ptr, n: i32) times n step d 4, s 4 block 2
 %v0 = vload 8 s+0
@@ -64,9 +64,7 @@ fn pointers_that_are_not_named_do_not_move(rt: HostRuntime) -> Result<(), Fail> 
 
 /// The text of a row between two others, and the place of its mark.
 fn marked(alloc: Global, front: &str, row: &str, end: &str) -> Result<Marked, Fail> {
-    let whole = format!(in alloc; "{front}{row}{end}")?;
-    let lines = lines_of(alloc, whole.as_bytes())?;
-    match unmarked(alloc, lines.as_slice())? {
+    match unmarked_between(alloc, front.as_bytes(), row.as_bytes(), end.as_bytes())? {
         Some(marked) => Ok(marked),
         None => Err("a mark is missing".into()),
     }

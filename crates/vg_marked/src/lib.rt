@@ -5,4 +5,4 @@ mod bars;
 mod marked;
 
 pub use bars::lines_of;
-pub use marked::{Marked, unmarked};
+pub use marked::{Marked, unmarked, unmarked_between};

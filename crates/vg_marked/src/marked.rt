@@ -1,8 +1,10 @@
 //! Texts with a mark.
 
-ghost use Rattle.std.specs.Prelude.{IfOk, ◌≡◌, ◌==◌, position};
+ghost use Rattle.std.specs.Prelude.{IfOk, ◌≡◌, ◌==◌, ◌++◌, map, position};
+ghost use Rattle.vg_marked.specs.Bars.{byte_of};
 ghost use Rattle.vg_marked.specs.Marked.{shown, unmarked};
 
+use crate::bars::lines_of;
 use std::alloc::{AllocError, Global};
 use vg_text::place::{Place, place_after};
 
@@ -37,4 +39,22 @@ pub fn unmarked(alloc: Global, row: &[u8]) -> Result<Option<Marked>, AllocError>
     text.extend_from_slice(&row[at + 1..])?;
     let place = place_after(Place { line: 1, column: 1 }, front);
     Ok(Some(Marked { text, place }))
+}
+
+/// The text of a row between two others without its first `@`, in all of which a `|` stands for a line
+/// feed. None where they have none, or more than 1,000,000 bytes.
+pub fn unmarked_between(
+    alloc: Global,
+    front: &[u8],
+    row: &[u8],
+    end: &[u8],
+) -> Result<Option<Marked>, AllocError>
+    ensures { IfOk result (λ m. shown m ≡ unmarked (map byte_of ((front.now ++ row.now) ++
+        end.now))) }
+{
+    let mut whole = Vec::from_slice(alloc, front)?;
+    whole.extend_from_slice(row)?;
+    whole.extend_from_slice(end)?;
+    let lines = lines_of(alloc, whole.as_slice())?;
+    unmarked(alloc, lines.as_slice())
 }
