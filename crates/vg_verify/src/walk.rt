@@ -4,6 +4,7 @@ ghost use Rattle.std.specs.Prelude.{◌≡◌, ◌*◌, ◌<◌, IfOk, OnOk, get
 ghost use Rattle.vg_base.specs.Bits.{bits_of_bytes, num};
 ghost use Rattle.vg_known.specs.Known.{know, know_all, with_vector};
 ghost use Rattle.vg_lift.specs.LaneTerm.{pieces};
+ghost use Rattle.vg_program.specs.VectorLines.{HasVectors};
 ghost use Rattle.vg_verify.specs.Views.{begun_with, given_of, given_with, pairs_in, known_of};
 
 use crate::called::Called;
@@ -111,6 +112,28 @@ impl Knowing {
                 first,
                 second,
             } => self.choice(alloc, given, *width, *condition, *first, *second),
+            Line::VectorLoad { .. }
+            | Line::VectorStore { .. }
+            | Line::Constant { .. }
+            | Line::Insert { .. }
+            | Line::Extract { .. }
+            | Line::Call { .. } => self.vector_line(alloc, given, line, events),
+        }
+    }
+
+    // The same of a line with vectors.
+    fn vector_line(
+        &mut self,
+        alloc: Global,
+        given: Given,
+        line: &Line,
+        events: &[usize],
+    ) -> Result<(), AllocError>
+        requires { HasVectors line.now }
+        ensures { OnOk result (known_of self.new
+            ≡ know (given_of given.entry) line.now events.now (known_of self.old)) }
+    {
+        match line {
             Line::VectorLoad { size, .. } => self.vector_load(alloc, given, *size, events),
             Line::VectorStore { size, register, .. } => {
                 self.vector_store(alloc, *size, *register, events)
@@ -134,6 +157,7 @@ impl Knowing {
                 imm,
                 ..
             } => self.call(alloc, given, name.bytes(), registers.as_slice(), *imm),
+            _ => unreachable!(),
         }
     }
 
