@@ -16,6 +16,13 @@ MayMove steps u names (compare op w x y) = MayMove steps u names x × MayMove st
 MayMove steps u names (select w c x y) =
     MayMove steps u names c × MayMove steps u names x × MayMove steps u names y
 
+-- an operator of two or three operands
+abbrev pub JoinsOperands : Expression → Type 0
+JoinsOperands (two op w x y) = Unit {0}
+JoinsOperands (compare op w x y) = Unit {0}
+JoinsOperands (select w c x y) = Unit {0}
+JoinsOperands e = ⊥
+
 abbrev pub StatementMayMove : List ℕ → ℕ → ℕ → Statement → Type 0
 StatementMayMove steps u names (assign e) = MayMove steps u names e
 StatementMayMove steps u names (store w a e) =

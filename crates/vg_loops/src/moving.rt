@@ -4,7 +4,7 @@ ghost use Rattle.std.specs.Prelude.{◌≡◌, ◌+ℤ◌, ◌*◌, pos, map, sl
 ghost use Rattle.vg_base.specs.Offset.{IsOffset};
 ghost use Rattle.vg_kernel.specs.Tree.{expression_of, statement_of};
 ghost use Rattle.vg_loop_laws.specs.Unrolled.{moved_address, moved, moved_statement};
-ghost use Rattle.vg_loops.specs.MayMove.{MayMove, StatementMayMove};
+ghost use Rattle.vg_loops.specs.MayMove.{JoinsOperands, MayMove, StatementMayMove};
 
 use std::alloc::{AllocError, Global};
 use vg_base::Address;
@@ -40,6 +40,7 @@ fn moved_address(steps: &[u32], turn: u32, address: Address) -> Address
 }
 
 /// An expression after so many turns, which gave so many names.
+#[cycle(moving)]
 fn moved(
     alloc: Global,
     steps: &[u32],
@@ -68,90 +69,101 @@ fn moved(
             width: *width,
             address: moved_address(steps, turn, *address),
         }),
-        KExpr::Two {
-            op,
-            width,
-            left,
-            right,
-        } => {
-            let left = moved(alloc, steps, turn, names, left)?;
-            let right = moved(alloc, steps, turn, names, right)?;
-            let left = Box::new(alloc, left)?;
-            let right = Box::new(alloc, right)?;
-            Ok(KExpr::Two {
-                op: *op,
-                width: *width,
-                left,
-                right,
-            })
-        }
         KExpr::Shift {
             op,
             width,
             amount,
             operand,
-        } => {
-            let operand = moved(alloc, steps, turn, names, operand)?;
-            let operand = Box::new(alloc, operand)?;
-            Ok(KExpr::Shift {
-                op: *op,
-                width: *width,
-                amount: *amount,
-                operand,
-            })
-        }
+        } => Ok(KExpr::Shift {
+            op: *op,
+            width: *width,
+            amount: *amount,
+            operand: moved_box(alloc, steps, turn, names, operand)?,
+        }),
         KExpr::Resize {
             op,
             width,
             from,
             operand,
-        } => {
-            let operand = moved(alloc, steps, turn, names, operand)?;
-            let operand = Box::new(alloc, operand)?;
-            Ok(KExpr::Resize {
-                op: *op,
-                width: *width,
-                from: *from,
-                operand,
-            })
+        } => Ok(KExpr::Resize {
+            op: *op,
+            width: *width,
+            from: *from,
+            operand: moved_box(alloc, steps, turn, names, operand)?,
+        }),
+        KExpr::Two { .. } | KExpr::Compare { .. } | KExpr::Select { .. } => {
+            moved_join(alloc, steps, turn, names, expression)
         }
+    }
+}
+
+/// The same of an operator of two or three operands.
+#[cycle(moving)]
+fn moved_join(
+    alloc: Global,
+    steps: &[u32],
+    turn: u32,
+    names: u32,
+    expression: &KExpr,
+) -> Result<KExpr, AllocError>
+    requires joins { JoinsOperands (expression_of expression.now) }
+    requires may_move { MayMove steps.now turn names (expression_of expression.now) }
+    ensures { IfOk result
+        (λ e. expression_of e ≡ moved steps.now turn names (expression_of expression.now)) }
+{
+    match expression {
+        KExpr::Two {
+            op,
+            width,
+            left,
+            right,
+        } => Ok(KExpr::Two {
+            op: *op,
+            width: *width,
+            left: moved_box(alloc, steps, turn, names, left)?,
+            right: moved_box(alloc, steps, turn, names, right)?,
+        }),
         KExpr::Compare {
             op,
             width,
             left,
             right,
-        } => {
-            let left = moved(alloc, steps, turn, names, left)?;
-            let right = moved(alloc, steps, turn, names, right)?;
-            let left = Box::new(alloc, left)?;
-            let right = Box::new(alloc, right)?;
-            Ok(KExpr::Compare {
-                op: *op,
-                width: *width,
-                left,
-                right,
-            })
-        }
+        } => Ok(KExpr::Compare {
+            op: *op,
+            width: *width,
+            left: moved_box(alloc, steps, turn, names, left)?,
+            right: moved_box(alloc, steps, turn, names, right)?,
+        }),
         KExpr::Select {
             width,
             condition,
             first,
             second,
-        } => {
-            let condition = moved(alloc, steps, turn, names, condition)?;
-            let first = moved(alloc, steps, turn, names, first)?;
-            let second = moved(alloc, steps, turn, names, second)?;
-            let condition = Box::new(alloc, condition)?;
-            let first = Box::new(alloc, first)?;
-            let second = Box::new(alloc, second)?;
-            Ok(KExpr::Select {
-                width: *width,
-                condition,
-                first,
-                second,
-            })
-        }
+        } => Ok(KExpr::Select {
+            width: *width,
+            condition: moved_box(alloc, steps, turn, names, condition)?,
+            first: moved_box(alloc, steps, turn, names, first)?,
+            second: moved_box(alloc, steps, turn, names, second)?,
+        }),
+        _ => unreachable!(),
     }
+}
+
+/// The same, on the heap.
+#[cycle(moving)]
+fn moved_box(
+    alloc: Global,
+    steps: &[u32],
+    turn: u32,
+    names: u32,
+    expression: &KExpr,
+) -> Result<Box<KExpr>, AllocError>
+    requires { MayMove steps.now turn names (expression_of expression.now) }
+    ensures { IfOk result
+        (λ e. expression_of e.value ≡ moved steps.now turn names (expression_of expression.now)) }
+{
+    let expression = moved(alloc, steps, turn, names, expression)?;
+    Ok(Box::new(alloc, expression)?)
 }
 
 /// A statement after so many turns, which gave so many names.
