@@ -126,7 +126,7 @@ statement-again names words (store w a e) behind r used rest (word, opening, com
     subst (λ (q : Names). StepRead names r used (store w a e) q rest) (sym given) (store-again names word opening comma closing end to from w a e r used rest is i place l whole j k width (subst (λ (t : Words). script_left r ≡ Some t) group left) few)
 
 -- statements up to the brace
-statements-again : (ss : List Statement) (names : Names) (words : Words) (room : ℕ) (done : List Statement) (s : Scan) (brace : Spelled) (rest : Words) → AreStatements names words ss → length ss ≤ room → s.used + sum_by uses_of ss ≤ 8192 → Is brace (codes "}")
+pub statements-again : (ss : List Statement) (names : Names) (words : Words) (room : ℕ) (done : List Statement) (s : Scan) (brace : Spelled) (rest : Words) → AreStatements names words ss → length ss ≤ room → s.used + sum_by uses_of ss ≤ 8192 → Is brace (codes "}")
     → script_left s.reading ≡ Some (words ++ brace ∷ rest) → Reads (statements_at room names done s) (done ++ ss, brace.place) rest
 unfolding statements_at
 statements-again [] names words zero done s brace rest are few uses is left =
@@ -234,7 +234,7 @@ first-word before p ws r rest (word, colon, kind, is, free, is', k, same) left =
     ((word, n.0), n.1, not_text is_free word.bytes (codes ")") named refl)
 
 -- all parameters
-parameters-again : (ps : List KParam) (words : Words) (r : Reading) (closing : Spelled) (rest : Words) → AreParameters words ps → AreDistinct ps → length ps ≤ 16 → Is closing (codes ")") → script_left r ≡ Some (words ++ closing ∷ rest) → Reads (parameters_at r) ps rest
+pub parameters-again : (ps : List KParam) (words : Words) (r : Reading) (closing : Spelled) (rest : Words) → AreParameters words ps → AreDistinct ps → length ps ≤ 16 → Is closing (codes ")") → script_left r ≡ Some (words ++ closing ∷ rest) → Reads (parameters_at r) ps rest
 unfolding parameters_at
 parameters-again [] words r closing rest are d few is left =
     let n = next-again r closing rest (subst (λ (t : Words). script_left r ≡ Some (t ++ closing ∷ rest)) are left) in

@@ -1,6 +1,5 @@
 pub mod StepLists
 pub mod Params
-pub mod PartsAgain
 pub mod LoopsFound
 pub mod LoopsAgain
 pub mod Rules

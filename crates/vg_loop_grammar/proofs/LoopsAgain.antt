@@ -15,6 +15,7 @@ use Rattle.vg_kernel.specs.Statements.{head_at, block_at}
 use Rattle.vg_kernel.specs.Tree.{Statement, assign, store, Tree}
 use Rattle.vg_kernel.specs.WellFormed.{pointers}
 use Rattle.vg_kernel.specs.Words.{is_free}
+use Rattle.vg_kernel.proofs.KernelsAgain.{statements-again, parameters-again}
 use Rattle.vg_kernel.proofs.OperandsFound.{at}
 use Rattle.vg_kernel.proofs.Scripts.{ok_once}
 use Rattle.vg_kernel.proofs.WordsAgain.{Reads, next-again, expect-again, end-again, name-again}
@@ -23,7 +24,6 @@ use Rattle.vg_loops.specs.Reader.{integer_at, step_at, steps_behind, steps_at, m
 use Rattle.vg_loop_grammar.specs.Grammar.{IsInteger, WrittenStep, IsStep, AreMoreSteps, AreSteps, SpellsHead, SpellsTurns, SpellsBlock, StoresMoving, SpellsLoop, IsLoopText}
 use Rattle.vg_loop_grammar.proofs.LoopsFound.{what-is-read-is-a-loop}
 use Rattle.vg_loop_grammar.proofs.Params.{given-params, steps-known, pointers-few}
-use Rattle.vg_loop_grammar.proofs.PartsAgain.{statements-again, parameters-again}
 use Rattle.vg_loop_grammar.proofs.StepLists.{none, put, AllFresh, put-long, none-long, put-written, apart-none, apart-few, lists-same}
 
 -- ---- steps

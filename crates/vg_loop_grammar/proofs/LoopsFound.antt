@@ -6,7 +6,6 @@ use Rattle.std.specs.Str.{bytes_eq}
 use Rattle.std.proofs.lemmas.Bool.{leb-true, ltb-true, ltb-false, cases_Bool}
 use Rattle.vg_base.specs.Bind.{or_fault}
 use Rattle.vg_base.proofs.Bind.{bind_ok, tested_ok, refused_ok, either_way}
-use Rattle.vg_base.specs.declared.width.Width.{Width}
 use Rattle.vg_text.specs.declared.place.Place.{Place}
 use Rattle.vg_text.specs.Number.{decimal_value}
 use Rattle.vg_text.specs.Place.{first_place}
@@ -32,17 +31,12 @@ use Rattle.vg_kernel.proofs.Scripts.{Spells, Spells-append, same_text, ok_once, 
 use Rattle.vg_kernel.proofs.StatementsFound.{statements-found}
 use Rattle.vg_loop_laws.specs.Loops.{Loop}
 use Rattle.vg_loops.specs.Reader.{integer_of, integer_at, step_of, unstepped, step_at, steps_behind, steps_at, moves, stores_moving, moving_at, loop_at, loop_from}
+use Rattle.vg_loops.proofs.Found.{integer-given}
 use Rattle.vg_loop_grammar.specs.Grammar.{IsInteger, WrittenStep, IsStep, AreMoreSteps, AreSteps, SpellsHead, SpellsTurns, SpellsBlock, StoresMoving, SpellsLoop, IsLoopText}
 use Rattle.vg_loop_grammar.proofs.Params.{given-params, steps-known}
 use Rattle.vg_loop_grammar.proofs.StepLists.{none, put, AllFresh, put-long, none-long, put-written, fresh-apart}
 
 -- ---- names of parameters
-
-integer-given : (g : Option Given) (place : Place) (k : ℕ) → integer_of g place ≡ Ok k → (w : Width) × (g ≡ Some (given.Argument k w))
-integer-given (Some (given.Argument j w)) place k e = (w, ap (λ (i : ℕ). Some (given.Argument i w)) (ok_once j k e))
-integer-given (Some (given.Pointer j)) place k e = absurd (cc)
-integer-given (Some (given.Assigned j t)) place k e = absurd (cc)
-integer-given None place k e = absurd (cc)
 
 pointer-given : (g : Option Given) (place : Place) (k : ℕ) → pointer_of g place ≡ Ok k → g ≡ Some (given.Pointer k)
 pointer-given (Some (given.Pointer j)) place k e = ap (λ (i : ℕ). Some (given.Pointer i)) (ok_once j k e)

@@ -3,7 +3,6 @@ use Rattle.std.proofs.Common.{◌≡◌, ℕ, suc, ◌+◌, ◌<◌, ◌≤◌, 
 use Rattle.std.specs.Prelude.{if◌then◌else◌}
 use Rattle.std.specs.Str.{bytes_eq}
 use Rattle.vg_base.proofs.Bind.{either_way}
-use Rattle.vg_base.specs.declared.width.Width.{Width}
 use Rattle.vg_kernel.specs.declared.given.Given.{Given}
 use Rattle.vg_kernel.specs.declared.given.Given.TheVariants as given
 use Rattle.vg_kernel.specs.declared.parameter.KParam.{KParam}
@@ -11,7 +10,7 @@ use Rattle.vg_kernel.specs.declared.parameter.KParamKind.{KParamKind}
 use Rattle.vg_kernel.specs.declared.parameter.KParamKind.TheVariants.{Pointer, Integer}
 use Rattle.vg_kernel.specs.Names.{parameter_named, assigned_named, given_of, given_as, names_of, is_pointer}
 use Rattle.vg_kernel.specs.Script.{Words}
-use Rattle.vg_kernel.specs.WellFormed.{pointers, integer_widths}
+use Rattle.vg_kernel.specs.WellFormed.{pointers}
 use Rattle.vg_kernel.specs.Words.{first_of}
 use Rattle.vg_loop_grammar.specs.Grammar.{WrittenStep, IsStep, AreMoreSteps, AreSteps}
 use Rattle.vg_loop_grammar.proofs.StepLists.{AllKnown}
@@ -55,41 +54,6 @@ pointer-known n m (p ∷ ps) name k e =
           | inl here ↦ absurd (let found : Some (given.Argument m v) ≡ Some (given.Pointer k) = sym (ap (λ (q : KParamKind). Some (given_of q n m)) f) ∙ here.1 in cc)
           | inr more ↦
               let next : parameter_named n (m + 1) ps name ≡ Some (given.Pointer k) =
-              ap (λ (q : KParamKind). if is_pointer q then parameter_named (n + 1) m ps name else parameter_named n (m + 1) ps name) (sym f) ∙ more.1 in
-              let less = beside next in
-              omega (arith, less, same)
-        ]
-
--- and an integer parameter is one of those
-pub integer-known : (n m : ℕ) (ps : List KParam) (name : List ℕ) (k : ℕ) (w : Width) → parameter_named n m ps name ≡ Some (given.Argument k w) → k < m + length (integer_widths ps)
-unfolding parameter_named
-integer-known n m [] name k w e = absurd (cc)
-integer-known n m (p ∷ ps) name k w e =
-    by p.kind refl (λ f. integer-known (n + 1) m ps name k w f) (λ f. integer-known n (m + 1) ps name k w f)
-  where
-    by : (q : KParamKind) → p.kind ≡ q
-        → (parameter_named (n + 1) m ps name ≡ Some (given.Argument k w) → k < m + length (integer_widths ps))
-        → (parameter_named n (m + 1) ps name ≡ Some (given.Argument k w) → k < (m + 1) + length (integer_widths ps))
-        → k < m + length (integer_widths (p ∷ ps))
-    by (Pointer noalias) f behind beside =
-        let same : length (integer_widths (p ∷ ps)) ≡ length (integer_widths ps) = rw f refl in
-        elim (either_way (bytes_eq p.name name) (Some (given_of p.kind n m)) _ e) [
-          | inl here ↦ absurd (let found : Some (given.Pointer n) ≡ Some (given.Argument k w) = sym (ap (λ (q : KParamKind). Some (given_of q n m)) f) ∙ here.1 in cc)
-          | inr more ↦
-              let next : parameter_named (n + 1) m ps name ≡ Some (given.Argument k w) =
-              ap (λ (q : KParamKind). if is_pointer q then parameter_named (n + 1) m ps name else parameter_named n (m + 1) ps name) (sym f) ∙ more.1 in
-              let less = behind next in
-              omega (arith, less, same)
-        ]
-    by (Integer v) f behind beside =
-        let same : length (integer_widths (p ∷ ps)) ≡ suc (length (integer_widths ps)) = rw f refl in
-        elim (either_way (bytes_eq p.name name) (Some (given_of p.kind n m)) _ e) [
-          | inl here ↦
-              let found : Some (given.Argument m v) ≡ Some (given.Argument k w) = sym (ap (λ (q : KParamKind). Some (given_of q n m)) f) ∙ here.1 in
-              let number : m ≡ k = cc in
-              omega (arith, number, same)
-          | inr more ↦
-              let next : parameter_named n (m + 1) ps name ≡ Some (given.Argument k w) =
               ap (λ (q : KParamKind). if is_pointer q then parameter_named (n + 1) m ps name else parameter_named n (m + 1) ps name) (sym f) ∙ more.1 in
               let less = beside next in
               omega (arith, less, same)

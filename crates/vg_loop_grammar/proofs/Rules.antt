@@ -10,9 +10,10 @@ use Rattle.vg_kernel.proofs.Scripts.{true_fact}
 use Rattle.vg_kernel.proofs.WellFormed.{names-free, statements-well_formed}
 use Rattle.vg_loop_laws.specs.Loops.{Loop}
 use Rattle.vg_loops.specs.Formed.{IsLoop}
+use Rattle.vg_loops.proofs.Found.{integer-known}
 use Rattle.vg_loop_grammar.specs.Grammar.{WrittenStep, AreMoreSteps, AreSteps, bytes_written, SpellsLoop, IsLoopText}
 use Rattle.vg_loop_grammar.proofs.LoopsAgain.{moving-again}
-use Rattle.vg_loop_grammar.proofs.Params.{given-params, integer-known}
+use Rattle.vg_loop_grammar.proofs.Params.{given-params}
 
 abbrev AllSmall : List WrittenStep → Type 0
 AllSmall ss = AllByRecursion (λ s. s.bytes ≤ 65536) ss

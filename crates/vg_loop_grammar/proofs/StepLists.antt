@@ -3,14 +3,10 @@ use Rattle.std.proofs.Common.{◌≡◌, ℕ, zero, suc, ◌<◌, ◌≤◌, tru
 use Rattle.std.specs.Prelude.{slice_set, slice_index, nat_eq, if◌then◌else◌}
 use Rattle.std.specs.List.{AllByRecursion, IsDistinct}
 use Rattle.std.proofs.lemmas.Bool.{cases_Bool, eqb-true, eqb-false, eq-eqb, ne_eqb}
+use Rattle.vg_loops.proofs.Found.{set-long}
 use Rattle.vg_loop_grammar.specs.Grammar.{WrittenStep, bytes_written}
 
 -- ---- one step
-
-pub set-long : (xs : List ℕ) (k s : ℕ) → length (slice_set xs k s) ≡ length xs
-set-long [] k s = refl
-set-long (x ∷ xs) zero s = refl
-set-long (x ∷ xs) (suc k) s = ap suc (set-long xs k s)
 
 set-here : (xs : List ℕ) (k s : ℕ) → k < length xs → slice_index (slice_set xs k s) k ≡ s
 set-here [] k s h = absurd (omega arith)

@@ -36,7 +36,7 @@ use Rattle.vg_loops.specs.View.{loop_of}
 -- ---- the integer parameter
 
 -- an integer parameter that is named is one of them
-integer-known : (n m : ℕ) (ps : List KParam) (name : List ℕ) (k : ℕ) (w : Width) → parameter_named n m ps name ≡ Some (given.Argument k w)
+pub integer-known : (n m : ℕ) (ps : List KParam) (name : List ℕ) (k : ℕ) (w : Width) → parameter_named n m ps name ≡ Some (given.Argument k w)
     → k < m + length (integer_widths ps)
 unfolding parameter_named
 integer-known n m [] name k w e = absurd (cc)
@@ -70,7 +70,7 @@ integer-known n m (p ∷ ps) name k w e =
           omega (arith, less, same)
     ]
 
-integer-given : (g : Option Given) (place : Place) (k : ℕ) → integer_of g place ≡ Ok k → (w : Width) × (g ≡ Some (given.Argument k w))
+pub integer-given : (g : Option Given) (place : Place) (k : ℕ) → integer_of g place ≡ Ok k → (w : Width) × (g ≡ Some (given.Argument k w))
 integer-given (Some (given.Argument j w)) place k e = (w, ap (λ (i : ℕ). Some (given.Argument i w)) (ok_once j k e))
 integer-given (Some (given.Pointer j)) place k e = absurd (cc)
 integer-given (Some (given.Assigned j t)) place k e = absurd (cc)
@@ -91,7 +91,7 @@ integer-found params r x e =
 abbrev Small : List ℕ → Type 0
 Small steps = AllByRecursion (λ s. s ≤ 65536) steps
 
-set-long : (xs : List ℕ) (k s : ℕ) → length (slice_set xs k s) ≡ length xs
+pub set-long : (xs : List ℕ) (k s : ℕ) → length (slice_set xs k s) ≡ length xs
 set-long [] k s = refl
 set-long (x ∷ xs) zero s = refl
 set-long (x ∷ xs) (suc k) s = ap suc (set-long xs k s)
