@@ -10,11 +10,12 @@ use Rattle.vg_kernel_plans.specs.SameAs.{same_pack}
 use Rattle.vg_plans.proofs.Lists.{take-whole}
 use Rattle.vg_kernel_plans.specs.declared.choice.Choice.{Choice}
 use Rattle.vg_shapes.specs.declared.match_table.Match.{Match}
+use Rattle.vg_shapes.specs.declared.operand.Operand.{Operand}
 use Rattle.vg_shapes.specs.declared.pack.Pack.{Pack}
 use Rattle.vg_shapes.specs.declared.ssa.Ssa.{Ssa}
 use Rattle.vg_shapes.specs.Description.{Description}
 use Rattle.vg_beam.specs.declared.pack_table.PackTable.{PackTable}
-use Rattle.vg_beam.specs.PackTable.{AreNumbered, AreProduced, Grows, IsPackTable, IsNumbered, IsOpened, no_pack, numbers_in, pack_at, produced_at, produced_by}
+use Rattle.vg_beam.specs.PackTable.{AreNumbered, AreProduced, AreTaken, Grows, IsPackTable, IsNumbered, IsOpened, no_pack, numbers_in, pack_at, produced_at, produced_by}
 use Rattle.vg_beam.specs.Key.{AreApart, Names, first_place}
 use Rattle.vg_beam.proofs.Numbers.{apart-push, at-left, names-grow, names-none, names-push, place-end, place-none, place-passes}
 
@@ -60,6 +61,27 @@ module _ (ch : Choice) (ds : List Description) (matches : List Match) (ssa : Ssa
         subst (AreProduced ch ds matches ssa (packs ++ p ∷ []) (pack_at (packs ++ p ∷ []) n)) (sym none) tt
   ]
 
+  taken-push : (packs : List Pack) (operands : List (List Operand)) (p : Pack) (os : List Operand) → length operands ≡ length packs
+      → ((n : ℕ) → n < length packs → AreTaken ds matches ssa (pack_at packs n) (get_or operands n [])) → AreTaken ds matches ssa p os
+      → (n : ℕ) → n < length (packs ++ p ∷ [])
+      → AreTaken ds matches ssa (pack_at (packs ++ p ∷ []) n) (get_or (operands ++ os ∷ []) n [])
+  taken-push packs operands p os long a own n l = elim (cases_Bool (nat_lt n (length packs))) [
+    | inl t ↦
+        let i : n < length packs = grind (arith, nat_tests, t) in
+        let j : n < length operands = omega (arith, i, long) in
+        let g : Grows packs (packs ++ p ∷ []) = (p ∷ [], refl) in
+        subst (λ q. AreTaken ds matches ssa q (get_or (operands ++ os ∷ []) n [])) (sym (at-along packs (packs ++ p ∷ []) n g i))
+        (subst (AreTaken ds matches ssa (pack_at packs n)) (sym (get_or_append_left operands (os ∷ []) [] n j)) (a n i))
+    | inr f ↦
+        let k : length packs ≤ n = grind (arith, nat_tests, f) in
+        let e : n ≡ length packs = omega (arith, l, k, length-append packs (p ∷ [])) in
+        let d : n ≡ length operands = e ∙ sym long in
+        subst (λ q. AreTaken ds matches ssa q (get_or (operands ++ os ∷ []) n []))
+        (sym (ap (pack_at (packs ++ p ∷ [])) e ∙ get_or-append_seam packs p [] no_pack))
+        (subst (AreTaken ds matches ssa p)
+        (sym (ap (λ m. get_or (operands ++ os ∷ []) m []) d ∙ get_or-append_seam operands os [] [])) own)
+  ]
+
   pub number-there : (b : PackTable) (p : Pack) (place : ℕ) → place ≡ first_place (same_pack p) b.packs.items → place < length b.packs.items
       → IsPackTable ch ds matches ssa b → IsNumbered ch ds matches ssa b b p place
   number-there b p place e l is = record {
@@ -72,10 +94,11 @@ module _ (ch : Choice) (ds : List Description) (matches : List Match) (ssa : Ssa
         ap (pack_at b.packs.items) e ∙ sym (pack-is p (pack_at b.packs.items (first_place (same_pack p) b.packs.items)) t);
   }
 
-  pub number-new : (old new : PackTable) (p : Pack) (place : ℕ) → place ≡ first_place (same_pack p) old.packs.items → length old.packs.items ≤ place
+  pub number-new : (old new : PackTable) (p : Pack) (os : List Operand) (place : ℕ) → place ≡ first_place (same_pack p) old.packs.items → length old.packs.items ≤ place
       → IsPackTable ch ds matches ssa old → new.packs.items ≡ old.packs.items ++ p ∷ [] → new.produced.items ≡ old.produced.items ++ None ∷ []
+      → new.operands.items ≡ old.operands.items ++ os ∷ [] → AreTaken ds matches ssa p os
       → IsNumbered ch ds matches ssa old new p place
-  number-new old new p place e l is packs produced =
+  number-new old new p os place e l is packs produced operands own =
       let k : length old.packs.items ≤ first_place (same_pack p) old.packs.items = subst (λ n. length old.packs.items ≤ n) e l in
       let at_end : place ≡ length old.packs.items = e ∙ place-end (same_pack p) old.packs.items k in
       record {
@@ -85,6 +108,13 @@ module _ (ch : Choice) (ds : List Description) (matches : List Match) (ssa : Ssa
           long =
               ap length produced ∙ length-append old.produced.items (None ∷ []) ∙ ap (λ n. n + 1) is.long
               ∙ sym (length-append old.packs.items (p ∷ [])) ∙ ap length (sym packs);
+          taken =
+              ap length operands ∙ length-append old.operands.items (os ∷ []) ∙ ap (λ n. n + 1) is.taken
+              ∙ sym (length-append old.packs.items (p ∷ [])) ∙ ap length (sym packs);
+          operands = λ n i.
+              subst (λ q. AreTaken ds matches ssa (pack_at q n) (get_or new.operands.items n [])) (sym packs)
+              (subst (λ o. AreTaken ds matches ssa (pack_at (old.packs.items ++ p ∷ []) n) (get_or o n [])) (sym operands)
+              (taken-push old.packs.items old.operands.items p os is.taken is.operands own n (subst (λ q. n < length q) packs i)));
           produced = λ n i.
               subst (λ q. AreProduced ch ds matches ssa q (pack_at q n) (get_or new.produced.items n None)) (sym packs)
               (subst (λ o. AreProduced ch ds matches ssa (old.packs.items ++ p ∷ []) (pack_at (old.packs.items ++ p ∷ []) n) (get_or o n None)) (sym produced)
@@ -141,8 +171,8 @@ module _ (ch : Choice) (ds : List Description) (matches : List Match) (ssa : Ssa
   pub open-new : (old mid new : PackTable) (n : ℕ) (packs : List Pack) (numbers : List ℕ) → n < length old.packs.items
       → AreNumbered ch ds matches ssa old mid packs numbers → packs ≡ produced_by ch ds matches ssa (pack_at old.packs.items n)
       → new.packs.items ≡ mid.packs.items → new.produced.items ≡ set mid.produced.items n (Some numbers)
-      → IsOpened ch ds matches ssa old new n
-  open-new old mid new n packs numbers l are e same produced =
+      → new.operands.items ≡ mid.operands.items → IsOpened ch ds matches ssa old new n
+  open-new old mid new n packs numbers l are e same produced operands =
       let inside = inside-along old.packs.items mid.packs.items n are.grows l in
       let there : n < length mid.produced.items = omega (arith, inside, are.pack_table.long) in
       let names : Names no_pack mid.packs.items numbers (produced_by ch ds matches ssa (pack_at old.packs.items n)) =
@@ -153,6 +183,11 @@ module _ (ch : Choice) (ds : List Description) (matches : List Match) (ssa : Ssa
         pack_table = record {
           apart = subst (AreApart no_pack) (sym same) are.pack_table.apart;
           long = ap length produced ∙ length-set mid.produced.items n (Some numbers) ∙ are.pack_table.long ∙ ap length (sym same);
+          taken = ap length operands ∙ are.pack_table.taken ∙ ap length (sym same);
+          operands = λ m i.
+              subst (λ q. AreTaken ds matches ssa (pack_at q m) (get_or new.operands.items m [])) (sym same)
+              (subst (λ o. AreTaken ds matches ssa (pack_at mid.packs.items m) (get_or o m [])) (sym operands)
+              (are.pack_table.operands m (subst (λ q. m < length q) same i)));
           produced = λ m i. subst (λ q. AreProduced ch ds matches ssa q (pack_at q m) (get_or new.produced.items m None)) (sym same)
               (each m (subst (λ q. m < length q) same i) names noted);
         };

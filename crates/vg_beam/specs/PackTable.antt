@@ -2,10 +2,11 @@
 use Rattle.std.specs.Prelude.{◌≡◌, ◌<◌, ◌++◌, ℕ, List, [], length, get_or, Option, Some, None}
 use Rattle.std.specs.List.{flat_map}
 use Rattle.vg_kernel_plans.specs.Fed.{packing_by}
-use Rattle.vg_kernel_plans.specs.Taken.{operands_of}
+use Rattle.vg_kernel_plans.specs.Taken.{IsShort, operands_of}
 use Rattle.vg_kernel_plans.specs.declared.choice.Choice.{Choice}
 use Rattle.vg_shapes.specs.declared.match_table.Match.{Match}
 use Rattle.vg_plans.specs.World.{tried_for}
+use Rattle.vg_shapes.specs.declared.operand.Operand.{Operand}
 use Rattle.vg_shapes.specs.declared.pack.Pack.{Pack}
 use Rattle.vg_shapes.specs.declared.pack.Pack.TheVariants.{Stores}
 use Rattle.vg_shapes.specs.declared.ssa.Ssa.{Ssa}
@@ -31,12 +32,20 @@ abbrev pub AreProduced :
 AreProduced ch ds matches ssa packs p None = Unit {0}
 AreProduced ch ds matches ssa packs p (Some numbers) = Names no_pack packs numbers (produced_by ch ds matches ssa p)
 
--- each pack stands once, and for what it takes is tried what is noted
+-- these are the operands that a pack takes, if it has few lanes
+abbrev pub AreTaken : List Description → List Match → Ssa → Pack → List Operand → Type 0
+AreTaken ds matches ssa p os = IsShort p → os ≡ operands_of ds matches ssa p
+
+-- each pack stands once, it takes the operands beside it, and for what it takes is tried what is noted
 pub record IsPackTable
     (ch : Choice) (ds : List Description) (matches : List Match) (ssa : Ssa) (b : PackTable)
     : Type 0 where
   pub apart : AreApart no_pack b.packs.items
   pub long : length b.produced.items ≡ length b.packs.items
+  pub taken : length b.operands.items ≡ length b.packs.items
+  pub operands :
+      (n : ℕ) → n < length b.packs.items
+      → AreTaken ds matches ssa (pack_at b.packs.items n) (get_or b.operands.items n [])
   pub produced :
       (n : ℕ) → n < length b.packs.items
       → AreProduced ch ds matches ssa b.packs.items (pack_at b.packs.items n) (get_or b.produced.items n None)

@@ -1,11 +1,12 @@
 //! The packs among which plans are searched.
 
-ghost use Rattle.std.specs.Prelude.{◌≡◌, ◌<◌, [], IfOk, None, OnOk, get_or, is_some, length, map};
+ghost use Rattle.std.specs.Prelude.{◌≡◌, ◌<◌, [], IfOk, None, OnOk, false, get_or, is_some, length, map, true};
 ghost use Rattle.std.specs.List.{position};
 ghost use Rattle.vg_kernel_plans.specs.SameAs.{same_pack};
-ghost use Rattle.vg_kernel_plans.specs.Taken.{MatchesNear};
+ghost use Rattle.vg_kernel_plans.specs.Taken.{IsShort, MatchesNear};
 ghost use Rattle.vg_beam.specs.PackTable.{
   AreNumbered,
+  AreTaken,
   IsPackTable,
   IsNumbered,
   IsOpened,
@@ -20,17 +21,19 @@ use std::alloc::{AllocError, Global};
 use vg_base::Items;
 use vg_kernel_plans::copies::copy_pack;
 use vg_kernel_plans::same::is_same_pack;
+use vg_kernel_plans::taken::operands_of;
 use vg_packs::tried_by;
-use vg_shapes::Pack;
+use vg_shapes::{Operand, Pack};
 
 /// The greatest number of packs.
 const MOST: usize = 1 << 24;
 
-/// Packs, no two the same, each named by its number, and for each the numbers of those that are tried
-/// for what it takes, once they were looked for.
+/// Packs, no two the same, each named by its number, and for each the operands that it takes, if it has
+/// few lanes, and the numbers of those that are tried for what it takes, once they were looked for.
 #[derive(Drop)]
 pub(crate) struct PackTable {
     packs: Vec<Pack>,
+    operands: Vec<Items<Operand>>,
     produced: Vec<Option<Items<u32>>>,
 }
 
@@ -48,14 +51,45 @@ fn place_of(packs: &[Pack], pack: &Pack) -> usize
     find_place(packs, pack).unwrap_or(packs.len())
 }
 
+/// Whether a pack has few lanes.
+fn is_short(pack: &Pack) -> bool
+    ensures few { result ≡ true → IsShort pack.now }
+    ensures many { result ≡ false → IsShort pack.now → ⊥ }
+{
+    match pack {
+        Pack::Stores(units) => units.as_slice().len() <= 64,
+        Pack::Loads(units) => units.as_slice().len() <= 64,
+        Pack::Call { lanes, .. } => lanes.as_slice().len() < 1 << 32,
+    }
+}
+
+/// The operands that a pack takes, if it has few lanes.
+fn operands_taken(
+    alloc: Global,
+    pack: &Pack,
+    space: &SearchSpace,
+) -> Result<Items<Operand>, AllocError>
+    requires { MatchesNear space.now.table.now }
+    ensures { IfOk result (AreTaken (described space.now) space.now.table.now space.now.ssa.now
+        pack.now) }
+{
+    if !is_short(pack) {
+        return Ok(Items::from_vec(Vec::new(alloc)));
+    }
+    let operands = operands_of(alloc, space.descriptions, space.table, space.ssa, pack)?;
+    Ok(Items::from_vec(operands))
+}
+
 impl PackTable {
     /// The table of no packs.
     pub(crate) fn new(alloc: Global) -> PackTable
         ensures packs { result.packs.items ≡ [] }
+        ensures operands { result.operands.items ≡ [] }
         ensures produced { result.produced.items ≡ [] }
     {
         PackTable {
             packs: Vec::new(alloc),
+            operands: Vec::new(alloc),
             produced: Vec::new(alloc),
         }
     }
@@ -68,9 +102,18 @@ impl PackTable {
         &self.packs[number as usize]
     }
 
+    /// The operands that the pack of a number takes, if it has few lanes.
+    pub(crate) fn operands(&self, number: u32) -> &[Operand]
+        requires { number < length self.now.operands.items }
+        ensures { result.now ≡ get_or self.now.operands.items number [] }
+    {
+        self.operands[number as usize].as_slice()
+    }
+
     /// The number of a pack, which is put in the table if it is not there. Where there are some 2^24
     /// packs there is no memory.
     fn number(&mut self, alloc: Global, pack: &Pack, space: &SearchSpace) -> Result<u32, AllocError>
+        requires near { MatchesNear space.now.table.now }
         requires pack_table { IsPackTable (choice_of space.now) (described space.now)
             space.now.table.now space.now.ssa.now self.old }
         ensures { IfOk result (IsNumbered (choice_of space.now) (described space.now)
@@ -84,7 +127,9 @@ impl PackTable {
             return Ok(place as u32);
         }
         let copy = copy_pack(alloc, pack)?;
+        let operands = operands_taken(alloc, pack, space)?;
         self.packs.push(copy)?;
+        self.operands.push(operands)?;
         self.produced.push(None)?;
         Ok(place as u32)
     }
@@ -96,6 +141,7 @@ impl PackTable {
         packs: &[Pack],
         space: &SearchSpace,
     ) -> Result<Vec<u32>, AllocError>
+        requires near { MatchesNear space.now.table.now }
         requires pack_table { IsPackTable (choice_of space.now) (described space.now)
             space.now.table.now space.now.ssa.now self.old }
         ensures { IfOk result (λ numbers. AreNumbered (choice_of space.now) (described space.now)

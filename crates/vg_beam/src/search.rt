@@ -78,10 +78,12 @@ fn meet(
     if !stays {
         return Ok(());
     }
+    let operands = pack_table.operands(pack);
     let cost = kept.running.cost_with(
         alloc,
         scratch,
         last,
+        operands,
         space.descriptions,
         space.table,
         space.ssa,

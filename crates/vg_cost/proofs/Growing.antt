@@ -1,10 +1,11 @@
 -- What a pack after a plan changes of what is known of the plan.
-use Rattle.std.proofs.Common.{◌≡◌, ℕ, ◌+◌, Bool, true, false, List, [], ◌∷◌, ◌++◌, length, map, refl, sym, ◌∙◌, ap, arith, inl, inr, append-nil, append_assoc, subst}
+use Rattle.std.proofs.Common.{◌≡◌, ℕ, ◌+◌, ◌<◌, Bool, true, false, List, [], ◌∷◌, ◌++◌, get_or, length, map, take, refl, sym, ◌∙◌, ap, arith, inl, inr, append-nil, append_assoc, subst}
 use Rattle.std.specs.Prelude.{◌||◌, nat_lt, replicate, if◌then◌else◌}
 use Rattle.std.specs.List.{AllByRecursion, flat_map, list_any, sum_by}
 use Rattle.std.proofs.lemmas.Bool.{cases_Bool}
 use Rattle.std.proofs.lemmas.Bool.Decides.{nat_tests}
 use Rattle.std.proofs.lemmas.Grind.{flat_map-append}
+use Rattle.std.proofs.lemmas.List.{take_more}
 use Rattle.std.proofs.lemmas.List.Folds.{list_any-append}
 use Rattle.std.proofs.lemmas.List.Sums.{sum_by-cons, sum_by_push}
 use Rattle.vg_plans.specs.Levels.{distinct_onto}
@@ -88,6 +89,19 @@ onto-taken ds ssa plan os [] = refl
 onto-taken ds ssa plan os (x ∷ xs) =
     ap (λ l. add_all (taken_for ds ssa plan) l xs) (added ds ssa plan os x)
     ∙ onto-taken ds ssa plan (if list_any (same_operand x) os then os else os ++ x ∷ []) xs
+
+add_all_push : (know : Operand → Taken) (ts : List Taken) (xs : List Operand) (x : Operand)
+    → add_all know ts (xs ++ x ∷ []) ≡ add_taken know (add_all know ts xs) x
+add_all_push know ts [] x = refl
+add_all_push know ts (y ∷ xs) x = add_all_push know (add_taken know ts y) xs x
+
+-- one operand more is added
+pub add_all_more : (know : Operand → Taken) (ts now next : List Taken) (xs : List Operand) (k : ℕ) (d x : Operand)
+    → k < length xs → x ≡ get_or xs k d → now ≡ add_all know ts (take k xs) → next ≡ add_taken know now x
+    → next ≡ add_all know ts (take (k + 1) xs)
+add_all_more know ts now next xs k d x inside is e n =
+    n ∙ ap (λ l. add_taken know l x) e ∙ sym (add_all_push know ts (take k xs) x)
+    ∙ sym (ap (add_all know ts) (take_more xs k d inside ∙ ap (λ y. take k xs ++ y ∷ []) (sym is)))
 
 pub operands-push : (ds : List Description) (matches : List Match) (ssa : Ssa) (plan : List Pack) (p : Pack)
     → distinct_onto same_operand (operands (packing ds matches ssa []) plan) (operands_of ds matches ssa p)

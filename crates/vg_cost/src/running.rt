@@ -11,7 +11,7 @@ ghost use Rattle.vg_cost.specs.Taken.{inserted_for};
 ghost use Rattle.vg_cost.specs.TriedMarks.{AreMarksFor};
 ghost use Rattle.vg_kernel_plans.specs.Fed.{IsFedPlanFor};
 ghost use Rattle.vg_kernel_plans.specs.Packing.{packing};
-ghost use Rattle.vg_kernel_plans.specs.Taken.{IsShort, MatchesNear};
+ghost use Rattle.vg_kernel_plans.specs.Taken.{IsShort, MatchesNear, operands_of};
 ghost use Rattle.vg_plans.specs.World.{plan_cost};
 ghost use Rattle.vg_shapes.specs.Description.{description_of};
 ghost use Rattle.vg_shapes.specs.Units.{arguments};
@@ -27,7 +27,7 @@ use crate::taken::{Taken, add_all, keep_all, kept_cost, recipes_cost};
 use crate::tried_marks::TriedMarks;
 use std::alloc::{AllocError, Global};
 use vg_kernel_plans::taken::operands_of;
-use vg_shapes::{Description, MatchTable, Pack, Ssa};
+use vg_shapes::{Description, MatchTable, Operand, Pack, Ssa};
 
 /// A plan and what it costs. A longer plan's cost is found from it by looking again at the operands
 /// of which the new pack has a value.
@@ -133,13 +133,14 @@ impl Running {
         })
     }
 
-    /// What the plan with a pack after it costs. Fails for want of memory, and where the cost has too
-    /// many bits to be counted. Leaves the scratch as it was.
+    /// What the plan with a pack after it costs, by the pack's operands. Fails for want of memory, and
+    /// where the cost has too many bits to be counted. Leaves the scratch as it was.
     pub fn cost_with(
         &self,
         alloc: Global,
         scratch: &mut PriceScratch,
         pack: &Pack,
+        operands: &[Operand],
         descriptions: &[Description],
         table: &MatchTable,
         ssa: &Ssa,
@@ -149,6 +150,8 @@ impl Running {
         requires scratch { IsScratchFor ssa.now self.now.packs.items scratch.old }
         requires stands { StandsFor (map description_of descriptions.now) table.now ssa.now
             self.now }
+        requires operands { operands.now ≡ operands_of (map description_of descriptions.now)
+            table.now ssa.now pack.now }
         requires plan { (deps : List (ℕ × ℕ)) × IsFedPlanFor (map description_of descriptions.now)
             table.now ssa.now deps (self.now.packs.items ++ pack.now ∷ []) }
         ensures scratch { scratch.new ≡ scratch.old }
@@ -158,7 +161,7 @@ impl Running {
     {
         let plan = scratch.plan.as_slice();
         let tried = &mut scratch.tried;
-        let cost = self.cost_tried(alloc, plan, tried, pack, descriptions, table, ssa)?;
+        let cost = self.cost_tried(alloc, plan, tried, pack, operands, descriptions, table, ssa)?;
         Ok(cost)
     }
 
@@ -169,6 +172,7 @@ impl Running {
         plan: &[bool],
         tried: &mut TriedMarks,
         pack: &'a Pack,
+        operands: &[Operand],
         descriptions: &'a [Description],
         table: &MatchTable,
         ssa: &'a Ssa,
@@ -179,6 +183,8 @@ impl Running {
         requires tried { AreMarksFor (arguments ssa.now + length ssa.now.units) tried.old }
         requires stands { StandsFor (map description_of descriptions.now) table.now ssa.now
             self.now }
+        requires operands { operands.now ≡ operands_of (map description_of descriptions.now)
+            table.now ssa.now pack.now }
         requires plan { (deps : List (ℕ × ℕ)) × IsFedPlanFor (map description_of descriptions.now)
             table.now ssa.now deps (self.now.packs.items ++ pack.now ∷ []) }
         ensures tried { AreMarksFor (arguments ssa.now + length ssa.now.units) tried.new }
@@ -201,7 +207,7 @@ impl Running {
             own,
             shuffles: &self.shuffles,
         };
-        let recipes = self.recipes_with(alloc, &grown, needed, table)?;
+        let recipes = self.recipes_with(alloc, &grown, needed, operands, table)?;
         let cost = whole_cost(ssa, marks, needed, price, recipes)?;
         Ok(cost)
     }
@@ -224,7 +230,7 @@ impl Running {
         let old = self.taken.as_slice();
         let operands = operands_of(alloc, plan.descriptions, table, plan.ssa, plan.last)?;
         let mut taken = keep_all(alloc, plan, old)?;
-        add_all(alloc, plan, &mut taken, &[], operands)?;
+        add_all(alloc, plan, &mut taken, &[], operands.as_slice())?;
         Ok(taken)
     }
 
@@ -235,10 +241,11 @@ impl Running {
         alloc: Global,
         plan: &LongerPlan,
         needed: &mut [bool],
+        operands: &[Operand],
         table: &MatchTable,
     ) -> Result<u64, AllocError>
-        requires near { MatchesNear table.now }
-        requires short { IsShort plan.now.last.now }
+        requires operands { operands.now ≡ operands_of (described plan.now) table.now
+            plan.now.ssa.now plan.now.last.now }
         requires stands { StandsFor (described plan.now) table.now plan.now.ssa.now self.now }
         requires packs { plan.now.packs.now ≡ self.now.packs.items }
         requires plan { IsKnown plan.now }
@@ -248,7 +255,6 @@ impl Running {
             table.now plan.now.ssa.now (all_packs plan.now))) needed.old needed.new) }
     {
         let old = self.taken.as_slice();
-        let operands = operands_of(alloc, plan.descriptions, table, plan.ssa, plan.last)?;
         let mut fresh = Vec::new(alloc);
         add_all(alloc, plan, &mut fresh, old, operands)?;
         let kept = kept_cost(alloc, plan, needed, old)?;

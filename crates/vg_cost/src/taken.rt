@@ -95,19 +95,20 @@ fn add_taken(
     plan: &LongerPlan,
     fresh: &mut Vec<Taken>,
     taken: &[Taken],
-    operand: Operand,
+    operand: &Operand,
 ) -> Result<(), AllocError>
     requires { IsKnown plan.now }
     ensures { OnOk result (map (kept_for (described plan.now) plan.now.ssa.now
         (all_packs plan.now)) taken.now ++ fresh.new.items ≡ add_taken
         (taken_for (described plan.now) plan.now.ssa.now (all_packs plan.now))
         (map (kept_for (described plan.now) plan.now.ssa.now (all_packs plan.now))
-        taken.now ++ fresh.old.items) operand) }
+        taken.now ++ fresh.old.items) operand.now) }
 {
-    if is_there(taken, fresh.as_slice(), &operand) {
+    if is_there(taken, fresh.as_slice(), operand) {
         return Ok(());
     }
-    let recipe = recipe_cost(alloc, plan, &operand)?;
+    let recipe = recipe_cost(alloc, plan, operand)?;
+    let operand = copy_operand(alloc, operand)?;
     fresh.push(Taken { operand, recipe })?;
     Ok(())
 }
@@ -118,14 +119,14 @@ pub(crate) fn add_all(
     plan: &LongerPlan,
     fresh: &mut Vec<Taken>,
     taken: &[Taken],
-    operands: Vec<Operand>,
+    operands: &[Operand],
 ) -> Result<(), AllocError>
     requires { IsKnown plan.now }
     ensures { OnOk result (map (kept_for (described plan.now) plan.now.ssa.now
         (all_packs plan.now)) taken.now ++ fresh.new.items ≡ add_all
         (taken_for (described plan.now) plan.now.ssa.now (all_packs plan.now))
         (map (kept_for (described plan.now) plan.now.ssa.now (all_packs plan.now))
-        taken.now ++ fresh.old.items) operands.items) }
+        taken.now ++ fresh.old.items) operands.now) }
 {
     'operands: for operand in operands {
         add_taken(alloc, plan, fresh, taken, operand)?;

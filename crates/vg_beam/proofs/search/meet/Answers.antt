@@ -1,10 +1,10 @@
-use Rattle.std.proofs.Common.{◌∙◌, ◌++◌, ◌∷◌, [], ap, refl, subst, sym}
+use Rattle.std.proofs.Common.{◌∙◌, ◌++◌, ◌∷◌, [], ap, arith, refl, subst, sym}
 use Rattle.std.specs.List.{list_any}
 use Rattle.vg_kernel_plans.proofs.FedPlans.{may-be-fed}
 use Rattle.vg_kernel_plans.specs.Fed.{IsPlanBy}
 use Rattle.vg_kernel_plans.specs.Laws.{cost_of}
 use Rattle.vg_kernel_plans.specs.Packing.{packing}
-use Rattle.vg_kernel_plans.specs.Taken.{IsShort}
+use Rattle.vg_kernel_plans.specs.Taken.{IsShort, operands_of}
 use Rattle.vg_cost.specs.PriceScratch.{IsScratchFor}
 use Rattle.vg_packs.specs.PlanMarks.{MarksPlan}
 use Rattle.vg_packs.specs.Walk.{IsFree, is_in_plan}
@@ -120,3 +120,18 @@ returns c =
           (c.in_ok-cost.ensures.cost c.args.space.now.deps.now ∙ ap (λ q. price (plan_of c.kept_at-kept.result.now ++ q ∷ [])) c.pack-last.ensures
           ∙ ap (λ l. price (l ++ p ∷ [])) c.kept_at-kept.ensures.plan));
     }
+
+pub operands-operands-requires : goal.operands-operands-requires
+operands-operands-requires c = omega (arith, c.requires.pack, c.requires.pack_table.taken)
+
+pub cost_with-requires-clause-operands : goal.cost_with-requires-clause-operands
+cost_with-requires-clause-operands c =
+    let bare = packing [] c.args.space.now.table.now c.args.space.now.ssa.now c.args.space.now.deps.now in
+    let ds = described c.args.space.now in
+    let plan = plan_at c.args.level.now c.args.parent in
+    let p = pack_at c.args.pack_table.now.packs.items c.args.pack in
+    let t = ap (stays_plan bare plan) (sym c.pack-last.ensures) ∙ ap (λ l. stays_plan bare l c.pack-last.result.now) (sym (c.packs-packs.ensures ∙ c.kept_at-kept.ensures.plan))
+    ∙ sym c.in_ok-stays.ensures ∙ c.if-not-stays.false in
+    let short = last-short (choice_of c.args.space.now) ds c.args.space.now.table.now c.args.space.now.ssa.now c.args.space.now.deps.now c.requires.short plan p (longer-plan (choice_of c.args.space.now) ds c.args.space.now.table.now c.args.space.now.ssa.now c.args.space.now.deps.now plan p c.requires.plan c.requires.tried t) in
+    c.operands-operands.ensures ∙ c.requires.pack_table.operands c.args.pack c.requires.pack short
+    ∙ ap (operands_of ds c.args.space.now.table.now c.args.space.now.ssa.now) (sym c.pack-last.ensures)

@@ -1,5 +1,4 @@
-use Rattle.std.proofs.Common.{◌≡◌, ◌++◌, map}
-use Rattle.std.specs.Vec.Iter.{into_iter_items}
+use Rattle.std.proofs.Common.{◌≡◌, ◌++◌, map, take}
 use Rattle.vg_cost.specs.LongerPlan.{all_packs, described}
 use Rattle.vg_cost.specs.Taken.{add_all, kept_for, taken_for}
 use Rattle.vg_cost.proofs.taken.add_all.Given as goal
@@ -9,5 +8,5 @@ invariant-operands l =
     let ds = described l.plan in
     let longer = all_packs l.plan in
     let kept = map (kept_for ds l.plan.ssa.now longer) l.taken in
-    add_all (taken_for ds l.plan.ssa.now longer) (kept ++ l.fresh.items) (into_iter_items l.operand-iterator)
-    ≡ add_all (taken_for ds l.plan.ssa.now longer) (kept ++ l.initial.fresh.items) l.fn.operands.items
+    kept ++ l.fresh.items
+    ≡ add_all (taken_for ds l.plan.ssa.now longer) (kept ++ l.initial.fresh.items) (take l.operand-index l.operands)

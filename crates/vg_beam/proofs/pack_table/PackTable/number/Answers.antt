@@ -13,7 +13,8 @@ returns-then-place-len c =
 
 pub returns : goal.returns
 returns c =
-    number-new (choice_of c.args.space.now) (described c.args.space.now) c.args.space.now.table.now c.args.space.now.ssa.now c.args.self.now _ c.args.pack.now c.place_of-place.result
+    number-new (choice_of c.args.space.now) (described c.args.space.now) c.args.space.now.table.now c.args.space.now.ssa.now c.args.self.now _ c.args.pack.now c.in_ok-operands.operands c.place_of-place.result
     (c.place_of-place.ensures ∙ ap (first_place (same_pack c.args.pack.now)) c.as_slice.ensures.value)
     (omega (arith, c.if-place-len.false, c.len.ensures)) c.requires.pack_table
-    (c.in_ok-push.ensures.items ∙ ap (λ q. c.args.self.now.packs.items ++ q ∷ []) c.in_ok-copy.ensures) c.in_ok-push-2.ensures.items
+    (c.in_ok-push.ensures.items ∙ ap (λ q. c.args.self.now.packs.items ++ q ∷ []) c.in_ok-copy.ensures) c.in_ok-push-3.ensures.items c.in_ok-push-2.ensures.items
+    c.in_ok-operands.ensures

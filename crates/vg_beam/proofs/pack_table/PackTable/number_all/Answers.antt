@@ -6,7 +6,7 @@ pub packs-init : goal.packs-init
 packs-init c = all-first (choice_of c.args.space.now) (described c.args.space.now) c.args.space.now.table.now c.args.space.now.ssa.now c.args.self.now c.new-numbers.result.items c.new-numbers.ensures.items c.requires.pack_table
 
 pub number-requires : goal.number-requires
-number-requires c = record { pack_table = c.packs.invariant.pack_table }
+number-requires c = record { near = c.requires.near; pack_table = c.packs.invariant.pack_table }
 
 pub packs-preserved : goal.packs-preserved
 packs-preserved c =

@@ -22,8 +22,7 @@ recipes_with-requires c =
     let plan = c.args.self.now.packs.items in
     let same = sym c.as_slice-packs.ensures.value in
     record {
-      near = c.requires.near;
-      short = c.requires.short;
+      operands = c.requires.operands;
       stands = c.requires.stands;
       packs = c.as_slice-packs.ensures.value;
       plan = record {

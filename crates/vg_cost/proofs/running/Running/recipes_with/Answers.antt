@@ -33,11 +33,11 @@ returns c =
     let fresh = c.add_all.new.fresh.items in
     let all : kept ++ fresh ≡ taken_by ds matches ssa (all_packs g) =
     c.in_ok-add_all.ensures
-    ∙ ap (λ f. add_all (taken_for ds ssa (all_packs g)) (kept ++ f) c.in_ok-operands.operands.items) c.new-fresh.ensures.items
-    ∙ ap (λ l. add_all (taken_for ds ssa (all_packs g)) l c.in_ok-operands.operands.items) (append-nil kept)
-    ∙ taken-longer ds matches ssa g.packs.now g.last.now old c.in_ok-operands.operands.items
+    ∙ ap (λ f. add_all (taken_for ds ssa (all_packs g)) (kept ++ f) c.args.operands.now) c.new-fresh.ensures.items
+    ∙ ap (λ l. add_all (taken_for ds ssa (all_packs g)) l c.args.operands.now) (append-nil kept)
+    ∙ taken-longer ds matches ssa g.packs.now g.last.now old c.args.operands.now
     (c.as_slice-old.ensures.value ∙ c.requires.stands.taken ∙ ap (taken_by ds matches ssa) (sym c.requires.packs))
-    c.in_ok-operands.ensures
+    c.requires.operands
     in
     record {
       cost = sum-longer ds matches ssa g.packs.now g.last.now old fresh all c.in_ok-kept.kept c.in_ok-added.added c.in_ok-recipes.recipes

@@ -1,10 +1,10 @@
-use Rattle.std.proofs.Common.{[], ◌∙◌, ap, subst, sym}
+use Rattle.std.proofs.Common.{[], ◌∙◌, ◌++◌, ap, map, subst, sym}
 use Rattle.std.specs.List.{AllByRecursion}
 use Rattle.vg_plans.specs.World.{operands}
 use Rattle.vg_kernel_plans.specs.Packing.{packing}
 use Rattle.vg_cost.specs.LongerPlan.{all_packs, described}
 use Rattle.vg_cost.specs.Running.{taken_by}
-use Rattle.vg_cost.specs.Taken.{add_all, taken_for}
+use Rattle.vg_cost.specs.Taken.{add_all, kept_for, taken_for}
 use Rattle.vg_cost.specs.Touch.{IsKnownBy}
 use Rattle.vg_cost.proofs.Growing.{known-by, taken-longer}
 use Rattle.vg_cost.proofs.running.Running.taken_with.Goals as goal
@@ -28,6 +28,7 @@ returns c =
     let matches = c.args.table.now in
     let ssa = g.ssa.now in
     c.in_ok-add_all.ensures
+    ∙ ap (λ os. add_all (taken_for ds ssa (all_packs g)) (map (kept_for ds ssa (all_packs g)) [] ++ c.in_ok-taken.taken.items) os) c.as_slice.ensures.value
     ∙ ap (λ l. add_all (taken_for ds ssa (all_packs g)) l c.in_ok-operands.operands.items) c.in_ok-taken.ensures
     ∙ taken-longer ds matches ssa g.packs.now g.last.now c.as_slice-old.result.now c.in_ok-operands.operands.items
     (c.as_slice-old.ensures.value ∙ c.requires.stands.taken ∙ ap (taken_by ds matches ssa) (sym c.requires.packs))
