@@ -24,14 +24,16 @@ use Rattle.vg_kernel_plans.specs.Wants.{wanted_values}
 use Rattle.vg_cost.specs.declared.recipe_cost.RecipeCost.{RecipeCost}
 use Rattle.vg_cost.specs.declared.taken.Taken.{Taken}
 use Rattle.vg_cost.specs.declared.running.Running.{Running}
-use Rattle.vg_cost.specs.Lines.{Costs}
-use Rattle.vg_cost.specs.Marks.{Has, Marked}
+use Rattle.vg_cost.specs.Marks.{Has}
+use Rattle.vg_cost.specs.Moves.{Moves}
+use Rattle.vg_cost.specs.Needs.{AreNeeds, AreNeedsFor}
 use Rattle.vg_shapes.specs.Units.{arguments}
 use Rattle.vg_cost.specs.Running.{StandsFor, taken_by}
 use Rattle.vg_cost.specs.Shuffling.{AreShuffles}
 use Rattle.vg_cost.specs.Taken.{add_all, add_taken, inserted_for, is_touched, kept_for, recipe_for, taken_for}
 use Rattle.vg_cost.specs.Touch.{IsKnownBy}
-use Rattle.vg_cost.proofs.Marking.{has_marked, marked_more}
+use Rattle.vg_cost.proofs.Moving.{moves_more}
+use Rattle.vg_cost.proofs.NeedsLaw.{needs-for, needs-whole}
 use Rattle.vg_cost.proofs.Own.{is-other, own-values}
 use Rattle.vg_cost.proofs.Steps.{all_push}
 use Rattle.vg_cost.proofs.Sums.{all_parts}
@@ -228,46 +230,51 @@ module _ (ds : List Description) (matches : List Match) (ssa : Ssa) (plan : List
       ∙ ap (λ n. sum_by (λ t. t.recipe.lines) (map (kept_for ds ssa (plan ++ p ∷ [])) old) + n) a
       ∙ sum-both (map (kept_for ds ssa (plan ++ p ∷ [])) old) fresh ∙ ap (sum_by (λ t. t.recipe.lines)) all
 
-  pub values-longer : (a b c : List Bool)
-      → Marked (flat_map (λ t. inserted_for (kept_for ds ssa (plan ++ p ∷ []) t)) old) a b
-      → Marked (flat_map inserted_for fresh) b c
-      → Marked (flat_map inserted_for (taken_by ds matches ssa (plan ++ p ∷ []))) a c
-  values-longer a b c m n =
+  pub values-longer : (values : List ℕ) (a b c : List ℕ) (m n q : List Bool)
+      → Moves values (flat_map (λ t. inserted_for (kept_for ds ssa (plan ++ p ∷ []) t)) old) a b m n
+      → Moves [] (flat_map inserted_for fresh) b c n q
+      → Moves values (flat_map inserted_for (taken_by ds matches ssa (plan ++ p ∷ []))) a c m q
+  values-longer values a b c m n q k f =
       let kept = map (kept_for ds ssa (plan ++ p ∷ [])) old in
-      subst (λ l. Marked l a c)
+      subst (λ l. Moves l (flat_map inserted_for (taken_by ds matches ssa (plan ++ p ∷ []))) a c m q) (append-nil values)
+      (subst (λ l. Moves (values ++ []) l a c m q)
       (ap (λ l. l ++ flat_map inserted_for fresh) (values-kept ds ssa (plan ++ p ∷ []) old)
       ∙ sym (flat_map-append inserted_for kept fresh) ∙ ap (flat_map inserted_for) all)
-      (marked_more _ _ a b c m n)
+      (moves_more values _ [] _ a b c m n q k f))
 
--- the cost by the marks is that of the plan
-pub costs-longer : (ds : List Description) (matches : List Match) (ssa : Ssa) (deps : List (ℕ × ℕ)) (old : Running) (p : Pack)
-    (longer clear needed : List Bool) (price recipes cost count : ℕ)
-    → StandsFor ds matches ssa old → count ≡ arguments ssa + length ssa.units
+-- the cost by the counts is that of the plan
+pub costs-counted : (ds : List Description) (matches : List Match) (ssa : Ssa) (deps : List (ℕ × ℕ)) (old : Running) (p : Pack)
+    (longer : List Bool) (counts : List ℕ) (price recipes packed lines cost : ℕ)
+    → StandsFor ds matches ssa old
     → Has (arguments ssa + length ssa.units) (flat_map units_of (old.packs.items ++ p ∷ [])) longer
-    → clear ≡ replicate count false
-    → Marked (flat_map inserted_for (taken_by ds matches ssa (old.packs.items ++ p ∷ []))) clear needed
+    → AreNeeds ssa longer (flat_map inserted_for (taken_by ds matches ssa (old.packs.items ++ p ∷ []))) counts lines
     → price ≡ old.price + price_of ds p
     → recipes ≡ sum_by (λ t. t.recipe.lines) (taken_by ds matches ssa (old.packs.items ++ p ∷ []))
-    → Costs ssa longer needed price recipes cost
+    → packed ≡ price + recipes → cost ≡ packed + lines
     → cost ≡ plan_cost (packing ds matches ssa deps) (old.packs.items ++ p ∷ [])
-costs-longer ds matches ssa deps old p longer clear needed price recipes cost count s e h c m paid r costs =
+costs-counted ds matches ssa deps old p longer counts price recipes packed lines cost s h n paid r k e =
     let plan = old.packs.items ++ p ∷ [] in
     let ts = taken_by ds matches ssa plan in
-    let has = has_marked count (flat_map inserted_for ts) clear needed c m in
     known-cost ds matches ssa deps plan price cost ts (price-longer ds matches ssa old p price s paid) refl
-    (costs plan (flat_map inserted_for ts) h (subst (λ n. Has n (flat_map inserted_for ts) needed) e has)
-    ∙ ap (λ n. price + n + scalar_lines (packing [] [] ssa []) plan (flat_map inserted_for ts) (falling_units ssa)) r)
+    (e ∙ ap (λ m. m + lines) (k ∙ ap (λ m. price + m) r)
+    ∙ ap (λ m. price + sum_by (λ t. t.recipe.lines) ts + m)
+    (needs-whole ssa plan longer (flat_map inserted_for ts) counts lines h n))
 
-pub stands-empty : (ds : List Description) (matches : List Match) (ssa : Ssa) (r : Running)
+pub stands-empty : (ds : List Description) (matches : List Match) (ssa : Ssa) (r : Running) (packed : List Bool)
     → r.packs.items ≡ [] → r.taken.items ≡ [] → AreShuffles ds r.shuffles → r.price ≡ 0
-    → r.cost ≡ 0 + sum_by (λ (t : Taken). t.recipe.lines) [] + scalar_lines (packing [] [] ssa []) [] (flat_map inserted_for []) (falling_units ssa)
+    → Has (arguments ssa + length ssa.units) [] packed
+    → AreNeeds ssa packed [] r.needs.counts.items r.needs.lines → r.cost ≡ r.needs.lines
     → StandsFor ds matches ssa r
-stands-empty ds matches ssa r e t known p c = record {
+stands-empty ds matches ssa r packed e t known p h n c = record {
   shuffles = known;
   short = subst (AllByRecursion IsShort) (sym e) tt;
   cost = λ deps.
-      known-cost ds matches ssa deps [] 0 r.cost [] refl refl c ∙ ap (plan_cost (packing ds matches ssa deps)) (sym e);
+      let lines = c ∙ needs-whole ssa [] packed [] r.needs.counts.items r.needs.lines h n in
+      known-cost ds matches ssa deps [] 0 r.cost [] refl refl (omega (arith, lines)) ∙ ap (plan_cost (packing ds matches ssa deps)) (sym e);
   taken = t ∙ ap (λ plan. map (taken_for ds ssa plan) (operands (packing ds matches ssa []) plan)) (sym e);
+  needs = subst (λ q. AreNeedsFor ssa q (flat_map inserted_for r.taken.items) r.needs.counts.items r.needs.lines) (sym e)
+      (subst (λ q. AreNeedsFor ssa [] (flat_map inserted_for q) r.needs.counts.items r.needs.lines) (sym t)
+      (needs-for ssa [] packed [] r.needs.counts.items r.needs.lines h n));
   price = p ∙ ap (sum_by (price_of ds)) (sym e);
 }
 
@@ -279,11 +286,15 @@ pub stands-longer : (ds : List Description) (matches : List Match) (ssa : Ssa) (
     → r.taken.items ≡ taken_by ds matches ssa (old.packs.items ++ p ∷ [])
     → r.price ≡ old.price + price_of ds p
     → ((deps : List (ℕ × ℕ)) → r.cost ≡ plan_cost (packing ds matches ssa deps) (old.packs.items ++ p ∷ []))
+    → AreNeedsFor ssa (old.packs.items ++ p ∷ []) (flat_map inserted_for (taken_by ds matches ssa (old.packs.items ++ p ∷ [])))
+    r.needs.counts.items r.needs.lines
     → StandsFor ds matches ssa r
-stands-longer ds matches ssa old p r s short same tight e taken price cost = record {
+stands-longer ds matches ssa old p r s short same tight e taken price cost needs = record {
   shuffles = record { numbers = same ∙ s.shuffles.numbers; tight = tight ∙ s.shuffles.tight };
   short = subst (AllByRecursion IsShort) (sym e) (all_push IsShort old.packs.items p s.short short);
   cost = λ deps. cost deps ∙ ap (plan_cost (packing ds matches ssa deps)) (sym e);
   taken = taken ∙ ap (taken_by ds matches ssa) (sym e);
+  needs = subst (λ q. AreNeedsFor ssa q (flat_map inserted_for r.taken.items) r.needs.counts.items r.needs.lines) (sym e)
+      (subst (λ q. AreNeedsFor ssa (old.packs.items ++ p ∷ []) (flat_map inserted_for q) r.needs.counts.items r.needs.lines) (sym taken) needs);
   price = price-longer ds matches ssa old p r.price s price ∙ ap (sum_by (price_of ds)) (sym e);
 }

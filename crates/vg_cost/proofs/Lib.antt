@@ -6,8 +6,12 @@ pub mod LaneTrees
 pub mod LineSteps
 pub mod MarkTests
 pub mod Marking
+pub mod Moving
+pub mod NeedsLaw
+pub mod NumberSums
 pub mod Own
 pub mod Scanned
+pub mod Settled
 pub mod Steps
 pub mod Stood
 pub mod Sums

@@ -2,6 +2,8 @@ pub mod Had
 pub mod Lines
 pub mod LongerPlan
 pub mod Marks
+pub mod Moves
+pub mod Needs
 pub mod Places
 pub mod PriceScratch
 pub mod Running

@@ -6,4 +6,5 @@ use Rattle.vg_cost.specs.declared.tried_marks.TriedMarks.{TriedMarks}
 pub record AreMarksFor (count : ℕ) (tried : TriedMarks) : Type 0 where
   pub longer : length tried.longer.items ≡ count
   pub own : length tried.own.items ≡ count
-  pub needed : length tried.needed.items ≡ count
+  pub counts : length tried.counts.items ≡ count
+  pub changed : length tried.changed.items ≡ count

@@ -16,6 +16,7 @@ use crate::running::whole_cost;
 use crate::shuffles::Shuffles;
 use crate::taken::operands_cost;
 use std::alloc::{AllocError, Global};
+use vg_kernel_plans::marks::clear_marks;
 use vg_kernel_plans::plan_operands::plan_operands;
 use vg_shapes::{Description, MatchTable, Pack, Ssa};
 
@@ -45,7 +46,8 @@ fn cost_with_last(
     scratch.tried.enter(before, last);
     let marks = scratch.tried.longer.as_slice();
     let own = scratch.tried.own.as_slice();
-    let needed = scratch.tried.needed.as_mut_slice();
+    let mut needed = clear_marks(alloc, marks.len())?;
+    let needed = needed.as_mut_slice();
     let longer = LongerPlan {
         descriptions,
         ssa,

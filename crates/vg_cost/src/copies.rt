@@ -1,4 +1,4 @@
-//! Copies of packs with one after them, and of operands.
+//! Copies of packs with one after them, of counts and of operands.
 
 ghost use Rattle.std.specs.Prelude.{◌≡◌, ◌++◌, ◌∷◌, [], IfOk};
 
@@ -14,6 +14,13 @@ pub(crate) fn longer(alloc: Global, packs: &[Pack], pack: &Pack) -> Result<Vec<P
     let mut copies = copy_packs(alloc, packs)?;
     copies.push(copy_pack(alloc, pack)?)?;
     Ok(copies)
+}
+
+/// A copy of counts. Fails only for want of memory.
+pub(crate) fn copy_counts(alloc: Global, counts: &[u32]) -> Result<Vec<u32>, AllocError>
+    ensures { IfOk result (λ copies. copies.items ≡ counts.now) }
+{
+    counts.to_vec(alloc)
 }
 
 /// A copy of the operand. Fails only for want of memory.

@@ -7,19 +7,24 @@
 //! A plan that grows keeps its cost (`specs/Running.antt`): what is known of each operand that its
 //! packs take (`specs/Taken.antt`), and which descriptions are shuffles (`specs/Shuffling.antt`). By
 //! marks of the units of packs most operands need not be looked at again (`specs/Touch.antt`), and by
-//! the places where packs have values (`specs/Places.antt`) most shuffles need not. What is known of a
-//! plan with a pack after it stands together (`specs/LongerPlan.antt`); such a pack is priced in scratch
-//! that is made once for the plan (`specs/PriceScratch.antt`).
+//! the places where packs have values (`specs/Places.antt`) most shuffles need not. It keeps as well how
+//! often each value is needed (`specs/Needs.antt`), by which the lines are told: where a pack comes after
+//! it, only what the pack changes is counted anew (`specs/Moves.antt`). What is known of a plan with a pack
+//! after it stands together (`specs/LongerPlan.antt`); such a pack is priced in scratch that is made once
+//! for the plan (`specs/PriceScratch.antt`).
 //!
 //! An `AllocError` is want of memory; nothing else is.
 #![tactic(auto)]
 
 mod apart;
+mod change;
 mod copies;
 mod cost;
+mod counts;
 mod lines;
 mod longer_plan;
 mod marks;
+mod needs;
 mod places;
 mod price;
 mod price_scratch;
@@ -27,6 +32,7 @@ mod recipe_cost;
 pub mod recipes;
 mod running;
 mod scan;
+mod settling;
 pub mod shuffle;
 mod shuffles;
 mod taken;

@@ -47,7 +47,7 @@ fn mark_used(needed: &mut [bool], unit: &SsaUnit)
 }
 
 /// Whether a unit that is in no pack is emitted: it is an access, or its value is needed.
-fn is_written(unit: &SsaUnit, packed: bool, needed: bool) -> bool
+pub(crate) fn is_written(unit: &SsaUnit, packed: bool, needed: bool) -> bool
     ensures { result ≡ is_written unit.now packed needed }
 {
     !packed && (unit.access().is_some() || needed)

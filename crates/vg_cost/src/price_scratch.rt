@@ -5,6 +5,7 @@ ghost use Rattle.vg_cost.specs.PriceScratch.{IsScratchFor};
 
 use crate::lines::end_of_units;
 use crate::marks::packed_marks;
+use crate::needs::clear_counts;
 use crate::tried_marks::TriedMarks;
 use std::alloc::{AllocError, Global};
 use std::marker::Model;
@@ -44,7 +45,8 @@ impl PriceScratch {
             tried: TriedMarks {
                 longer: clear_marks(alloc, count)?,
                 own: clear_marks(alloc, count)?,
-                needed: clear_marks(alloc, count)?,
+                counts: clear_counts(alloc, count)?,
+                changed: clear_marks(alloc, count)?,
             },
         })
     }

@@ -4,28 +4,35 @@ ghost use Rattle.std.specs.Prelude.{◌≡◌, ◌+◌, ◌++◌, ◌∷◌, [],
 ghost use Rattle.std.specs.List.{AllByRecursion};
 ghost use Rattle.vg_cost.specs.Lines.{Costs};
 ghost use Rattle.vg_cost.specs.LongerPlan.{IsKnown, all_packs, described};
-ghost use Rattle.vg_cost.specs.Marks.{Marked};
+ghost use Rattle.vg_cost.specs.Marks.{Has};
+ghost use Rattle.vg_cost.specs.Moves.{Moves};
+ghost use Rattle.vg_cost.specs.Needs.{AreNeedsFor};
 ghost use Rattle.vg_cost.specs.PriceScratch.{IsScratchFor};
 ghost use Rattle.vg_cost.specs.Running.{StandsFor, taken_by};
 ghost use Rattle.vg_cost.specs.Taken.{inserted_for};
 ghost use Rattle.vg_cost.specs.TriedMarks.{AreMarksFor};
 ghost use Rattle.vg_kernel_plans.specs.Fed.{IsFedPlanFor};
-ghost use Rattle.vg_kernel_plans.specs.Packing.{packing};
+ghost use Rattle.vg_kernel_plans.specs.Packing.{packing, price_of};
 ghost use Rattle.vg_kernel_plans.specs.Taken.{IsShort, MatchesNear, operands_of};
 ghost use Rattle.vg_plans.specs.World.{plan_cost};
 ghost use Rattle.vg_shapes.specs.Description.{description_of};
+ghost use Rattle.vg_shapes.specs.Pack.{units_of};
 ghost use Rattle.vg_shapes.specs.Units.{arguments};
 
 use crate::apart::cost_apart;
-use crate::copies::longer;
-use crate::lines::{end_of_units, lines_below, scalar_lines};
+use crate::change::Change;
+use crate::copies::{copy_counts, longer};
+use crate::lines::{end_of_units, lines_below};
 use crate::longer_plan::LongerPlan;
+use crate::needs::{Needs, clear_counts, needs_from};
 use crate::price::{plus, price_of};
 use crate::price_scratch::PriceScratch;
+use crate::settling::settle;
 use crate::shuffles::Shuffles;
 use crate::taken::{Taken, add_all, keep_all, kept_cost, recipes_cost};
 use crate::tried_marks::TriedMarks;
 use std::alloc::{AllocError, Global};
+use vg_kernel_plans::marks::clear_marks;
 use vg_kernel_plans::taken::operands_of;
 use vg_shapes::{Description, MatchTable, Operand, Pack, Ssa};
 
@@ -36,6 +43,7 @@ pub struct Running {
     packs: Vec<Pack>,
     taken: Vec<Taken>,
     shuffles: Shuffles,
+    needs: Needs,
     price: u64,
     cost: u64,
 }
@@ -59,6 +67,14 @@ pub(crate) fn whole_cost(
     plus(packed, lines)
 }
 
+/// What a plan with a pack after it costs: its packs, its scalars, and all together.
+#[derive(Clone, Copy)]
+struct TriedCost {
+    price: u64,
+    lines: u64,
+    cost: u64,
+}
+
 impl Running {
     /// The plan of no packs. Fails for want of memory, and where the cost or a unit's number has
     /// too many bits to be counted.
@@ -74,11 +90,17 @@ impl Running {
             ssa.now) }
     {
         let shuffles = Shuffles::new(alloc, descriptions)?;
-        let cost = scalar_lines(alloc, ssa, &[], &[])?;
+        let end = end_of_units(ssa)?;
+        let count = end as usize;
+        let marks = clear_marks(alloc, count)?;
+        let inserted = clear_counts(alloc, count)?;
+        let needs = needs_from(alloc, ssa, marks.as_slice(), inserted)?;
+        let cost = needs.lines;
         Ok(Running {
             packs: Vec::new(alloc),
             taken: Vec::new(alloc),
             shuffles,
+            needs,
             price: 0,
             cost,
         })
@@ -105,13 +127,23 @@ impl Running {
             ssa.now) }
     {
         let plan = self.packs.as_slice();
+        let operands = operands_of(alloc, descriptions, table, ssa, pack)?;
+        let operands = operands.as_slice();
         let mut scratch = PriceScratch::new(alloc, ssa, plan)?;
         let before = scratch.plan.as_slice();
-        scratch.tried.enter(before, pack);
-        let price = plus(self.price, price_of(descriptions, pack))?;
+        let tried = &mut scratch.tried;
+        let found = self.cost_tried(
+            alloc,
+            before,
+            tried,
+            pack,
+            operands,
+            descriptions,
+            table,
+            ssa,
+        )?;
         let marks = scratch.tried.longer.as_slice();
         let own = scratch.tried.own.as_slice();
-        let needed = scratch.tried.needed.as_mut_slice();
         let grown = LongerPlan {
             descriptions,
             ssa,
@@ -121,15 +153,16 @@ impl Running {
             own,
             shuffles: &self.shuffles,
         };
-        let taken = self.taken_with(alloc, &grown, table)?;
-        let recipes = recipes_cost(needed, taken.as_slice())?;
-        let cost = whole_cost(ssa, marks, needed, price, recipes)?;
+        let taken = self.taken_with(alloc, &grown, operands, table)?;
+        let counts = copy_counts(alloc, scratch.tried.counts.as_slice())?;
+        let lines = found.lines;
         Ok(Running {
             packs: longer(alloc, plan, pack)?,
             taken,
             shuffles: self.shuffles.copy(alloc)?,
-            price,
-            cost,
+            needs: Needs { counts, lines },
+            price: found.price,
+            cost: found.cost,
         })
     }
 
@@ -161,8 +194,8 @@ impl Running {
     {
         let plan = scratch.plan.as_slice();
         let tried = &mut scratch.tried;
-        let cost = self.cost_tried(alloc, plan, tried, pack, operands, descriptions, table, ssa)?;
-        Ok(cost)
+        let found = self.cost_tried(alloc, plan, tried, pack, operands, descriptions, table, ssa)?;
+        Ok(found.cost)
     }
 
     /// What the plan with a pack after it costs, by the marks of the units of the plan.
@@ -176,7 +209,7 @@ impl Running {
         descriptions: &'a [Description],
         table: &MatchTable,
         ssa: &'a Ssa,
-    ) -> Result<u64, AllocError>
+    ) -> Result<TriedCost, AllocError>
         requires near { MatchesNear table.now }
         requires short { IsShort pack.now }
         requires marks { IsScratchFor ssa.now self.now.packs.items plan.now }
@@ -188,16 +221,28 @@ impl Running {
         requires plan { (deps : List (ℕ × ℕ)) × IsFedPlanFor (map description_of descriptions.now)
             table.now ssa.now deps (self.now.packs.items ++ pack.now ∷ []) }
         ensures tried { AreMarksFor (arguments ssa.now + length ssa.now.units) tried.new }
-        ensures cost { IfOk result (λ c. (deps : List (ℕ × ℕ)) → c ≡ plan_cost
+        ensures longer { OnOk result (IsScratchFor ssa.now (self.now.packs.items ++ pack.now ∷ [])
+            tried.new.longer.items) }
+        ensures own { OnOk result (Has (length tried.new.own.items) (units_of pack.now)
+            tried.new.own.items) }
+        ensures price { IfOk result (λ c. c.price ≡ self.now.price + price_of
+            (map description_of descriptions.now) pack.now) }
+        ensures cost { IfOk result (λ c. (deps : List (ℕ × ℕ)) → c.cost ≡ plan_cost
             (packing (map description_of descriptions.now) table.now ssa.now deps)
             (self.now.packs.items ++ pack.now ∷ [])) }
+        ensures needs { IfOk result (λ c. AreNeedsFor ssa.now (self.now.packs.items ++ pack.now ∷ [])
+            (flat_map inserted_for (taken_by (map description_of descriptions.now) table.now ssa.now
+            (self.now.packs.items ++ pack.now ∷ []))) tried.new.counts.items c.lines) }
     {
+        let before = self.needs.counts.as_slice();
         tried.enter(plan, pack);
+        tried.count(before);
         let price = plus(self.price, price_of(descriptions, pack))?;
         let packs = self.packs.as_slice();
         let marks = tried.longer.as_slice();
         let own = tried.own.as_slice();
-        let needed = tried.needed.as_mut_slice();
+        let counts = tried.counts.as_mut_slice();
+        let changed = tried.changed.as_mut_slice();
         let grown = LongerPlan {
             descriptions,
             ssa,
@@ -207,9 +252,19 @@ impl Running {
             own,
             shuffles: &self.shuffles,
         };
-        let recipes = self.recipes_with(alloc, &grown, needed, operands, table)?;
-        let cost = whole_cost(ssa, marks, needed, price, recipes)?;
-        Ok(cost)
+        let recipes = self.recipes_with(alloc, &grown, counts, changed, operands, table)?;
+        let first = ssa.arguments();
+        let change = Change {
+            ssa,
+            first,
+            packed: plan,
+            counts: before,
+            longer: marks,
+        };
+        let lines = settle(&change, counts, changed, self.needs.lines)?;
+        let packed = plus(price, recipes)?;
+        let cost = plus(packed, lines)?;
+        Ok(TriedCost { price, lines, cost })
     }
 
     /// The operands of the plan with a pack after it.
@@ -217,10 +272,11 @@ impl Running {
         &self,
         alloc: Global,
         plan: &LongerPlan,
+        operands: &[Operand],
         table: &MatchTable,
     ) -> Result<Vec<Taken>, AllocError>
-        requires near { MatchesNear table.now }
-        requires short { IsShort plan.now.last.now }
+        requires operands { operands.now ≡ operands_of (described plan.now) table.now
+            plan.now.ssa.now plan.now.last.now }
         requires stands { StandsFor (described plan.now) table.now plan.now.ssa.now self.now }
         requires packs { plan.now.packs.now ≡ self.now.packs.items }
         requires plan { IsKnown plan.now }
@@ -228,22 +284,23 @@ impl Running {
             plan.now.ssa.now (all_packs plan.now)) }
     {
         let old = self.taken.as_slice();
-        let operands = operands_of(alloc, plan.descriptions, table, plan.ssa, plan.last)?;
         let mut taken = keep_all(alloc, plan, old)?;
-        add_all(alloc, plan, &mut taken, &[], operands.as_slice())?;
+        add_all(alloc, plan, &mut taken, &[], operands)?;
         Ok(taken)
     }
 
-    /// What the recipes of the operands of the plan with a pack after it cost. Marks the values that
-    /// their inserts take.
+    /// What the recipes of the operands of the plan with a pack after it cost. Counts the values that
+    /// their inserts take, in place of those that the inserts of the plan took.
     fn recipes_with(
         &self,
         alloc: Global,
         plan: &LongerPlan,
-        needed: &mut [bool],
+        counts: &mut [u32],
+        changed: &mut [bool],
         operands: &[Operand],
         table: &MatchTable,
     ) -> Result<u64, AllocError>
+        requires long { length changed.old ≡ length counts.old }
         requires operands { operands.now ≡ operands_of (described plan.now) table.now
             plan.now.ssa.now plan.now.last.now }
         requires stands { StandsFor (described plan.now) table.now plan.now.ssa.now self.now }
@@ -251,14 +308,15 @@ impl Running {
         requires plan { IsKnown plan.now }
         ensures cost { IfOk result (λ c. c ≡ sum_by (λ t. t.recipe.lines)
             (taken_by (described plan.now) table.now plan.now.ssa.now (all_packs plan.now))) }
-        ensures marks { OnOk result (Marked (flat_map inserted_for (taken_by (described plan.now)
-            table.now plan.now.ssa.now (all_packs plan.now))) needed.old needed.new) }
+        ensures counts { OnOk result (Moves (flat_map inserted_for self.now.taken.items)
+            (flat_map inserted_for (taken_by (described plan.now) table.now plan.now.ssa.now
+            (all_packs plan.now))) counts.old counts.new changed.old changed.new) }
     {
         let old = self.taken.as_slice();
         let mut fresh = Vec::new(alloc);
         add_all(alloc, plan, &mut fresh, old, operands)?;
-        let kept = kept_cost(alloc, plan, needed, old)?;
-        let added = recipes_cost(needed, fresh.as_slice())?;
+        let kept = kept_cost(alloc, plan, counts, changed, old)?;
+        let added = recipes_cost(counts, changed, fresh.as_slice())?;
         let recipes = plus(kept, added)?;
         Ok(recipes)
     }

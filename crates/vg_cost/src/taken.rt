@@ -1,15 +1,17 @@
 //! The operands that a plan takes.
 
-ghost use Rattle.std.specs.Prelude.{◌≡◌, ◌||◌, ◌++◌, IfOk, OnOk, filter_map, flat_map, map, sum_by};
+ghost use Rattle.std.specs.Prelude.{◌≡◌, ◌||◌, ◌++◌, [], IfOk, OnOk, filter_map, flat_map, length, map, sum_by};
 ghost use Rattle.std.specs.List.{list_any, AllByRecursion};
 ghost use Rattle.vg_cost.specs.LongerPlan.{IsKnown, all_packs, described};
 ghost use Rattle.vg_cost.specs.Marks.{Marked};
+ghost use Rattle.vg_cost.specs.Moves.{Moves};
 ghost use Rattle.vg_cost.specs.Taken.{add_all, add_taken, inserted_for, kept_for, recipe_for, taken_for, taken_of};
 ghost use Rattle.vg_cost.specs.Touch.{IsKnownBy};
 ghost use Rattle.vg_kernel_plans.specs.SameAs.{same_operand};
 ghost use Rattle.vg_kernel_plans.specs.Wants.{value_of};
 
 use crate::copies::copy_operand;
+use crate::counts::count_inserted;
 use crate::lines::mark_wanted;
 use crate::longer_plan::LongerPlan;
 use crate::price::plus;
@@ -152,39 +154,49 @@ fn mark_inserted(needed: &mut [bool], operand: &Operand, recipe: RecipeCost)
     }
 }
 
-/// What the recipes of operands cost. Marks the values that their inserts take.
-pub(crate) fn recipes_cost(needed: &mut [bool], taken: &[Taken]) -> Result<u64, AllocError>
+/// What the recipes of operands cost. Counts the values that their inserts take.
+pub(crate) fn recipes_cost(
+    counts: &mut [u32],
+    changed: &mut [bool],
+    taken: &[Taken],
+) -> Result<u64, AllocError>
+    requires { length changed.old ≡ length counts.old }
     ensures cost { IfOk result (λ c. c ≡ sum_by (λ t. t.recipe.lines) taken.now) }
-    ensures marks { OnOk result (Marked (flat_map inserted_for taken.now) needed.old needed.new) }
+    ensures counts { OnOk result (Moves [] (flat_map inserted_for taken.now) counts.old counts.new
+        changed.old changed.new) }
 {
     let mut sum = 0u64;
     'taken: for one in taken {
-        mark_inserted(needed, &one.operand, one.recipe);
+        count_inserted(counts, changed, &one.operand, false, one.recipe)?;
         sum = plus(sum, one.recipe.lines)?;
     }
     Ok(sum)
 }
 
-/// What the recipes of the operands of a plan cost in a longer one. Marks the values that their inserts
-/// take.
+/// What the recipes of the operands of a plan cost in a longer one. Counts the values that their
+/// inserts take, in place of those that they took.
 pub(crate) fn kept_cost(
     alloc: Global,
     plan: &LongerPlan,
-    needed: &mut [bool],
+    counts: &mut [u32],
+    changed: &mut [bool],
     taken: &[Taken],
 ) -> Result<u64, AllocError>
+    requires long { length changed.old ≡ length counts.old }
     requires plan { IsKnown plan.now }
     requires known { AllByRecursion (IsKnownBy (described plan.now) plan.now.ssa.now
         (all_packs plan.now) plan.now.own.now) taken.now }
     ensures cost { IfOk result (λ c. c ≡ sum_by (λ t. (kept_for (described plan.now)
         plan.now.ssa.now (all_packs plan.now) t).recipe.lines) taken.now) }
-    ensures marks { OnOk result (Marked (flat_map (λ t. inserted_for (kept_for (described plan.now)
-        plan.now.ssa.now (all_packs plan.now) t)) taken.now) needed.old needed.new) }
+    ensures counts { OnOk result (Moves (flat_map inserted_for taken.now) (flat_map
+        (λ t. inserted_for (kept_for (described plan.now) plan.now.ssa.now (all_packs plan.now) t))
+        taken.now) counts.old counts.new changed.old changed.new) }
 {
     let mut sum = 0u64;
     'taken: for one in taken {
         let recipe = kept_recipe(alloc, plan, one)?;
-        mark_inserted(needed, &one.operand, recipe);
+        let before = one.recipe.is_inserted;
+        count_inserted(counts, changed, &one.operand, before, recipe)?;
         sum = plus(sum, recipe.lines)?;
     }
     Ok(sum)

@@ -28,8 +28,7 @@ returns c =
     let matches = c.args.table.now in
     let ssa = g.ssa.now in
     c.in_ok-add_all.ensures
-    ∙ ap (λ os. add_all (taken_for ds ssa (all_packs g)) (map (kept_for ds ssa (all_packs g)) [] ++ c.in_ok-taken.taken.items) os) c.as_slice.ensures.value
-    ∙ ap (λ l. add_all (taken_for ds ssa (all_packs g)) l c.in_ok-operands.operands.items) c.in_ok-taken.ensures
-    ∙ taken-longer ds matches ssa g.packs.now g.last.now c.as_slice-old.result.now c.in_ok-operands.operands.items
+    ∙ ap (λ l. add_all (taken_for ds ssa (all_packs g)) l c.args.operands.now) c.in_ok-taken.ensures
+    ∙ taken-longer ds matches ssa g.packs.now g.last.now c.as_slice-old.result.now c.args.operands.now
     (c.as_slice-old.ensures.value ∙ c.requires.stands.taken ∙ ap (taken_by ds matches ssa) (sym c.requires.packs))
-    c.in_ok-operands.ensures
+    c.requires.operands
