@@ -5,7 +5,7 @@
 -- is left: no unit uses a value of its own number or a greater one.
 use Rattle.std.proofs.Common.{◌≡◌, ℕ, zero, suc, ◌+◌, ◌<◌, ◌≤◌, Bool, false, List, [], ◌∷◌, ◌++◌, get_or, length, refl, sym, ◌∙◌, ap, subst, arith}
 use Rattle.std.specs.Prelude.{◌||◌, nat_eq, nat_lt, filter}
-use Rattle.std.specs.List.{flat_map, sum_by}
+use Rattle.std.specs.List.{flat_map}
 use Rattle.std.proofs.lemmas.List.Folds.{list_any-append}
 use Rattle.vg_plans.specs.World.{is_in, is_packed, scalar_lines}
 use Rattle.vg_shapes.specs.declared.pack.Pack.{Pack}

@@ -3,12 +3,10 @@
 -- At and above the place all is as after the change. Below it the units count as before it, and where no change
 -- is marked packs and counts are those that were. What the units below the place would count after the change
 -- stands on both sides, so that it need not be told apart from what is counted above.
-use Rattle.std.proofs.Common.{◌≡◌, ℕ, zero, suc, ◌+◌, ◌<◌, ◌≤◌, Bool, true, false, List, [], ◌∷◌, get_or, length, refl, sym, ◌∙◌, ap, subst, arith, Some, None}
+use Rattle.std.proofs.Common.{◌≡◌, ℕ, zero, suc, ◌+◌, ◌<◌, ◌≤◌, Bool, true, false, List, [], get_or, length, refl, sym, ◌∙◌, ap, subst, arith, Some, None}
 use Rattle.std.specs.Prelude.{◌||◌, Option, nat_lt, replicate}
-use Rattle.std.proofs.lemmas.List.{length-replicate}
 use Rattle.vg_plans.specs.World.{is_in}
 use Rattle.vg_shapes.specs.declared.pack.Pack.{Pack}
-use Rattle.vg_shapes.specs.declared.ssa.Ssa.{Ssa}
 use Rattle.vg_shapes.specs.declared.ssa_unit.SsaUnit.{SsaUnit}
 use Rattle.vg_shapes.specs.Pack.{units_of}
 use Rattle.vg_shapes.specs.Units.{unit_at}

@@ -1,6 +1,5 @@
 -- Numbers that are counted while a plan changes.
-use Rattle.std.specs.Prelude.{◌≡◌, ◌<◌, ◌≤◌, ℕ, ◌+◌, Bool, true, false, List, [], length, get_or, if◌then◌else◌}
-use Rattle.vg_shapes.specs.declared.ssa.Ssa.{Ssa}
+use Rattle.std.specs.Prelude.{◌≡◌, ◌<◌, ◌≤◌, ℕ, ◌+◌, Bool, true, false, List, [], length, get_or}
 use Rattle.vg_cost.specs.declared.change.Change.{Change}
 use Rattle.vg_cost.specs.Needs.{AreNeeds, lines_by, times_in, uses_of}
 

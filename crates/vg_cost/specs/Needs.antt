@@ -3,7 +3,7 @@
 -- A value is needed as often as inserts take it and units above it that are written use it; a unit is
 -- written where no pack has it and it is an access or its value is needed. Each unit is decided by those
 -- above it, so for the packs and the inserts of a plan there is one such count, and the lines are told by it.
-use Rattle.std.specs.Prelude.{◌≡◌, ◌<◌, ℕ, ◌+◌, Bool, true, false, List, [], ◌∷◌, filter, length, get_or, nat_eq, nat_lt, sum_by, if◌then◌else◌}
+use Rattle.std.specs.Prelude.{◌≡◌, ◌<◌, ℕ, ◌+◌, Bool, false, List, [], ◌∷◌, filter, length, get_or, nat_eq, nat_lt, sum_by, if◌then◌else◌}
 use Rattle.vg_shapes.specs.declared.pack.Pack.{Pack}
 use Rattle.vg_shapes.specs.declared.ssa.Ssa.{Ssa}
 use Rattle.vg_shapes.specs.Depends.{numbers_below}

@@ -1,6 +1,5 @@
-use Rattle.std.proofs.Common.{◌≡◌, ◌∙◌, true, ap, arith, length, refl, subst, sym}
-use Rattle.std.specs.Prelude.{get_or, replicate}
-use Rattle.std.specs.Vec.{with_items}
+use Rattle.std.proofs.Common.{◌∙◌, true, ap, arith, length, refl, subst, sym}
+use Rattle.std.specs.Prelude.{get_or}
 use Rattle.std.proofs.lemmas.List.{length-replicate, with_items_is}
 use Rattle.vg_cost.specs.declared.change.Change.{Change}
 use Rattle.vg_cost.specs.Needs.{AreNeeds}

@@ -1,4 +1,4 @@
-use Rattle.std.proofs.Common.{◌∙◌, ◌-◌, arith, refl, sym}
+use Rattle.std.proofs.Common.{◌∙◌, ◌-◌, arith, sym}
 use Rattle.vg_cost.proofs.Settled.{settling-end, settling-first, settling-next, settling-skip}
 use Rattle.vg_cost.proofs.settling.settle.Goals as goal
 

@@ -1,10 +1,10 @@
-use Rattle.std.proofs.Common.{[], ◌∙◌, ◌++◌, ap, map, subst, sym}
+use Rattle.std.proofs.Common.{[], ◌∙◌, ap, subst, sym}
 use Rattle.std.specs.List.{AllByRecursion}
 use Rattle.vg_plans.specs.World.{operands}
 use Rattle.vg_kernel_plans.specs.Packing.{packing}
 use Rattle.vg_cost.specs.LongerPlan.{all_packs, described}
 use Rattle.vg_cost.specs.Running.{taken_by}
-use Rattle.vg_cost.specs.Taken.{add_all, kept_for, taken_for}
+use Rattle.vg_cost.specs.Taken.{add_all, taken_for}
 use Rattle.vg_cost.specs.Touch.{IsKnownBy}
 use Rattle.vg_cost.proofs.Growing.{known-by, taken-longer}
 use Rattle.vg_cost.proofs.running.Running.taken_with.Goals as goal

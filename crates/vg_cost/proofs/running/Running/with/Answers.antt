@@ -1,8 +1,7 @@
-use Rattle.std.proofs.Common.{◌≡◌, ◌∙◌, ◌+◌, ◌++◌, ◌∷◌, [], ap, length, map, subst, sym}
+use Rattle.std.proofs.Common.{◌∙◌, ◌++◌, ◌∷◌, [], ap, length, map, subst, sym}
 use Rattle.std.specs.List.{flat_map}
 use Rattle.vg_shapes.specs.Description.{description_of}
 use Rattle.vg_shapes.specs.Pack.{units_of}
-use Rattle.vg_shapes.specs.Units.{arguments}
 use Rattle.vg_cost.specs.Marks.{Has}
 use Rattle.vg_cost.specs.Needs.{AreNeedsFor}
 use Rattle.vg_cost.specs.PriceScratch.{IsScratchFor}
