@@ -13,6 +13,7 @@ pub mod Own
 pub mod Scanned
 pub mod Settled
 pub mod Steps
+pub mod Still
 pub mod Stood
 pub mod Sums
 pub mod Zero

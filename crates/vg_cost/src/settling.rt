@@ -1,6 +1,6 @@
 //! What follows from a change of a plan, from the highest number down.
 
-ghost use Rattle.std.specs.Prelude.{◌≡◌, ◌+◌, ◌<◌, ◌≤◌, ◌&&◌, ℕ, [], IfOk, OnOk, Some, false, get_or, if◌then◌else◌, length};
+ghost use Rattle.std.specs.Prelude.{◌≡◌, ◌+◌, ◌<◌, ◌≤◌, ◌&&◌, ℕ, [], IfOk, OnOk, Some, false, get_or, if◌then◌else◌, length, true};
 ghost use Rattle.vg_cost.specs.Lines.{is_written, line_of, values_of};
 ghost use Rattle.vg_cost.specs.Moves.{FitsIn, Moves, Settles, StandsAt};
 ghost use Rattle.vg_cost.specs.Needs.{is_needed, line_at, under, used_at};
@@ -127,13 +127,38 @@ fn judge(
     }
 }
 
+/// Whether none of the eight numbers below an end is marked.
+fn are_still(changed: &[bool], end: usize) -> bool
+    requires eight { 8 ≤ end }
+    requires long { end ≤ length changed.now }
+    ensures { result ≡ true → (v : ℕ) → end ≤ v + 8 → v < end → get_or changed.now v false ≡ false }
+{
+    let high = changed[end - 1] | changed[end - 2] | changed[end - 3] | changed[end - 4];
+    let low = changed[end - 5] | changed[end - 6] | changed[end - 7] | changed[end - 8];
+    !(high | low)
+}
+
+/// The numbers below an end without the last of them, eight at a time, that are not marked: how many
+/// they are.
+fn still_end(changed: &[bool], end: usize) -> usize
+    requires { end ≤ length changed.now }
+    ensures bound { result ≤ end }
+    ensures still { (v : ℕ) → result ≤ v → v < end → get_or changed.now v false ≡ false }
+{
+    let mut left = end;
+    'eights: while left >= 8 && are_still(changed, left) {
+        left -= 8;
+    }
+    left
+}
+
 /// The numbers below an end without those that are the last and not marked: how many they are.
 fn changed_end(changed: &[bool], end: usize) -> usize
     requires { end ≤ length changed.now }
     ensures bound { result ≤ end }
     ensures still { (v : ℕ) → result ≤ v → v < end → get_or changed.now v false ≡ false }
 {
-    let mut left = end;
+    let mut left = still_end(changed, end);
     'marks: while left > 0 && !changed[left - 1] {
         left -= 1;
     }
