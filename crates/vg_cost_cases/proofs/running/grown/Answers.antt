@@ -41,3 +41,7 @@ returns-clause-plan c =
     in
     subst (IsPlanFor [] c.args.table.now c.args.ssa.now c.args.deps.now) (sym c.in_ok-longer.ensures.packs)
     (plan-more c.args.table.now c.args.ssa.now c.args.deps.now c.args.plan.now.packs.items c.in_ok-pack.pack has c.requires.plan)
+
+pub compatible-requires-clause-free : goal.compatible-requires-clause-free
+compatible-requires-clause-free c =
+    subst (IsFree c.args.table.now c.args.ssa.now c.args.deps.now) (sym c.packs.ensures) c.requires.free
