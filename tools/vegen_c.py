@@ -6,15 +6,31 @@ REGISTERS = {128: '__m128i', 256: '__m256i', 512: '__m512i'}
 FEATURES = {'SSE2': (), 'SSE3': ('sse3',), 'SSSE3': ('ssse3',), 'SSE4.1': ('sse4.1',), 'SSE4.2': ('sse4.2',), 'AVX': ('avx',),
             'AVX2': ('avx2',), 'AVX_VNNI': ('avx2', 'avxvnni'), 'AVX512F': ('avx512f',), 'AVX512BW': ('avx512f', 'avx512bw')}
 ORDER = 'sse3 ssse3 sse4.1 sse4.2 avx avx2 avxvnni avx512f avx512bw avx512vl avx512vnni'.split()
-# Words that a parameter or a function of C may not have here: keywords, types, macros, functions that compilers know.
-TAKEN = set('''auto break case char const continue default do double else enum extern float for goto if inline int long register
-restrict return short signed sizeof static struct switch typedef union unsigned void volatile while asm typeof bool true false
-linux unix i386 main size_t wchar_t ptrdiff_t max_align_t abort abs acos alloca asin atan atoi bcmp bcopy bzero calloc ceil cos cosh
-div exit exp fabs ffs floor fmax fmin fmod fputc fputs free frexp gamma getc gets hypot index isalnum isalpha isdigit islower
-isprint isspace isupper j0 j1 jn labs ldexp lgamma log logb malloc memchr memcmp memcpy memmove memset modf pow printf putc putchar puts
-qsort rand read realloc remainder rename rindex rint round scalb scanf signal significand signbit sin sinh sprintf sqrt stpcpy
-strcat strchr strcmp strcpy strcspn strdup strlen strncat strncmp strncpy strpbrk strrchr strspn strstr tan tanh time tolower
-toupper trunc write y0 y1 yn'''.split())
+# Words that a parameter or a function of C may not have here: keywords, types, macros, and functions that compilers know or that the
+# headers of the C declare (glibc).
+TAKEN = set('''a64l abort abs acos alignas aligned_alloc alignof alloca arc4random arc4random_buf arc4random_uniform asin asm at_quick_exit
+atan atexit atof atoi atol atoll auto bcmp bcopy be16toh be32toh be64toh bool break bsearch bzero calloc case ceil char
+clearenv const constexpr continue cos cosh default div do double drand48 drand48_r ecvt ecvt_r else enum erand48 erand48_r
+exit exp explicit_bzero extern fabs false fcvt fcvt_r fd_mask fd_set ffs ffsl ffsll float floor fmax fmin fmod for fputc
+fputs free frexp gamma gcvt getc getenv getloadavg gets getsubopt goto htobe16 htobe32 htobe64 htole16 htole32 htole64 hypot
+i386 if index initstate initstate_r inline int isalnum isalpha isdigit islower isprint isspace isupper j0 j1 jn jrand48
+jrand48_r l64a labs lcong48 lcong48_r ldexp ldiv le16toh le32toh le64toh lgamma linux llabs lldiv log logb long lrand48
+lrand48_r main malloc max_align_t mblen mbstowcs mbtowc memccpy memchr memcmp memcpy memmove memset mkdtemp mkstemp mkstemps
+mktemp modf mrand48 mrand48_r nrand48 nrand48_r nullptr offsetof on_exit posix_memalign pow printf pselect ptrdiff_t putc
+putchar putenv puts qecvt qecvt_r qfcvt qfcvt_r qgcvt qsort quick_exit rand rand_r random random_r read realloc reallocarray
+realpath register remainder rename restrict return rindex rint round rpmatch scalb scanf seed48 seed48_r select setenv
+setstate setstate_r short signal signbit signed significand sin sinh size_t sizeof sprintf sqrt srand srand48 srand48_r
+srandom srandom_r static static_assert stpcpy stpncpy strcasecmp strcasecmp_l strcat strchr strcmp strcoll strcoll_l strcpy
+strcspn strdup strerror strerror_l strerror_r strlen strncasecmp strncasecmp_l strncat strncmp strncpy strndup strnlen
+strpbrk strrchr strsep strsignal strspn strstr strtod strtof strtok strtok_r strtol strtold strtoll strtoq strtoul strtoull
+strtouq struct strxfrm strxfrm_l switch system tan tanh thread_local time tolower toupper true trunc typedef typeof
+typeof_unqual u_char u_int u_long u_short uint ulong union unix unsetenv unsigned ushort valloc void volatile wchar_t
+wcstombs wctomb while write y0 y1 yn'''.split())
+
+
+def number(word):
+    """The number of a decimal or hexadecimal word, which may have leading zeros."""
+    return int(word[2:], 16) if word.startswith('0x') else int(word)
 
 
 class Entry:
@@ -38,12 +54,12 @@ def read_entries(path):
         at += 2
         while words[at] != 'RESULT':
             if words[at] == 'PARAM':
-                parameters.append((words[at + 1], int(words[at + 2], 0)))
+                parameters.append((words[at + 1], number(words[at + 2])))
                 at += 4
             else:
-                immediate = (int(words[at + 2], 0), int(words[at + 4], 0))
+                immediate = (number(words[at + 2]), number(words[at + 4]))
                 at += 5
-        entries[name] = Entry(name, parameters, immediate, int(words[at + 2], 0), words[at + 5], int(words[at + 7], 0))
+        entries[name] = Entry(name, parameters, immediate, number(words[at + 2]), words[at + 5], number(words[at + 7]))
         at += 8
     return entries
 
