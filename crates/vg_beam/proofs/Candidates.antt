@@ -1,7 +1,8 @@
 -- Plans of a level that are met and kept.
-use Rattle.std.proofs.Common.{◌≡◌, ℕ, ◌+◌, ◌<◌, ◌≤◌, Bool, true, false, List, [], ◌∷◌, ◌++◌, length, map, take, get_or, refl, sym, ◌∙◌, ap, subst, append-nil, append_assoc}
-use Rattle.std.specs.Prelude.{◌||◌, bytes_eq, flat_map}
+use Rattle.std.proofs.Common.{◌≡◌, ℕ, ◌+◌, ◌<◌, ◌≤◌, Bool, true, false, List, [], ◌∷◌, ◌++◌, length, map, take, get_or, refl, sym, ◌∙◌, ap, subst, inl, inr, append-nil, append_assoc}
+use Rattle.std.specs.Prelude.{◌||◌, bytes_eq, filter, flat_map, not}
 use Rattle.std.specs.List.{AllByRecursion, list_any}
+use Rattle.std.proofs.lemmas.Bool.{cases_Bool}
 use Rattle.std.proofs.lemmas.List.{map-append, take_more}
 use Rattle.vg_cost.specs.Running.{StandsFor}
 use Rattle.vg_kernel_plans.proofs.Tried.{is-packing_by}
@@ -16,8 +17,9 @@ use Rattle.vg_packs.specs.Walk.{IsFree, NameEarlierUnits, is_in_plan}
 use Rattle.vg_plans.proofs.Lists.{every-append, has-map, take-whole}
 use Rattle.vg_plans.proofs.Members.{from-filter, has-filter}
 use Rattle.vg_plans.specs.Crowded.{empty, more}
+use Rattle.vg_plans.specs.Levels.{distinct_onto}
 use Rattle.vg_plans.specs.Members.{Every, Has}
-use Rattle.vg_plans.specs.World.{World, same_packs, stays_plan, tried}
+use Rattle.vg_plans.specs.World.{World, is_in, same_packs, stays_plan, tried}
 use Rattle.vg_kernel_plans.specs.declared.choice.Choice.{Choice}
 use Rattle.vg_shapes.specs.declared.match_table.Match.{Match}
 use Rattle.vg_shapes.specs.declared.operand.Operand.{Operand}
@@ -33,14 +35,14 @@ use Rattle.vg_beam.specs.declared.priced_plan.PricedPlan.{PricedPlan}
 use Rattle.vg_beam.specs.PackTable.{Grows, IsPackTable, IsOpened, no_pack, pack_at, produced_at, produced_by}
 use Rattle.vg_beam.specs.Candidate.{AreGrown, CanGrow, IsCandidate, IsGrown, IsPlaced, grown_plan, grown_plans}
 use Rattle.vg_beam.specs.Chosen.{HaveShortPacksBy}
-use Rattle.vg_beam.specs.BeamPlan.{IsKept, plan_at, plan_of, plans_of}
+use Rattle.vg_beam.specs.BeamPlan.{IsKept, is_apart, plan_at, plan_of, plans_of}
 use Rattle.vg_beam.specs.Key.{AreApart, IsKey, Names, has_key, with_number}
 use Rattle.vg_beam.specs.MetPlans.{IsMet, Meets, is_known}
 use Rattle.vg_beam.specs.Priced.{priced, priced_plans}
 use Rattle.vg_beam.proofs.Boards.{at-along, grows-join, grows-same, inside-along, names-along}
-use Rattle.vg_beam.proofs.Growing.{HasPrice, flat-snoc, grown-known, grown-new, grown-refused, grown-step}
+use Rattle.vg_beam.proofs.Growing.{HasPrice, filter-all, filter-front, filter-narrow, flat-snoc, grown-known, grown-new, grown-refused, grown-step}
 use Rattle.vg_beam.proofs.Keys.{key-longer, same-key}
-use Rattle.vg_beam.proofs.Numbers.{every-any, every-at, has-at, key-grow, key-none, names-join, zero-at}
+use Rattle.vg_beam.proofs.Numbers.{every-any, every-at, has-at, key-grow, key-none, names-filter, names-join, zero-at}
 
 all-last : (plan : List Pack) (p : Pack) → AllByRecursion IsShort (plan ++ p ∷ []) → IsShort p
 all-last [] p a = a.0
@@ -54,6 +56,40 @@ any-snoc test (y ∷ xs) x = ap (λ b. test y || b) (any-snoc test xs x) ∙ tur
     turn true true c = refl
     turn true false c = refl
     turn false b c = refl
+
+-- ---- packs that share no unit with a plan
+
+any-wider : (f g : ℕ → Bool) → ((v : ℕ) → f v ≡ true → g v ≡ true) → (vs : List ℕ) → list_any f vs ≡ true → list_any g vs ≡ true
+any-wider f g h [] t = absurd (cc)
+any-wider f g h (v ∷ vs) t = elim (cases_Bool (f v)) [
+  | inl u ↦ rw (h v u) refl
+  | inr n ↦ elim (cases_Bool (g v)) [
+    | inl w ↦ rw w refl
+    | inr z ↦ rw z (any-wider f g h vs (rw n at t))
+  ]
+]
+
+any-none : (vs : List ℕ) → list_any (λ v. false) vs ≡ false
+any-none [] = refl
+any-none (v ∷ vs) = any-none vs
+
+or-true : (b : Bool) → (b || true) ≡ true
+or-true true = refl
+or-true false = refl
+
+longer-has : (plan : List Pack) (p : Pack) (v : ℕ) → is_in_plan plan v ≡ true → is_in_plan (plan ++ p ∷ []) v ≡ true
+longer-has plan p v t = any-snoc (λ q. is_in v (units_of q)) plan p ∙ ap (λ b. is_in v (units_of p) || b) t ∙ or-true (is_in v (units_of p))
+
+pub apart-shorter : (plan : List Pack) (p q : Pack) → is_apart (plan ++ p ∷ []) q ≡ true → is_apart plan q ≡ true
+apart-shorter plan p q t = elim (cases_Bool (list_any (is_in_plan plan) (units_of q))) [
+  | inl u ↦
+      let k = any-wider (is_in_plan plan) (is_in_plan (plan ++ p ∷ [])) (longer-has plan p) (units_of q) u in
+      absurd (let n : not true ≡ true = rw k at t in cc)
+  | inr f ↦ rw f refl
+]
+
+pub apart-none : (q : Pack) → is_apart [] q ≡ true
+apart-none q = ap not (any-none (units_of q))
 
 module _ (ch : Choice) (ds : List Description) (matches : List Match) (ssa : Ssa) (deps : List (ℕ × ℕ)) where
   abbrev world : World Pack Operand Operand
@@ -73,6 +109,12 @@ module _ (ch : Choice) (ds : List Description) (matches : List Match) (ssa : Ssa
   pub overlap-stays : (plan : List Pack) (p : Pack) → list_any (is_in_plan plan) (units_of p) ≡ true
       → stays_plan (packing [] matches ssa deps) plan p ≡ false
   overlap-stays plan p t = rw t refl
+
+  stays-apart : (plan : List Pack) (p : Pack) → stays_plan world plan p ≡ true → is_apart plan p ≡ true
+  stays-apart plan p t = elim (cases_Bool (list_any (is_in_plan plan) (units_of p))) [
+    | inl u ↦ absurd (let k = overlap-stays plan p u in let e = stays-by ch ds matches ssa deps plan p in cc)
+    | inr f ↦ rw f refl
+  ]
 
   pub last-short : HaveShortPacksBy ch ds matches ssa deps → (plan : List Pack) (p : Pack) → IsPlanBy ch ds matches ssa deps (plan ++ p ∷ []) → IsShort p
   last-short short plan p is = all-last plan p (short (plan ++ p ∷ []) is)
@@ -150,19 +192,27 @@ module _ (ch : Choice) (ds : List Description) (matches : List Match) (ssa : Ssa
     }
 
     pub meets-end : (plan : List Pack) (numbers : List ℕ) (i : ℕ) (old new : MetPlans) → length numbers ≤ i
-        → Names no_pack packs numbers (tried world plan)
+        → Names no_pack packs numbers (filter (is_apart plan) (tried world plan))
         → Meets ch ds matches ssa deps packs level plan (map (pack_at packs) (take i numbers)) old new
         → Meets ch ds matches ssa deps packs level plan (tried world plan) old new
     meets-end plan numbers i old new l names a =
-        subst (λ ps. Meets ch ds matches ssa deps packs level plan ps old new) (ap (map (pack_at packs)) (take-whole i numbers l) ∙ names.names) a
+        let b = subst (λ ps. Meets ch ds matches ssa deps packs level plan ps old new) (ap (map (pack_at packs)) (take-whole i numbers l) ∙ names.names) a in
+        record {
+          met = b.met;
+          plans = b.plans
+              ∙ ap (λ ps. distinct_onto (same_packs world) (grown_plans packs level old.candidates.items) (map (λ p. plan ++ p ∷ []) ps))
+              (filter-narrow (is_apart plan) (stays_plan world plan) (stays-apart plan) (tried world plan));
+        }
 
     -- a number that is tried
-    pub number-tried : (plan : List Pack) (numbers : List ℕ) (i : ℕ) → i < length numbers → Names no_pack packs numbers (tried world plan)
+    pub number-tried : (plan : List Pack) (numbers : List ℕ) (i : ℕ) → i < length numbers
+        → Names no_pack packs numbers (filter (is_apart plan) (tried world plan))
         → (get_or numbers i 0 < length packs) × Has (pack_at packs (get_or numbers i 0)) (tried world plan)
     number-tried plan numbers i l names = (
       every-at (λ n. n < length packs) numbers i (get_or numbers i 0) names.inside l (zero-at numbers i l),
-      subst (Has (pack_at packs (get_or numbers i 0))) names.names
-          (has-map (pack_at packs) (get_or numbers i 0) numbers (has-at numbers i (get_or numbers i 0) l (zero-at numbers i l))),
+      (from-filter (is_apart plan) (pack_at packs (get_or numbers i 0)) (tried world plan)
+      (subst (Has (pack_at packs (get_or numbers i 0))) names.names
+      (has-map (pack_at packs) (get_or numbers i 0) numbers (has-at numbers i (get_or numbers i 0) l (zero-at numbers i l))))).0,
     )
 
     -- a candidate that is met
@@ -230,7 +280,7 @@ module _ (ch : Choice) (ds : List Description) (matches : List Match) (ssa : Ssa
   kept-along packs longer k g is = record {
     stands = is.stands;
     key = subst (λ l. IsKey no_pack l k.key (plan_of k)) (sym g.1) (key-grow no_pack packs g.0 k.key (plan_of k) is.key);
-    tried = names-along packs longer k.tried (tried independent (plan_of k)) g is.tried;
+    tried = names-along packs longer k.tried (filter (is_apart (plan_of k)) (tried independent (plan_of k))) g is.tried;
   }
 
   pub all-along : (packs longer : List Pack) (ks : List BeamPlan) → Grows packs longer → Every (IsKept ch ds matches ssa packs) ks
@@ -253,25 +303,32 @@ module _ (ch : Choice) (ds : List Description) (matches : List Match) (ssa : Ssa
   pub kept-grown : (old new : PackTable) (k next : BeamPlan) (n : ℕ) → n < length old.packs.items → IsKept ch ds matches ssa old.packs.items k
       → IsOpened ch ds matches ssa old new n
       → plan_of next ≡ plan_of k ++ pack_at old.packs.items n ∷ [] → StandsFor ds matches ssa next.running
-      → next.key ≡ with_number n k.key → next.tried ≡ k.tried ++ produced_at new n
+      → next.key ≡ with_number n k.key
+      → next.tried ≡ filter (λ m. is_apart (plan_of next) (pack_at new.packs.items m)) (k.tried ++ produced_at new n)
       → IsKept ch ds matches ssa new.packs.items next
   kept-grown old new k next n l is o e stands key numbers =
       let there = kept-along old.packs.items new.packs.items k o.grows is in
       let p = pack_at old.packs.items n in
+      let plan = plan_of k ++ p ∷ [] in
       let same : pack_at new.packs.items n ≡ p = at-along old.packs.items new.packs.items n o.grows l in
-      let behind : tried independent (plan_of k ++ p ∷ []) ≡ tried independent (plan_of k) ++ produced_by ch ds matches ssa p =
+      let behind : tried independent plan ≡ tried independent (plan_of k) ++ produced_by ch ds matches ssa p =
       ap (λ q. groups_by ch ssa ++ q) (flat-snoc (produced_by ch ds matches ssa) (plan_of k) p)
       ∙ sym (append_assoc (groups_by ch ssa) (flat_map (produced_by ch ds matches ssa) (plan_of k)) (produced_by ch ds matches ssa p)) in
+      let all = names-join no_pack new.packs.items k.tried (produced_at new n) (filter (is_apart (plan_of k)) (tried independent (plan_of k)))
+      (produced_by ch ds matches ssa p) there.tried o.produced in
+      let apart = names-filter no_pack (is_apart plan) new.packs.items (k.tried ++ produced_at new n) _ all in
+      let front = filter-front (is_apart (plan_of k)) (is_apart plan) (apart-shorter (plan_of k) p) (tried independent (plan_of k)) (produced_by ch ds matches ssa p)
+      ∙ ap (filter (is_apart plan)) (sym behind) in
       record {
         stands = stands;
         key = subst (λ q. IsKey no_pack new.packs.items next.key q) (sym e)
-            (subst (λ q. IsKey no_pack new.packs.items q (plan_of k ++ p ∷ [])) (sym key)
+            (subst (λ q. IsKey no_pack new.packs.items q plan) (sym key)
             (subst (λ q. IsKey no_pack new.packs.items (with_number n k.key) (plan_of k ++ q ∷ [])) same
             (key-longer no_pack new.packs.items k.key (plan_of k) n there.key (inside-along old.packs.items new.packs.items n o.grows l))));
-        tried = subst (λ q. Names no_pack new.packs.items next.tried (tried independent q)) (sym e)
-            (subst (λ q. Names no_pack new.packs.items q (tried independent (plan_of k ++ p ∷ []))) (sym numbers)
-            (subst (Names no_pack new.packs.items (k.tried ++ produced_at new n)) (sym behind)
-            (names-join no_pack new.packs.items k.tried (produced_at new n) (tried independent (plan_of k)) (produced_by ch ds matches ssa p) there.tried o.produced)));
+        tried = subst (λ q. Names no_pack new.packs.items next.tried (filter (is_apart q) (tried independent q))) (sym e)
+            (subst (λ q. Names no_pack new.packs.items q (filter (is_apart plan) (tried independent plan)))
+            (sym (numbers ∙ ap (λ q. filter (λ m. is_apart q (pack_at new.packs.items m)) (k.tried ++ produced_at new n)) e))
+            (subst (Names no_pack new.packs.items (filter (λ m. is_apart plan (pack_at new.packs.items m)) (k.tried ++ produced_at new n))) front apart));
       }
 
   pub kept-first : (packs : List Pack) (k : BeamPlan) (groups : List Pack) → plan_of k ≡ [] → StandsFor ds matches ssa k.running
@@ -279,8 +336,9 @@ module _ (ch : Choice) (ds : List Description) (matches : List Match) (ssa : Ssa
   kept-first packs k groups e stands key names g = record {
     stands = stands;
     key = subst (λ q. IsKey no_pack packs k.key q) (sym e) (subst (λ q. IsKey no_pack packs q []) (sym key) (key-none no_pack packs));
-    tried = subst (λ q. Names no_pack packs k.tried (tried independent q)) (sym e)
-        (subst (Names no_pack packs k.tried) (g ∙ sym (append-nil (groups_by ch ssa))) names);
+    tried = subst (λ q. Names no_pack packs k.tried (filter (is_apart q) (tried independent q))) (sym e)
+        (subst (Names no_pack packs k.tried)
+        (g ∙ sym (append-nil (groups_by ch ssa)) ∙ sym (filter-all (is_apart []) apart-none (tried independent []))) names);
   }
 
   pub grown-first : (b : PackTable) (level : List BeamPlan) (ks : List BeamPlan) → ks ≡ [] → IsPackTable ch ds matches ssa b

@@ -16,12 +16,66 @@ pub any-map : {X Y : Type 0} (f : X → Y) (test : Y → Bool) (xs : List X) →
 any-map f test [] = refl
 any-map f test (x ∷ xs) = ap (λ b. test (f x) || b) (any-map f test xs)
 
-filter-append : {X : Type 0} (test : X → Bool) (xs ys : List X) → filter test (xs ++ ys) ≡ filter test xs ++ filter test ys
+pub filter-append : {X : Type 0} (test : X → Bool) (xs ys : List X) → filter test (xs ++ ys) ≡ filter test xs ++ filter test ys
 filter-append test [] ys = refl
 filter-append test (x ∷ xs) ys = elim (cases_Bool (test x)) [
   | inl t ↦ rw t (ap (λ l. x ∷ l) (filter-append test xs ys))
   | inr f ↦ rw f (filter-append test xs ys)
 ]
+
+-- a test that holds only where another does
+pub filter-narrow : {X : Type 0} (wide narrow : X → Bool) → ((x : X) → narrow x ≡ true → wide x ≡ true) → (xs : List X)
+    → filter narrow (filter wide xs) ≡ filter narrow xs
+filter-narrow wide narrow h [] = refl
+filter-narrow wide narrow h (x ∷ xs) = elim (cases_Bool (wide x)) [
+  | inl t ↦ elim (cases_Bool (narrow x)) [
+    | inl u ↦ rw (t, u) (ap (λ l. x ∷ l) (filter-narrow wide narrow h xs))
+    | inr f ↦ rw (t, f) (filter-narrow wide narrow h xs)
+  ]
+  | inr f ↦ elim (cases_Bool (narrow x)) [
+    | inl u ↦ absurd (let k = h x u in cc)
+    | inr g ↦ rw (f, g) (filter-narrow wide narrow h xs)
+  ]
+]
+
+pub filter-front : {X : Type 0} (wide narrow : X → Bool) → ((x : X) → narrow x ≡ true → wide x ≡ true) → (xs ys : List X)
+    → filter narrow (filter wide xs ++ ys) ≡ filter narrow (xs ++ ys)
+filter-front wide narrow h xs ys =
+    filter-append narrow (filter wide xs) ys ∙ ap (λ l. l ++ filter narrow ys) (filter-narrow wide narrow h xs)
+    ∙ sym (filter-append narrow xs ys)
+
+pub filter-all : {X : Type 0} (test : X → Bool) → ((x : X) → test x ≡ true) → (xs : List X) → filter test xs ≡ xs
+filter-all test h [] = refl
+filter-all test h (x ∷ xs) = rw (h x) (ap (λ l. x ∷ l) (filter-all test h xs))
+
+-- one number more of those that pass a test
+filter-step : (test : ℕ → Bool) (xs : List ℕ) (i d : ℕ) → i < length xs
+    → filter test (take (i + 1) xs) ≡ filter test (take i xs) ++ filter test (get_or xs i d ∷ [])
+filter-step test xs i d l = ap (filter test) (take_more xs i d l) ∙ filter-append test (take i xs) (get_or xs i d ∷ [])
+
+pub filter-passed : (test : ℕ → Bool) (xs before old new : List ℕ) (i d : ℕ) → i < length xs → test (get_or xs i d) ≡ true
+    → old ≡ before ++ filter test (take i xs) → new ≡ old ++ get_or xs i d ∷ [] → new ≡ before ++ filter test (take (i + 1) xs)
+filter-passed test xs before old new i d l t o e =
+    let x = get_or xs i d in
+    let one : filter test (x ∷ []) ≡ x ∷ [] = rw t refl in
+    e ∙ ap (λ q. q ++ x ∷ []) o ∙ append_assoc before (filter test (take i xs)) (x ∷ [])
+    ∙ ap (λ q. before ++ q) (sym (filter-step test xs i d l ∙ ap (λ q. filter test (take i xs) ++ q) one))
+
+pub filter-missed : (test : ℕ → Bool) (xs before old new : List ℕ) (i d : ℕ) → i < length xs → test (get_or xs i d) ≡ false
+    → old ≡ before ++ filter test (take i xs) → new ≡ old → new ≡ before ++ filter test (take (i + 1) xs)
+filter-missed test xs before old new i d l f o e =
+    let x = get_or xs i d in
+    let none : filter test (x ∷ []) ≡ [] = rw f refl in
+    e ∙ o
+    ∙ ap (λ q. before ++ q)
+    (sym (filter-step test xs i d l ∙ ap (λ q. filter test (take i xs) ++ q) none ∙ append-nil (filter test (take i xs))))
+
+-- those of two lists that pass a test, one list after the other
+pub filter-both : (test : ℕ → Bool) (xs ys none one both all before behind : List ℕ) → none ≡ [] → before ≡ xs → behind ≡ ys
+    → one ≡ none ++ filter test before → both ≡ one ++ filter test behind → all ≡ both → all ≡ filter test (xs ++ ys)
+filter-both test xs ys none one both all before behind n b e o m a =
+    a ∙ m ∙ ap (λ l. l ++ filter test behind) (o ∙ ap (λ l. l ++ filter test before) n)
+    ∙ sym (filter-append test before behind) ∙ ap (λ l. filter test (l ++ behind)) b ∙ ap (λ l. filter test (xs ++ l)) e
 
 -- ---- one candidate
 

@@ -1,6 +1,6 @@
 -- Numbers of packs in a list that grows.
 use Rattle.std.proofs.Common.{◌≡◌, ℕ, zero, suc, ◌+◌, ◌<◌, ◌≤◌, Bool, true, false, List, [], ◌∷◌, ◌++◌, map, length, take, drop, get_or, refl, sym, ◌∙◌, ap, subst, inl, inr, arith, length-append}
-use Rattle.std.specs.Prelude.{nat_eq, nat_lt, nat_le, if◌then◌else◌, slice_get, unwrap_or}
+use Rattle.std.specs.Prelude.{filter, nat_eq, nat_lt, nat_le, if◌then◌else◌, slice_get, unwrap_or}
 use Rattle.std.specs.List.{position, position_or_len}
 use Rattle.std.proofs.lemmas.Bool.{cases_Bool}
 use Rattle.std.proofs.lemmas.Bool.Decides.{nat_tests}
@@ -55,6 +55,22 @@ place-none test (x ∷ xs) none l n k = elim (cases_Bool (test x)) [
 
 pub place-end : {X : Type 0} (test : X → Bool) (xs : List X) → length xs ≤ first_place test xs → first_place test xs ≡ length xs
 place-end test xs l = let most = place-most test xs in omega (arith, l, most)
+
+-- ---- numbers that pass a test
+
+map-filter : {X Y : Type 0} (f : X → Y) (test : Y → Bool) (xs : List X) → map f (filter (λ x. test (f x)) xs) ≡ filter test (map f xs)
+map-filter f test [] = refl
+map-filter f test (x ∷ xs) = elim (cases_Bool (test (f x))) [
+  | inl t ↦ rw t (ap (λ l. f x ∷ l) (map-filter f test xs))
+  | inr g ↦ rw g (map-filter f test xs)
+]
+
+pub every-filter : {X : Type 0} (Is : X → Type 0) (test : X → Bool) (xs : List X) → Every Is xs → Every Is (filter test xs)
+every-filter Is test [] a = tt
+every-filter Is test (x ∷ xs) a = elim (cases_Bool (test x)) [
+  | inl t ↦ rw t (a.0, every-filter Is test xs a.1)
+  | inr f ↦ rw f (every-filter Is test xs a.1)
+]
 
 -- ---- one number more in a rising list
 
@@ -132,6 +148,13 @@ module _ {P : Type 0} (none : P) where
   names-join packs ns ms named more a b = record {
     names = map-append (λ m. get_or packs m none) ns ms ∙ ap (λ q. q ++ map (λ m. get_or packs m none) ms) a.names ∙ ap (λ q. named ++ q) b.names;
     inside = every-append (λ m. m < length packs) ns ms a.inside b.inside;
+  }
+
+  pub names-filter : (test : P → Bool) (packs : List P) (ns : List ℕ) (named : List P) → Names none packs ns named
+      → Names none packs (filter (λ m. test (get_or packs m none)) ns) (filter test named)
+  names-filter test packs ns named a = record {
+    names = map-filter (λ m. get_or packs m none) test ns ∙ ap (filter test) a.names;
+    inside = every-filter (λ m. m < length packs) (λ m. test (get_or packs m none)) ns a.inside;
   }
 
   pub key-none : (packs : List P) → IsKey none packs [] []

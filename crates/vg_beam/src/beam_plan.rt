@@ -1,11 +1,13 @@
 //! Plans that are kept.
 
-ghost use Rattle.std.specs.Prelude.{◌≡◌, ◌<◌, ◌++◌, [], IfOk, OnOk, length, map};
+ghost use Rattle.std.specs.Prelude.{◌≡◌, ◌<◌, ◌++◌, [], IfOk, OnOk, filter, length, map};
 ghost use Rattle.vg_kernel_plans.specs.Taken.{MatchesNear};
+ghost use Rattle.vg_packs.specs.PlanMarks.{MarksPlan};
 ghost use Rattle.vg_plans.specs.Members.{Every, Has};
-ghost use Rattle.vg_beam.specs.PackTable.{IsPackTable};
+ghost use Rattle.vg_shapes.specs.declared.ssa.Ssa.{Ssa as Numbered};
+ghost use Rattle.vg_beam.specs.PackTable.{IsPackTable, pack_at, produced_at};
 ghost use Rattle.vg_beam.specs.Candidate.{AreGrown, CanGrow, IsGrown};
-ghost use Rattle.vg_beam.specs.BeamPlan.{IsKept, plan_at, plan_of};
+ghost use Rattle.vg_beam.specs.BeamPlan.{IsKept, is_apart, plan_at, plan_of};
 ghost use Rattle.vg_beam.specs.SearchSpace.{HasGroups, choice_of, described};
 
 use crate::candidate::Candidate;
@@ -15,10 +17,11 @@ use crate::search_space::SearchSpace;
 use std::alloc::{AllocError, Global};
 use vg_base::Items;
 use vg_cost::Running;
-use vg_packs::groups_by;
+use vg_packs::{PlanMarks, groups_by};
+use vg_shapes::Pack;
 
 /// A plan that may grow: the plan with its cost, the numbers of its packs, rising, and the numbers of
-/// the packs that are tried after it.
+/// the packs that are tried after it and share no unit with it.
 #[derive(Drop)]
 pub(crate) struct BeamPlan {
     pub(crate) running: Running,
@@ -61,13 +64,52 @@ pub(crate) fn empty_plan(
     })
 }
 
-/// Two lists, one after the other.
-fn joined(alloc: Global, first: &[u32], second: &[u32]) -> Result<Items<u32>, AllocError>
-    ensures { IfOk result (λ both. both ≡ first.now ++ second.now) }
+/// Puts after a list those numbers whose packs share no unit with a plan.
+fn push_apart(
+    pack_table: &PackTable,
+    plan: &[Pack],
+    marks: &PlanMarks,
+    numbers: &[u32],
+    apart: &mut Vec<u32>,
+) -> Result<(), AllocError>
+    requires marks { (ssa : Numbered) × MarksPlan ssa plan.now marks.now }
+    requires inside { Every (λ n. n < length pack_table.now.packs.items) numbers.now }
+    ensures { OnOk result (apart.new.items ≡ apart.old.items ++ filter (λ n. is_apart plan.now
+        (pack_at pack_table.now.packs.items n)) numbers.now) }
 {
-    let mut both = first.to_vec(alloc)?;
-    both.extend_from_slice(second)?;
-    Ok(Items::from_vec(both))
+    'numbers: for number in numbers {
+        let overlap = marks.overlaps(plan, pack_table.pack(*number));
+        if !overlap {
+            apart.push(*number)?;
+        }
+    }
+    Ok(())
+}
+
+/// The numbers of the packs that are tried after a plan to which a pack was added, those left out that
+/// share a unit with it.
+fn tried_after(
+    alloc: Global,
+    pack_table: &PackTable,
+    parent: &BeamPlan,
+    plan: &[Pack],
+    pack: u32,
+    space: &SearchSpace,
+) -> Result<Items<u32>, AllocError>
+    requires pack { pack < length pack_table.now.produced.items }
+    requires before { Every (λ n. n < length pack_table.now.packs.items) parent.now.tried }
+    requires produced { Every (λ n. n < length pack_table.now.packs.items) (produced_at
+        pack_table.now pack) }
+    ensures { IfOk result (λ tried. tried ≡ filter (λ n. is_apart plan.now (pack_at
+        pack_table.now.packs.items n)) (parent.now.tried ++ produced_at pack_table.now pack)) }
+{
+    let marks = PlanMarks::new(alloc, space.ssa, plan)?;
+    let mut apart = Vec::new(alloc);
+    let before = parent.tried.as_slice();
+    push_apart(pack_table, plan, &marks, before, &mut apart)?;
+    let produced = pack_table.produced(pack);
+    push_apart(pack_table, plan, &marks, produced, &mut apart)?;
+    Ok(Items::from_vec(apart))
 }
 
 /// The plan of a candidate of a level.
@@ -96,8 +138,8 @@ fn grow(
         .with(alloc, pack, space.descriptions, space.table, space.ssa)?;
     let key = with_number(alloc, parent.key.as_slice(), candidate.pack)?;
     pack_table.open(alloc, candidate.pack, space)?;
-    let produced = pack_table.produced(candidate.pack);
-    let tried = joined(alloc, parent.tried.as_slice(), produced)?;
+    let plan = running.packs();
+    let tried = tried_after(alloc, pack_table, parent, plan, candidate.pack, space)?;
     Ok(BeamPlan {
         running,
         key: Items::from_vec(key),

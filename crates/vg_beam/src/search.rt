@@ -65,10 +65,6 @@ fn meet(
     let kept = kept_at(level, parent);
     let last = pack_table.pack(pack);
     let packs = kept.running.packs();
-    let overlap = marks.overlaps(packs, last);
-    if overlap {
-        return Ok(());
-    }
     let key = with_number(alloc, kept.key.as_slice(), pack)?;
     let known = met.has(key.as_slice());
     if known {

@@ -1,9 +1,7 @@
 use Rattle.std.proofs.Common.{◌∙◌, ◌∷◌, ◌≤◌, [], ap, arith, subst, sym}
 use Rattle.std.proofs.lemmas.Bool.Decides.{nat_tests}
-use Rattle.std.specs.Prelude.{sum_by}
 use Rattle.vg_kernel_plans.specs.Completed.{turns_of}
 use Rattle.vg_kernel_plans.specs.Fed.{IsPlanBy}
-use Rattle.vg_kernel_plans.specs.Packing.{price_of}
 use Rattle.vg_plans.specs.Completed.{completed}
 use Rattle.vg_plans.specs.Levels.{first_least}
 use Rattle.vg_beam.specs.BeamPlan.{plan_of}

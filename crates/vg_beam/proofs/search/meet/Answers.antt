@@ -1,5 +1,4 @@
 use Rattle.std.proofs.Common.{◌∙◌, ◌++◌, ◌∷◌, [], ap, arith, refl, subst, sym}
-use Rattle.std.specs.List.{list_any}
 use Rattle.vg_kernel_plans.proofs.FedPlans.{may-be-fed}
 use Rattle.vg_kernel_plans.specs.Fed.{IsPlanBy}
 use Rattle.vg_kernel_plans.specs.Laws.{cost_of}
@@ -7,30 +6,17 @@ use Rattle.vg_kernel_plans.specs.Packing.{packing}
 use Rattle.vg_kernel_plans.specs.Taken.{IsShort, operands_of}
 use Rattle.vg_cost.specs.PriceScratch.{IsScratchFor}
 use Rattle.vg_packs.specs.PlanMarks.{MarksPlan}
-use Rattle.vg_packs.specs.Walk.{IsFree, is_in_plan}
+use Rattle.vg_packs.specs.Walk.{IsFree}
 use Rattle.vg_plans.proofs.Lists.{every-has}
 use Rattle.vg_plans.specs.World.{stays_plan}
-use Rattle.vg_shapes.specs.Pack.{units_of}
 use Rattle.vg_beam.specs.SearchSpace.{choice_of, described}
 use Rattle.vg_beam.specs.PackTable.{no_pack, pack_at}
 use Rattle.vg_beam.specs.BeamPlan.{IsKept, plan_at, plan_of}
 use Rattle.vg_beam.specs.Key.{IsKey, with_number}
 use Rattle.vg_beam.specs.MetPlans.{is_known}
-use Rattle.vg_beam.proofs.Candidates.{is-candidate, last-short, longer-plan, meets-known, meets-new, meets-refused, overlap-stays, plan-free}
+use Rattle.vg_beam.proofs.Candidates.{is-candidate, last-short, longer-plan, meets-known, meets-new, meets-refused, plan-free}
 use Rattle.vg_beam.proofs.Keys.{key-longer}
 use Rattle.vg_beam.proofs.search.meet.Goals as goal
-
-pub returns-then-overlap : goal.returns-then-overlap
-returns-then-overlap c =
-    let plan = plan_at c.args.level.now c.args.parent in
-    let p = pack_at c.args.pack_table.now.packs.items c.args.pack in
-    let t = ap (λ q. list_any (is_in_plan plan) (units_of q)) (sym c.pack-last.ensures)
-    ∙ ap (λ l. list_any (is_in_plan l) (units_of c.pack-last.result.now)) (sym (c.packs-packs.ensures ∙ c.kept_at-kept.ensures.plan))
-    ∙ sym c.overlaps-overlap.ensures ∙ c.if-overlap.true in record {
-      scratch = refl;
-      met = meets-refused (choice_of c.args.space.now) (described c.args.space.now) c.args.space.now.table.now c.args.space.now.ssa.now c.args.space.now.deps.now c.args.pack_table.now.packs.items c.args.level.now plan p c.args.met.now c.requires.met
-          (overlap-stays (choice_of c.args.space.now) (described c.args.space.now) c.args.space.now.table.now c.args.space.now.ssa.now c.args.space.now.deps.now plan p t);
-    }
 
 pub stays_plan-requires-clause-marks : goal.stays_plan-requires-clause-marks
 stays_plan-requires-clause-marks c =

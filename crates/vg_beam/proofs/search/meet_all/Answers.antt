@@ -1,11 +1,12 @@
 use Rattle.std.proofs.Common.{◌∙◌, get_or, subst, sym}
+use Rattle.std.specs.Prelude.{filter}
 use Rattle.vg_cost.specs.PriceScratch.{IsScratchFor}
 use Rattle.vg_packs.specs.PlanMarks.{MarksPlan}
 use Rattle.vg_plans.proofs.Lists.{every-has}
 use Rattle.vg_plans.specs.World.{tried}
 use Rattle.vg_beam.specs.SearchSpace.{choice_of, described, world_of}
 use Rattle.vg_beam.specs.PackTable.{no_pack}
-use Rattle.vg_beam.specs.BeamPlan.{IsKept, plan_at}
+use Rattle.vg_beam.specs.BeamPlan.{IsKept, is_apart, plan_at}
 use Rattle.vg_beam.specs.Key.{Names}
 use Rattle.vg_beam.proofs.Candidates.{meets-end, meets-none, meets-step, number-tried}
 use Rattle.vg_beam.proofs.Numbers.{zero-at}
@@ -29,8 +30,8 @@ meet-requires-clause-pack c =
     let w = world_of c.args.space.now in
     let kept = every-has (IsKept (choice_of c.args.space.now) (described c.args.space.now) c.args.space.now.table.now c.args.space.now.ssa.now c.args.pack_table.now.packs.items) _ c.args.level.now c.requires.level c.kept_at-kept.ensures.member in
     let names =
-    subst (λ ns. Names no_pack c.args.pack_table.now.packs.items ns (tried w (plan_at c.args.level.now c.args.parent))) (sym c.as_slice-numbers.ensures)
-    (subst (λ l. Names no_pack c.args.pack_table.now.packs.items c.kept_at-kept.result.now.tried (tried w l)) c.kept_at-kept.ensures.plan kept.tried) in
+    subst (λ ns. Names no_pack c.args.pack_table.now.packs.items ns (filter (is_apart (plan_at c.args.level.now c.args.parent)) (tried w (plan_at c.args.level.now c.args.parent)))) (sym c.as_slice-numbers.ensures)
+    (subst (λ l. Names no_pack c.args.pack_table.now.packs.items c.kept_at-kept.result.now.tried (filter (is_apart l) (tried w l))) c.kept_at-kept.ensures.plan kept.tried) in
     (number-tried (choice_of c.args.space.now) (described c.args.space.now) c.args.space.now.table.now c.args.space.now.ssa.now c.args.space.now.deps.now c.args.pack_table.now.packs.items c.args.level.now
     (plan_at c.args.level.now c.args.parent) c.as_slice-numbers.result.now c.packs.pack-index c.packs-test.true names).0
 
@@ -39,8 +40,8 @@ meet-requires-clause-tried c =
     let w = world_of c.args.space.now in
     let kept = every-has (IsKept (choice_of c.args.space.now) (described c.args.space.now) c.args.space.now.table.now c.args.space.now.ssa.now c.args.pack_table.now.packs.items) _ c.args.level.now c.requires.level c.kept_at-kept.ensures.member in
     let names =
-    subst (λ ns. Names no_pack c.args.pack_table.now.packs.items ns (tried w (plan_at c.args.level.now c.args.parent))) (sym c.as_slice-numbers.ensures)
-    (subst (λ l. Names no_pack c.args.pack_table.now.packs.items c.kept_at-kept.result.now.tried (tried w l)) c.kept_at-kept.ensures.plan kept.tried) in
+    subst (λ ns. Names no_pack c.args.pack_table.now.packs.items ns (filter (is_apart (plan_at c.args.level.now c.args.parent)) (tried w (plan_at c.args.level.now c.args.parent)))) (sym c.as_slice-numbers.ensures)
+    (subst (λ l. Names no_pack c.args.pack_table.now.packs.items c.kept_at-kept.result.now.tried (filter (is_apart l) (tried w l))) c.kept_at-kept.ensures.plan kept.tried) in
     (number-tried (choice_of c.args.space.now) (described c.args.space.now) c.args.space.now.table.now c.args.space.now.ssa.now c.args.space.now.deps.now c.args.pack_table.now.packs.items c.args.level.now
     (plan_at c.args.level.now c.args.parent) c.as_slice-numbers.result.now c.packs.pack-index c.packs-test.true names).1
 
@@ -60,7 +61,7 @@ returns c =
     let w = world_of c.args.space.now in
     let kept = every-has (IsKept (choice_of c.args.space.now) (described c.args.space.now) c.args.space.now.table.now c.args.space.now.ssa.now c.args.pack_table.now.packs.items) _ c.args.level.now c.requires.level c.kept_at-kept.ensures.member in
     let names =
-    subst (λ ns. Names no_pack c.args.pack_table.now.packs.items ns (tried w (plan_at c.args.level.now c.args.parent))) (sym c.as_slice-numbers.ensures)
-    (subst (λ l. Names no_pack c.args.pack_table.now.packs.items c.kept_at-kept.result.now.tried (tried w l)) c.kept_at-kept.ensures.plan kept.tried) in
+    subst (λ ns. Names no_pack c.args.pack_table.now.packs.items ns (filter (is_apart (plan_at c.args.level.now c.args.parent)) (tried w (plan_at c.args.level.now c.args.parent)))) (sym c.as_slice-numbers.ensures)
+    (subst (λ l. Names no_pack c.args.pack_table.now.packs.items c.kept_at-kept.result.now.tried (filter (is_apart l) (tried w l))) c.kept_at-kept.ensures.plan kept.tried) in
     meets-end (choice_of c.args.space.now) (described c.args.space.now) c.args.space.now.table.now c.args.space.now.ssa.now c.args.space.now.deps.now c.args.pack_table.now.packs.items c.args.level.now
     (plan_at c.args.level.now c.args.parent) c.as_slice-numbers.result.now c.packs.pack-index c.args.met.now c.packs.met c.packs-test.false names c.packs.invariant.0
