@@ -8,7 +8,6 @@ pub mod States
 pub mod Lanes
 pub mod Passed
 pub mod Pieces
-pub mod Assignments
 pub mod Turns
 pub mod Instances
 pub mod Lifts

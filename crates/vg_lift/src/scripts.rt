@@ -7,7 +7,7 @@ ghost use Rattle.vg_script.specs.Script.{pick, put, way, width_of};
 ghost use Rattle.vg_script.specs.Views.{frame_of, given_of, low_of, script_of, word_of};
 ghost use Rattle.vg_terms.specs.Term.{constant, two};
 ghost use Rattle.vg_terms.specs.declared.term.TwoOp.TheVariants.{Eq};
-ghost use Rattle.vg_lift.specs.Assignments.{IsAssignment};
+ghost use Rattle.vg_script.specs.Assignments.{IsAssignment};
 ghost use Rattle.vg_lift.specs.Gather.{bits_from};
 ghost use Rattle.vg_lift.specs.LaneTerm.{absolute_term, first_bit, joined, left_by, lifted, of_bits, part, passed, term};
 ghost use Rattle.vg_lift.specs.Passed.{AllPassedFit, PassedFits, all_passed, passed_of};

@@ -4,4 +4,3 @@ pub mod FrameRoom
 pub mod Applied
 pub mod Readied
 pub mod Entries
-pub mod Assignments

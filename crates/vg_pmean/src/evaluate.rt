@@ -5,7 +5,7 @@ ghost use Rattle.vg_script.specs.Cells.{absolute_value, after, after_arm, behind
 ghost use Rattle.vg_script.specs.Formed.{Formed, FrameFormed, GivenFormed, LowFormed, ScriptFormed};
 ghost use Rattle.vg_script.specs.Script.{width_of};
 ghost use Rattle.vg_script.specs.Views.{frame_of, given_of, low_of, script_of, word_of};
-ghost use Rattle.vg_pmean.specs.Assignments.{IsAssignment};
+ghost use Rattle.vg_script.specs.Assignments.{IsAssignment};
 ghost use Rattle.vg_pmean.specs.Held.{Alike, filled, held, widths_in};
 ghost use Rattle.vg_pmean.specs.FrameRoom.{Suffices, frame_room, given_room, low_room, no_room, script_room, word_room};
 
