@@ -24,7 +24,7 @@ use Rattle.vg_top.specs.InstructionFile.{AreEntries, entries_or_refusal}
 use Rattle.vg_top.specs.KernelFile.{IsTree, kernel_alone, kernel_or_refusal}
 use Rattle.vg_top.specs.Outcome.{VecAnswers}
 use Rattle.vg_top.specs.ProgramFile.{IsPlain, program_or_refusal}
-use Rattle.vg_top.proofs.Steps.{step}
+use Rattle.vg_top.proofs.Steps.{refused, step}
 
 -- without a difference the word `same` answers
 pub same_told : (entries : List Entry) (k : Tree) (p : Program) (bytes : Vec ℕ Global) → None ≡ told_difference entries k p → bytes.items ≡ same_text
@@ -64,3 +64,25 @@ checked-told held instructions kernel program file text body catalog k p result 
     subst (λ v. left (compared v t q)) ee
     (subst (λ v. left (compared (entries_in catalog) v q)) same
     (subst (λ v. left (compared (entries_in catalog) (tree_of k) v)) qe r))))))))
+
+-- after the third file was refused
+pub refused-told : (held : Held) (instructions kernel program : List ℕ) (file text body : Vec ℕ Global) (catalog : Catalog) (k : Kernel) (e : Ending)
+    → Tells AreBytes (Ok file) (file_of held first_file instructions instructions_limit)
+    → Tells AreEntries (Ok catalog) (entries_or_refusal first_file (entries_of file.items))
+    → Tells AreBytes (Ok text) (file_of held second_file kernel kernel_limit)
+    → Tells IsTree (Ok k) (kernel_or_refusal second_file (kernel_alone text.items))
+    → Tells AreBytes (Ok body) (file_of held third_file program program_limit)
+    → Tells IsPlain (Err e) (program_or_refusal third_file (read (headers_of (entries_in catalog)) body.items))
+    → Tells VecAnswers (Err e) (checked held instructions kernel program)
+refused-told held instructions kernel program file text body catalog k e a b d f g r =
+    let left = Tells VecAnswers (Err e) in
+    step AreBytes file (file_of held first_file instructions instructions_limit) _ left a (λ fs fe.
+    step AreEntries catalog (entries_or_refusal first_file (entries_of fs)) _ left
+    (subst (λ v. Tells AreEntries (Ok catalog) (entries_or_refusal first_file (entries_of v))) fe b) (λ es ee.
+    step AreBytes text (file_of held second_file kernel kernel_limit) _ left d (λ ts te.
+    step IsTree k (kernel_or_refusal second_file (kernel_alone ts)) _ left
+    (subst (λ v. Tells IsTree (Ok k) (kernel_or_refusal second_file (kernel_alone v))) te f) (λ t same.
+    step AreBytes body (file_of held third_file program program_limit) _ left g (λ bs be.
+    refused IsPlain VecAnswers e (program_or_refusal third_file (read (headers_of es) bs)) _
+    (subst (λ v. Tells IsPlain (Err e) (program_or_refusal third_file (read (headers_of v) bs))) ee
+    (subst (λ v. Tells IsPlain (Err e) (program_or_refusal third_file (read (headers_of (entries_in catalog)) v))) be r)))))))

@@ -1,5 +1,5 @@
 -- What a run answers, step by step.
-use Rattle.std.proofs.Common.{◌≡◌, ℕ, List, Result, Ok, Err, Option, Some, None, subst}
+use Rattle.std.proofs.Common.{◌≡◌, ℕ, List, Result, Ok, Err, Option, Some, None, refl, subst, sym}
 use Rattle.std.specs.Prelude.{IfSome, Vec}
 use Rattle.std.specs.declared.alloc.Global.{Global}
 use Rattle.vg_base.specs.Bind.{◌>>=◌}
@@ -10,6 +10,7 @@ use Rattle.vg_catalog.specs.Catalogs.{entries_in}
 use Rattle.vg_catalog.specs.Files.{file_of as entries_of}
 use Rattle.vg_request.specs.Binding.{Binding}
 use Rattle.vg_top.specs.declared.ending.Ending.{Ending}
+use Rattle.vg_top.specs.declared.ending.Ending.TheVariants.{Usage, Instructions as InstructionsRefused, Kernel as KernelRefused, Program as ProgramRefused, Absent, ReadFault, TooLarge, Bindings, Trap, WriteFault, Memory, Differs}
 use Rattle.vg_top.specs.declared.program_file.ProgramFile as code
 use Rattle.vg_top.specs.Files.{first_file, second_file, third_file, instructions_limit, program_limit, memory_limit, file_of, AreBytes, Tells}
 use Rattle.vg_top.specs.InstructionFile.{AreEntries, entries_or_refusal}
@@ -22,6 +23,22 @@ pub step : {A B C : Type 0} (same : A → B → Type 0) (x : A) (told : Result B
     → Tells same (Ok x) told → ((y : B) → same x y → P (next y)) → P (told >>= next)
 step same x (Ok y) next P is after = after y is
 step same x (Err e) next P none after = absurd none
+
+-- what a step was refused by is told of all that would come after it
+pub refused : {X Y Z W : Type 0} (same : X → Y → Type 0) (also : Z → W → Type 0) (e : Ending) (told : Result Y Ending) (next : Y → Result W Ending)
+    → Tells same (Err e) told → Tells also (Err e) (told >>= next)
+refused same also (ReadFault n) told next is = tt
+refused same also WriteFault told next is = tt
+refused same also Memory told next is = tt
+refused same also Usage told next is = subst (λ t. (t >>= next) ≡ Err Usage) (sym is) refl
+refused same also (InstructionsRefused n f) told next is = subst (λ t. (t >>= next) ≡ Err (InstructionsRefused n f)) (sym is) refl
+refused same also (KernelRefused n f) told next is = subst (λ t. (t >>= next) ≡ Err (KernelRefused n f)) (sym is) refl
+refused same also (ProgramRefused n f) told next is = subst (λ t. (t >>= next) ≡ Err (ProgramRefused n f)) (sym is) refl
+refused same also (Absent n) told next is = subst (λ t. (t >>= next) ≡ Err (Absent n)) (sym is) refl
+refused same also (TooLarge n) told next is = subst (λ t. (t >>= next) ≡ Err (TooLarge n)) (sym is) refl
+refused same also Bindings told next is = subst (λ t. (t >>= next) ≡ Err Bindings) (sym is) refl
+refused same also Trap told next is = subst (λ t. (t >>= next) ≡ Err Trap) (sym is) refl
+refused same also (Differs text) told next is = subst (λ t. (t >>= next) ≡ Err (Differs text)) (sym is) refl
 
 -- what is told of three looks at a shelf that holds the same
 pub some-told : (h i j : Option Held) (F G H R : Held → Type 0) → i ≡ h → j ≡ h → IfSome h F → IfSome i G → IfSome j H

@@ -1,4 +1,4 @@
-use Rattle.std.proofs.Common.{arith, refl, subst, Ok, ◌∙◌}
+use Rattle.std.proofs.Common.{arith, refl, subst, Err, Ok, ◌∙◌}
 use Rattle.std.proofs.lemmas.Result.{err_from_is_err_and}
 use Rattle.vg_catalog.specs.Called.{headers_of}
 use Rattle.vg_catalog.specs.Catalogs.{entries_in}
@@ -8,7 +8,7 @@ use Rattle.vg_top.specs.Files.{first_file, second_file, third_file, Tells}
 use Rattle.vg_top.specs.InstructionFile.{AreEntries, entries_or_refusal}
 use Rattle.vg_top.specs.KernelFile.{IsTree, kernel_alone, kernel_or_refusal}
 use Rattle.vg_top.specs.ProgramFile.{IsPlain, program_or_refusal}
-use Rattle.vg_top.proofs.Checks.{checked-told}
+use Rattle.vg_top.proofs.Checks.{checked-told, refused-told}
 use Rattle.vg_top.proofs.Steps.{some-told}
 use Rattle.vg_top.proofs.Works.{begins, reads_on, stops_at, stops_instructions, stops_kernel, stops_program, comparison_last}
 use Rattle.vg_top.proofs.check.check.Goals as goal
@@ -65,6 +65,23 @@ returns-clause-shelf g c =
     let two = reads_on s 1 second_file _ _ _ (omega arith) one c.in_ok-text.ensures.shelf in
     let three = reads_on s 2 third_file _ _ _ (omega arith) two c.in_ok-body.ensures.shelf in
     comparison_last s _ _ _ _ refl three c.compared.ensures.refusal
+
+pub returns-in_err-program-clause-told : goal.returns-in_err-program-clause-told
+returns-in_err-program-clause-told g c =
+    let s = g.S.Shelf in
+    let same = err_from_is_err_and c.from_residual-in_err-program.result c.from_residual-in_err-program.ensures.1 in
+    let first = c.in_ok-file.ensures.shelf.keeps in
+    let file = c.in_ok-file.file in
+    let text = c.in_ok-text.text in
+    let body = c.in_ok-body.body in
+    let catalog = c.in_ok-catalog.catalog in
+    let kernel = c.in_ok-kernel.kernel in
+    let entries = subst (λ v. Tells AreEntries (Ok catalog) (entries_or_refusal first_file (entries_of v))) c.as_slice.ensures.value c.in_ok-catalog.ensures.told in
+    let formed = subst (λ v. Tells IsTree (Ok kernel) (kernel_or_refusal second_file (kernel_alone v))) c.as_slice-2.ensures.value c.in_ok-kernel.ensures.told in
+    let judged = subst (λ v. Tells IsPlain (Err c.in_err-program.field-0.0) (program_or_refusal third_file (read (headers_of (entries_in catalog)) v))) c.as_slice-3.ensures.value
+    (subst (λ v. Tells IsPlain (Err c.in_err-program.field-0.0) (program_or_refusal third_file (read v c.as_slice-3.result.now))) c.headers.ensures.headers c.in_err-program.ensures.told) in
+    rw (same.1, same.2) (some-told (s.holds c.args.shelf.now) _ _ _ _ _ _ first (c.in_ok-text.ensures.shelf.keeps ∙ first) c.in_ok-file.ensures.told c.in_ok-text.ensures.told c.in_ok-body.ensures.told
+    (λ held a b d. refused-told held c.args.instructions.now c.args.kernel.now c.args.program.now file text body catalog kernel c.in_err-program.field-0.0 a entries b formed d judged))
 
 pub returns-clause-told : goal.returns-clause-told
 returns-clause-told g c =
