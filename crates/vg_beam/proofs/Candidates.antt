@@ -211,8 +211,8 @@ module _ (ch : Choice) (ds : List Description) (matches : List Match) (ssa : Ssa
     number-tried plan numbers i l names = (
       every-at (λ n. n < length packs) numbers i (get_or numbers i 0) names.inside l (zero-at numbers i l),
       (from-filter (is_apart plan) (pack_at packs (get_or numbers i 0)) (tried world plan)
-      (subst (Has (pack_at packs (get_or numbers i 0))) names.names
-      (has-map (pack_at packs) (get_or numbers i 0) numbers (has-at numbers i (get_or numbers i 0) l (zero-at numbers i l))))).0,
+          (subst (Has (pack_at packs (get_or numbers i 0))) names.names
+          (has-map (pack_at packs) (get_or numbers i 0) numbers (has-at numbers i (get_or numbers i 0) l (zero-at numbers i l))))).0,
     )
 
     -- a candidate that is met

@@ -22,11 +22,21 @@ use vg_shapes::Pack;
 
 /// A plan that may grow: the plan with its cost, the numbers of its packs, rising, and the numbers of
 /// the packs that are tried after it and share no unit with it.
-#[derive(Drop)]
 pub(crate) struct BeamPlan {
     pub(crate) running: Running,
     pub(crate) key: Items<u32>,
     pub(crate) tried: Items<u32>,
+}
+
+/// Written out, so that the exits of an owner call it: a derived one would be proved anew at each.
+impl Drop for BeamPlan {
+    fn drop(self) {
+        let BeamPlan {
+            running: _,
+            key: _,
+            tried: _,
+        } = self;
+    }
 }
 
 /// The plan at a place of a level.

@@ -30,11 +30,21 @@ const MOST: usize = 1 << 24;
 
 /// Packs, no two the same, each named by its number, and for each the operands that it takes, if it has
 /// few lanes, and the numbers of those that are tried for what it takes, once they were looked for.
-#[derive(Drop)]
 pub(crate) struct PackTable {
     packs: Vec<Pack>,
     operands: Vec<Items<Operand>>,
     produced: Vec<Option<Items<u32>>>,
+}
+
+/// Written out, so that the exits of an owner call it: a derived one would be proved anew at each.
+impl Drop for PackTable {
+    fn drop(self) {
+        let PackTable {
+            packs: _,
+            operands: _,
+            produced: _,
+        } = self;
+    }
 }
 
 /// Where a pack stands in a list, if it does.

@@ -14,7 +14,6 @@ use vg_range::Checked;
 /// one, and a cost of at least 1, and an operation that a text can say; no two have one name
 /// (`specs/FileEntries.antt`; in proofs `catalog-entries` of `proofs/Kept.antt`). Contracts see the
 /// list of their headers and operations, `entries_in` of `specs/`.
-#[derive(Drop)]
 pub struct Catalog {
     entries: Vec<Checked>,
     headers: Vec<Header>,
@@ -23,6 +22,18 @@ pub struct Catalog {
     ghost kept: { IsKept (map entry_of entries.items) headers.items
         (map vec_items names.keys) instances },
     ghost read: { AreFileEntries (map entry_of entries.items) } by { file-entries-prop (map entry_of entries.items) },
+}
+
+/// Written out, so that the exits of an owner call it: a derived one would be proved anew at each.
+impl Drop for Catalog {
+    fn drop(self) {
+        let Catalog {
+            entries: _,
+            headers: _,
+            names: _,
+            instances: _,
+        } = self;
+    }
 }
 
 /// How many instances an entry has: one for each immediate, or one.

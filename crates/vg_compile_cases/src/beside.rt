@@ -25,12 +25,23 @@ const WIDTH: u32 = 32;
 pub const ALL: u16 = 1023;
 
 /// A kernel, entries, the program that was made of the kernel with them, and the lines on its plan.
-#[derive(Drop)]
 struct Beside {
     catalog: Catalog,
     kernel: Kernel,
     program: Program,
     plan: Vec<u8>,
+}
+
+/// Written out, so that the exits of an owner call it: a derived one would be proved anew at each.
+impl Drop for Beside {
+    fn drop(self) {
+        let Beside {
+            catalog: _,
+            kernel: _,
+            program: _,
+            plan: _,
+        } = self;
+    }
 }
 
 impl Beside {

@@ -14,12 +14,18 @@ use vg_shapes::{Pack, Ssa};
 
 /// Scratch in which packs are tried after a plan, one after the other. Contracts see the marks of the
 /// units of the plan; what a pack that was tried leaves beside them tells nothing.
-#[derive(Drop)]
 pub struct PriceScratch {
     /// The marks of the units of the plan.
     pub(crate) plan: Vec<bool>,
     /// Those of the pack that is tried.
     pub(crate) tried: TriedMarks,
+}
+
+/// Written out, so that the exits of an owner call it: a derived one would be proved anew at each.
+impl Drop for PriceScratch {
+    fn drop(self) {
+        let PriceScratch { plan: _, tried: _ } = self;
+    }
 }
 
 impl Model for PriceScratch {

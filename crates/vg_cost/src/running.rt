@@ -38,7 +38,6 @@ use vg_shapes::{Description, MatchTable, Operand, Pack, Ssa};
 
 /// A plan and what it costs. A longer plan's cost is found from it by looking again at the operands
 /// of which the new pack has a value.
-#[derive(Drop)]
 pub struct Running {
     packs: Vec<Pack>,
     taken: Vec<Taken>,
@@ -46,6 +45,20 @@ pub struct Running {
     needs: Needs,
     price: u64,
     cost: u64,
+}
+
+/// Written out, so that the exits of an owner call it: a derived one would be proved anew at each.
+impl Drop for Running {
+    fn drop(self) {
+        let Running {
+            packs: _,
+            taken: _,
+            shuffles: _,
+            needs: _,
+            price: _,
+            cost: _,
+        } = self;
+    }
 }
 
 /// What a plan costs whose packs and recipes cost so much, by the marks of its units and of the values

@@ -8,7 +8,6 @@ use crate::marks::{clear, mark_pack};
 use vg_shapes::Pack;
 
 /// Marks of the pack that is tried after a plan, for as many numbers each.
-#[derive(Drop)]
 pub(crate) struct TriedMarks {
     /// Those of the units of the plan and of the pack.
     pub(crate) longer: Vec<bool>,
@@ -18,6 +17,18 @@ pub(crate) struct TriedMarks {
     pub(crate) counts: Vec<u32>,
     /// The marks of the numbers for which something may have changed.
     pub(crate) changed: Vec<bool>,
+}
+
+/// Written out, so that the exits of an owner call it: a derived one would be proved anew at each.
+impl Drop for TriedMarks {
+    fn drop(self) {
+        let TriedMarks {
+            longer: _,
+            own: _,
+            counts: _,
+            changed: _,
+        } = self;
+    }
 }
 
 impl TriedMarks {

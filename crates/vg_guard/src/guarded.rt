@@ -9,7 +9,6 @@ use vg_program::Program;
 
 /// Two programs with the same name and the same parameters, and the checks that choose between
 /// them.
-#[derive(Drop)]
 pub struct Guarded {
     /// At most 120, by rising pairs of pointers.
     pub checks: Items<Check>,
@@ -17,6 +16,17 @@ pub struct Guarded {
     pub fast: Program,
     /// Runs where one does not hold.
     pub slow: Program,
+}
+
+/// Written out, so that the exits of an owner call it: a derived one would be proved anew at each.
+impl Drop for Guarded {
+    fn drop(self) {
+        let Guarded {
+            checks: _,
+            fast: _,
+            slow: _,
+        } = self;
+    }
 }
 
 /// Whether all checks of a guarded program hold at these places, one for each pointer; one that is

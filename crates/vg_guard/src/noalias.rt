@@ -40,11 +40,8 @@ fn noalias_params(alloc: Global, params: &[KParam]) -> Result<Vec<KParam>, Alloc
 pub fn all_noalias(alloc: Global, kernel: &Kernel) -> Result<Kernel, AllocError>
     ensures { IfOk result (λ copy. tree_of copy ≡ all_noalias (tree_of kernel.now)) }
 {
-    let copy = kernel.copy(alloc)?;
+    let mut copy = kernel.copy(alloc)?;
     let params = noalias_params(alloc, kernel.params.as_slice())?;
-    Ok(Kernel {
-        name: copy.name,
-        params: Items::from_vec(params),
-        statements: copy.statements,
-    })
+    copy.params = Items::from_vec(params);
+    Ok(copy)
 }

@@ -55,10 +55,19 @@ pub fn parameter_named(params: &[KParam], name: &[u8]) -> Option<Given>
 }
 
 /// The names that are given so far: the parameters, and those of statements in order.
-#[derive(Drop)]
 pub(crate) struct Names<'a> {
     params: &'a [KParam],
     assigned: AssignedNames,
+}
+
+/// Written out, so that the exits of an owner call it: a derived one would be proved anew at each.
+impl Drop for Names<'_> {
+    fn drop(self) {
+        let Names {
+            params: _,
+            assigned: _,
+        } = self;
+    }
 }
 
 impl<'a> Model for Names<'a> {

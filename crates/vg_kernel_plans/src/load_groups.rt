@@ -17,13 +17,24 @@ use vg_shapes::{Operand, Pack, Ssa};
 const MOST: usize = 1 << 24;
 
 /// The load groups of a kernel for each width of a register, or none where none are tried.
-#[derive(Drop)]
 pub struct LoadGroups {
     /// Which packs are tried.
     pub choice: Choice,
     of_512: RegisterGroups,
     of_256: RegisterGroups,
     of_128: RegisterGroups,
+}
+
+/// Written out, so that the exits of an owner call it: a derived one would be proved anew at each.
+impl Drop for LoadGroups {
+    fn drop(self) {
+        let LoadGroups {
+            choice: _,
+            of_512: _,
+            of_256: _,
+            of_128: _,
+        } = self;
+    }
 }
 
 /// The number after the last unit.

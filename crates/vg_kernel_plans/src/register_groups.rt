@@ -22,10 +22,19 @@ const MOST: usize = 1 << 24;
 
 /// The load groups of a register, by pointer, width and offset, and for each unit the numbers of those
 /// that have it.
-#[derive(Drop)]
 pub(crate) struct RegisterGroups {
     pub(crate) groups: Vec<Pack>,
     pub(crate) numbers: Vec<Items<u32>>,
+}
+
+/// Written out, so that the exits of an owner call it: a derived one would be proved anew at each.
+impl Drop for RegisterGroups {
+    fn drop(self) {
+        let RegisterGroups {
+            groups: _,
+            numbers: _,
+        } = self;
+    }
 }
 
 /// How many integers of a width stand in so many bytes.

@@ -16,10 +16,19 @@ use vg_base::Items;
 use vg_pool::{Pool, pool_is_shared};
 
 /// The bits of each register, lowest first, and the node of 128 bits of each variable.
-#[derive(Drop)]
 pub struct State {
     pub(crate) registers: Vec<Items<Bit>>,
     pub(crate) variables: Vec<usize>,
+}
+
+/// Written out, so that the exits of an owner call it: a derived one would be proved anew at each.
+impl Drop for State {
+    fn drop(self) {
+        let State {
+            registers: _,
+            variables: _,
+        } = self;
+    }
 }
 
 /// So many bits from a bit on become these.

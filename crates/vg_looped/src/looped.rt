@@ -5,7 +5,6 @@ use vg_program::Program;
 
 /// The program of a block of turns and that of one turn, under one first line: blocks run as long
 /// as there are turns for one, and the turns that are left over run one by one.
-#[derive(Drop)]
 pub struct Looped {
     pub block: Program,
     pub rest: Program,
@@ -15,4 +14,17 @@ pub struct Looped {
     pub steps: Items<u32>,
     /// How many turns a block has, 1 to 16.
     pub turns: u32,
+}
+
+/// Written out, so that the exits of an owner call it: a derived one would be proved anew at each.
+impl Drop for Looped {
+    fn drop(self) {
+        let Looped {
+            block: _,
+            rest: _,
+            times: _,
+            steps: _,
+            turns: _,
+        } = self;
+    }
 }

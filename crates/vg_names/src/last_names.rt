@@ -9,10 +9,19 @@ use std::marker::Model;
 use vg_base::Name;
 
 /// Names in their order, and where the last of each stands.
-#[derive(Drop)]
 pub(crate) struct LastNames {
     names: Vec<Name>,
     places: IndexMap<Vec<u8>, usize>,
+}
+
+/// Written out, so that the exits of an owner call it: a derived one would be proved anew at each.
+impl Drop for LastNames {
+    fn drop(self) {
+        let LastNames {
+            names: _,
+            places: _,
+        } = self;
+    }
 }
 
 impl Model for LastNames {

@@ -12,7 +12,6 @@ use std::alloc::Global;
 use vg_text::Place;
 
 /// A statement, or a way or an arm, without those after it.
-#[derive(Drop)]
 pub(crate) enum Piece {
     Assign {
         place: Place,
@@ -47,65 +46,98 @@ pub(crate) enum Piece {
     },
 }
 
+/// Written out, so that the exits of an owner call it: a derived one would be proved anew at each.
+impl Drop for Piece {
+    fn drop(self) {
+        match self {
+            Piece::Assign {
+                place: _,
+                target: _,
+                value: _,
+            } => {}
+            Piece::Skip { place: _ } => {}
+            Piece::Repeat {
+                place: _,
+                first: _,
+                last: _,
+                body: _,
+            } => {}
+            Piece::Choose { ways: _ } => {}
+            Piece::Way {
+                condition: _,
+                body: _,
+            } => {}
+            Piece::Last => {}
+            Piece::Pick {
+                selector: _,
+                arms: _,
+            } => {}
+            Piece::Arm { number: _, body: _ } => {}
+        }
+    }
+}
+
+impl Piece {
+    /// This statement with these after it.
+    fn joined(self, alloc: Global, code: Code) -> Result<Code, NameFault>
+        ensures { Gives code_view result (Ok (behind self (code_view code))) }
+    {
+        let rest = Box::new(alloc, code)?;
+        match self {
+            Piece::Assign {
+                place,
+                target,
+                value,
+            } => Ok(Code::Assign {
+                place,
+                target,
+                value,
+                rest,
+            }),
+            Piece::Skip { place } => Ok(Code::Skip { place, rest }),
+            Piece::Repeat {
+                place,
+                first,
+                last,
+                body,
+            } => Ok(Code::Repeat {
+                place,
+                first,
+                last,
+                body,
+                rest,
+            }),
+            Piece::Choose { ways } => Ok(Code::Choose { ways, rest }),
+            Piece::Way { condition, body } => Ok(Code::Way {
+                condition,
+                body,
+                ways: rest,
+            }),
+            Piece::Last => Ok(Code::Last { body: rest }),
+            Piece::Pick { selector, arms } => Ok(Code::Pick {
+                selector,
+                arms,
+                rest,
+            }),
+            Piece::Arm { number, body } => Ok(Code::Arm {
+                number,
+                body,
+                arms: rest,
+            }),
+        }
+    }
+}
+
 /// These statements as a list.
 pub(crate) fn linked(alloc: Global, mut done: Vec<Piece>) -> Result<Code, NameFault>
     ensures { Gives code_view result (Ok (code_behind (map behind done.items) stop)) }
 {
     let mut code = Code::Stop;
     'statements: while let Some(piece) = done.pop() {
-        match joined(alloc, piece, code) {
+        match piece.joined(alloc, code) {
             Ok(longer) => code = longer,
             Err(fault) => return Err(fault),
         }
     }
     Ok(code)
-}
-
-/// A statement with these after it.
-fn joined(alloc: Global, piece: Piece, code: Code) -> Result<Code, NameFault>
-    ensures { Gives code_view result (Ok (behind piece (code_view code))) }
-{
-    let rest = Box::new(alloc, code)?;
-    match piece {
-        Piece::Assign {
-            place,
-            target,
-            value,
-        } => Ok(Code::Assign {
-            place,
-            target,
-            value,
-            rest,
-        }),
-        Piece::Skip { place } => Ok(Code::Skip { place, rest }),
-        Piece::Repeat {
-            place,
-            first,
-            last,
-            body,
-        } => Ok(Code::Repeat {
-            place,
-            first,
-            last,
-            body,
-            rest,
-        }),
-        Piece::Choose { ways } => Ok(Code::Choose { ways, rest }),
-        Piece::Way { condition, body } => Ok(Code::Way {
-            condition,
-            body,
-            ways: rest,
-        }),
-        Piece::Last => Ok(Code::Last { body: rest }),
-        Piece::Pick { selector, arms } => Ok(Code::Pick {
-            selector,
-            arms,
-            rest,
-        }),
-        Piece::Arm { number, body } => Ok(Code::Arm {
-            number,
-            body,
-            arms: rest,
-        }),
-    }
 }

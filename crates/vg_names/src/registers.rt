@@ -29,10 +29,16 @@ pub(crate) struct Register {
 }
 
 /// The registers of a body by their numbers.
-#[derive(Drop)]
 pub(crate) struct Registers {
     all: Vec<Register>,
     names: LastNames,
+}
+
+/// Written out, so that the exits of an owner call it: a derived one would be proved anew at each.
+impl Drop for Registers {
+    fn drop(self) {
+        let Registers { all: _, names: _ } = self;
+    }
 }
 
 impl Model for Registers {

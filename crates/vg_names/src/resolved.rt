@@ -6,7 +6,6 @@ use vg_text::Place;
 
 /// An expression with its names resolved.
 #[cycle(resolved)]
-#[derive(Drop)]
 pub enum ResolvedExpr {
     /// A number, below 2^127.
     Literal {
@@ -76,6 +75,64 @@ pub enum ResolvedExpr {
     },
 }
 
+/// Written out, so that the exits of an owner call it: a derived one would be proved anew at each.
+impl Drop for ResolvedExpr {
+    #[cycle(resolved)]
+    fn drop(self) {
+        match self {
+            ResolvedExpr::Literal { spot: _, value: _ } => {}
+            ResolvedExpr::Counter { spot: _, turn: _ } => {}
+            ResolvedExpr::Variable {
+                spot: _,
+                variable: _,
+            } => {}
+            ResolvedExpr::Slice {
+                spot: _,
+                is_signed: _,
+                register: _,
+                spread: _,
+                high: _,
+                low: _,
+            } => {}
+            ResolvedExpr::Element {
+                spot: _,
+                is_signed: _,
+                register: _,
+                size: _,
+                index: _,
+            } => {}
+            ResolvedExpr::Front {
+                spot: _,
+                is_signed: _,
+                register: _,
+                size: _,
+            } => {}
+            ResolvedExpr::Unary {
+                spot: _,
+                op: _,
+                operand: _,
+            } => {}
+            ResolvedExpr::Binary {
+                spot: _,
+                op: _,
+                left: _,
+                right: _,
+            } => {}
+            ResolvedExpr::Choice {
+                spot: _,
+                condition: _,
+                first: _,
+                second: _,
+            } => {}
+            ResolvedExpr::Call {
+                spot: _,
+                function: _,
+                arguments: _,
+            } => {}
+        }
+    }
+}
+
 /// The arguments of a call in their order, each with those after it.
 #[cycle(resolved)]
 pub enum ResolvedArguments {
@@ -103,7 +160,6 @@ impl Drop for ResolvedArguments {
 }
 
 /// What an assignment writes. A register or a number variable goes by its number.
-#[derive(Drop)]
 pub enum Target {
     /// The bits of a register from `low` to `high`.
     Bits {
@@ -126,6 +182,29 @@ pub enum Target {
     Number {
         variable: usize,
     },
+}
+
+/// Written out, so that the exits of an owner call it: a derived one would be proved anew at each.
+impl Drop for Target {
+    fn drop(self) {
+        match self {
+            Target::Bits {
+                register: _,
+                high: _,
+                low: _,
+            } => {}
+            Target::Lane {
+                register: _,
+                size: _,
+                index: _,
+            } => {}
+            Target::Whole {
+                register: _,
+                size: _,
+            } => {}
+            Target::Number { variable: _ } => {}
+        }
+    }
 }
 
 /// Statements, each with those after it. The ways of an IF and the arms of a CASE are lists of the
@@ -244,7 +323,6 @@ impl Drop for Code {
 }
 
 /// The statements of an operation or of a DEFINE, with what they stand on.
-#[derive(Drop)]
 pub struct Body {
     /// The widths of the registers in bits, by their numbers. Parameters come first; after those
     /// of the operation the immediate, where there is one, and then dst.
@@ -256,17 +334,45 @@ pub struct Body {
     pub code: Code,
 }
 
+/// Written out, so that the exits of an owner call it: a derived one would be proved anew at each.
+impl Drop for Body {
+    fn drop(self) {
+        let Body {
+            widths: _,
+            parameters: _,
+            numbers: _,
+            code: _,
+        } = self;
+    }
+}
+
 /// A DEFINE: its body, and the expression of its RETURN.
-#[derive(Drop)]
 pub struct Function {
     pub body: Body,
     pub answer: ResolvedExpr,
 }
 
+/// Written out, so that the exits of an owner call it: a derived one would be proved anew at each.
+impl Drop for Function {
+    fn drop(self) {
+        let Function { body: _, answer: _ } = self;
+    }
+}
+
 /// An operation: its DEFINEs in their order, its body, and the number of dst among its registers.
-#[derive(Drop)]
 pub struct Resolved {
     pub functions: Items<Function>,
     pub body: Body,
     pub result: usize,
+}
+
+/// Written out, so that the exits of an owner call it: a derived one would be proved anew at each.
+impl Drop for Resolved {
+    fn drop(self) {
+        let Resolved {
+            functions: _,
+            body: _,
+            result: _,
+        } = self;
+    }
 }

@@ -19,7 +19,6 @@ use vg_shapes::{Bound, MatchTable, Node, Pack, Ssa, Wanted};
 const MOST: usize = 1 << 24;
 
 /// The nodes of a plan by number, on what each depends, and where each unit stands.
-#[derive(Drop)]
 pub(crate) struct Graph {
     /// The number of the first unit.
     pub first: usize,
@@ -28,6 +27,18 @@ pub(crate) struct Graph {
     pub needs: Items<Needs>,
     /// Of each unit, by its number, the number of its node.
     pub homes: Items<u32>,
+}
+
+/// Written out, so that the exits of an owner call it: a derived one would be proved anew at each.
+impl Drop for Graph {
+    fn drop(self) {
+        let Graph {
+            first: _,
+            nodes: _,
+            needs: _,
+            homes: _,
+        } = self;
+    }
 }
 
 /// Nodes, and of each on what it depends.

@@ -22,10 +22,19 @@ const MAX_TREE: u32 = 4096;
 /// grows, and a node keeps its term.
 ///
 /// Contracts see a pool as the list of its nodes' contents, whose trees `tree_at` of `specs/` gives.
-#[derive(Drop)]
 pub struct Pool {
     nodes: Slab<Entry>,
     places: IndexMap<Content, usize>,
+}
+
+/// Written out, so that the exits of an owner call it: a derived one would be proved anew at each.
+impl Drop for Pool {
+    fn drop(self) {
+        let Pool {
+            nodes: _,
+            places: _,
+        } = self;
+    }
 }
 
 impl Model for Pool {

@@ -11,7 +11,6 @@ use vg_text::Place;
 
 /// An expression. Contracts see it as its tree. Parentheses are no part of it, but for its spot.
 #[cycle(expression)]
-#[derive(Drop)]
 pub enum Expr {
     /// A number, below 2^127.
     Number {
@@ -73,6 +72,61 @@ pub enum Expr {
         name: Name,
         arguments: Arguments,
     },
+}
+
+/// Written out, so that the exits of an owner call it: a derived one would be proved anew at each.
+impl Drop for Expr {
+    #[cycle(expression)]
+    fn drop(self) {
+        match self {
+            Expr::Number { spot: _, value: _ } => {}
+            Expr::Name { spot: _, name: _ } => {}
+            Expr::Slice {
+                spot: _,
+                name: _,
+                high: _,
+                low: _,
+            } => {}
+            Expr::Bit {
+                spot: _,
+                name: _,
+                index: _,
+            } => {}
+            Expr::Element {
+                spot: _,
+                name: _,
+                size: _,
+                index: _,
+            } => {}
+            Expr::Part {
+                spot: _,
+                name: _,
+                size: _,
+            } => {}
+            Expr::Unary {
+                spot: _,
+                op: _,
+                operand: _,
+            } => {}
+            Expr::Binary {
+                spot: _,
+                op: _,
+                left: _,
+                right: _,
+            } => {}
+            Expr::Choice {
+                spot: _,
+                condition: _,
+                first: _,
+                second: _,
+            } => {}
+            Expr::Call {
+                spot: _,
+                name: _,
+                arguments: _,
+            } => {}
+        }
+    }
 }
 
 /// The arguments of a call in their order, each with those after it.

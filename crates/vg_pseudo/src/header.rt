@@ -26,7 +26,6 @@ pub struct ImmRange {
 }
 
 /// What an entry says of its instruction.
-#[derive(Drop)]
 pub struct Header {
     pub name: Name,
     /// From one to four, with names that differ from each other, from that of the immediate and
@@ -41,6 +40,21 @@ pub struct Header {
     pub extension: u8,
     /// From 1 to 1,000.
     pub cost: u32,
+}
+
+/// Written out, so that the exits of an owner call it: a derived one would be proved anew at each.
+impl Drop for Header {
+    fn drop(self) {
+        let Header {
+            name: _,
+            params: _,
+            imm: _,
+            register: _,
+            lane_width: _,
+            extension: _,
+            cost: _,
+        } = self;
+    }
 }
 
 impl Param {

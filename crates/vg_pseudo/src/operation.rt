@@ -13,7 +13,6 @@ pub struct DefineParam {
 }
 
 /// `DEFINE name(params) { body RETURN answer }`
-#[derive(Drop)]
 pub struct Define {
     pub name: Name,
     /// At least one.
@@ -22,9 +21,30 @@ pub struct Define {
     pub answer: Expr,
 }
 
+/// Written out, so that the exits of an owner call it: a derived one would be proved anew at each.
+impl Drop for Define {
+    fn drop(self) {
+        let Define {
+            name: _,
+            params: _,
+            body: _,
+            answer: _,
+        } = self;
+    }
+}
+
 /// An operation: its DEFINEs in their order, and its statements.
-#[derive(Drop)]
 pub struct Operation {
     pub defines: Items<Define>,
     pub body: Stmt,
+}
+
+/// Written out, so that the exits of an owner call it: a derived one would be proved anew at each.
+impl Drop for Operation {
+    fn drop(self) {
+        let Operation {
+            defines: _,
+            body: _,
+        } = self;
+    }
 }

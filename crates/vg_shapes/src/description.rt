@@ -5,7 +5,6 @@ use vg_terms::Term;
 
 /// An instance that packs may call: what each lane of its result is of the bits of its parameters.
 /// Contracts speak of it as `description_of` of `specs/Description.antt`.
-#[derive(Drop)]
 pub struct Description {
     /// The name of its entry.
     pub name: Name,
@@ -21,4 +20,19 @@ pub struct Description {
     pub lane_width: u32,
     /// The canonical terms of the lanes, lane 0 first.
     pub lanes: Items<Term>,
+}
+
+/// Written out, so that the exits of an owner call it: a derived one would be proved anew at each.
+impl Drop for Description {
+    fn drop(self) {
+        let Description {
+            name: _,
+            imm: _,
+            cost: _,
+            params: _,
+            register: _,
+            lane_width: _,
+            lanes: _,
+        } = self;
+    }
 }

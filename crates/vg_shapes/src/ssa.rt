@@ -27,7 +27,6 @@ pub struct SsaParam {
 
 /// A kernel as numbered values. The integer parameters are numbered first, from 0, then the units in
 /// the order in which they run.
-#[derive(Drop)]
 pub struct Ssa {
     pub name: Name,
     /// At most 16, with names that differ.
@@ -39,6 +38,19 @@ pub struct Ssa {
     /// For each number the cut term of its value, over the names of the values that it is made of.
     /// Or none at all: no value has a cut term.
     pub cuts: Items<Term>,
+}
+
+/// Written out, so that the exits of an owner call it: a derived one would be proved anew at each.
+impl Drop for Ssa {
+    fn drop(self) {
+        let Ssa {
+            name: _,
+            params: _,
+            units: _,
+            terms: _,
+            cuts: _,
+        } = self;
+    }
 }
 
 impl SsaParamKind {

@@ -61,22 +61,10 @@ pub fn number_more(alloc: Global, kernel: &Kernel) -> Result<Ssa, AllocError>
     ensures sound { IfOk result IsSound }
     ensures stands_for { IfOk result (StandsFor (tree_of kernel.now)) }
 {
-    let ssa = number_values(alloc, kernel)?;
+    let mut ssa = number_values(alloc, kernel)?;
     let cuts = cut_terms(alloc, kernel.params.as_slice(), ssa.units.as_slice())?;
-    let Ssa {
-        name,
-        params,
-        units,
-        terms,
-        cuts: _,
-    } = ssa;
-    Ok(Ssa {
-        name,
-        params,
-        units,
-        terms,
-        cuts: Items::from_vec(cuts),
-    })
+    ssa.cuts = Items::from_vec(cuts);
+    Ok(ssa)
 }
 
 // The parameters, in their order.

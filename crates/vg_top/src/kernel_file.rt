@@ -17,12 +17,21 @@ use vg_kernel::{Kernel, KernelFault, parse_kernel};
 use vg_loops::{Loop, loop_place, parse_loop};
 
 /// What a kernel file holds.
-#[derive(Drop)]
 pub enum KernelFile {
     /// A kernel.
     Plain(Kernel),
     /// A counted loop.
     Counted(Loop),
+}
+
+/// Written out, so that the exits of an owner call it: a derived one would be proved anew at each.
+impl Drop for KernelFile {
+    fn drop(self) {
+        match self {
+            KernelFile::Plain(_) => {}
+            KernelFile::Counted(_) => {}
+        }
+    }
 }
 
 /// The kernel of a text.

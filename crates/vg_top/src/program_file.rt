@@ -17,7 +17,6 @@ use vg_program::{Program, ProgramFault, parse_program};
 use vg_pseudo::Header;
 
 /// What a program file holds.
-#[derive(Drop)]
 pub enum ProgramFile {
     /// A program.
     Plain(Program),
@@ -25,6 +24,17 @@ pub enum ProgramFile {
     Guarded(Guarded),
     /// The program of a block of turns, and that of one.
     Looped(Looped),
+}
+
+/// Written out, so that the exits of an owner call it: a derived one would be proved anew at each.
+impl Drop for ProgramFile {
+    fn drop(self) {
+        match self {
+            ProgramFile::Plain(_) => {}
+            ProgramFile::Guarded(_) => {}
+            ProgramFile::Looped(_) => {}
+        }
+    }
 }
 
 impl ProgramFile {
