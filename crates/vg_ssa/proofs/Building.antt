@@ -1,5 +1,5 @@
 -- Units that are numbered one after the other.
-use Rattle.std.proofs.Common.{◌≡◌, suc, ◌+◌, ◌-◌, ◌<◌, ◌≤◌, ◌^◌, List, [], ◌∷◌, ◌++◌, length, take, drop, map, get_or, refl, sym, ap, subst, ◌∙◌, arith, append_assoc}
+use Rattle.std.proofs.Common.{◌≡◌, suc, ◌+◌, ◌-◌, ◌≤◌, List, [], ◌∷◌, ◌++◌, length, take, drop, map, get_or, refl, sym, ap, subst, ◌∙◌, arith, append_assoc}
 use Rattle.std.specs.Prelude.{Err, IfOk, Ok, Result}
 use Rattle.std.proofs.lemmas.List.{length-append, length_push}
 use Rattle.std.proofs.Math.Seq.{take-length}
@@ -9,44 +9,31 @@ use Rattle.vg_shapes.specs.declared.ssa_unit.SsaUnit.{SsaUnit}
 use Rattle.vg_shapes.specs.declared.ssa_unit.SsaUnit.TheVariants.{Store}
 use Rattle.vg_shapes.specs.declared.wanted.Wanted.{Wanted}
 use Rattle.vg_shapes.specs.declared.wanted.Wanted.TheVariants.{Value}
-use Rattle.vg_ssa.specs.declared.value_terms.Depth.TheVariants.{Whole}
-use Rattle.vg_ssa.specs.Built.{after_statement, Built, CanTake, numbered_in, Numbers, statement_units, with_units}
-use Rattle.vg_ssa.specs.Fitting.{UnitsFit}
+use Rattle.vg_ssa.specs.Built.{after_statement, Built, CanTake, next, numbered_in, Numbers, statement_units, with_units}
 use Rattle.vg_ssa.specs.Numbering.{found, Numbered, numbered, units_from}
-use Rattle.vg_ssa.specs.ValueTerm.{terms_behind}
-use Rattle.vg_ssa.proofs.Terms.{fit-behind, fit-front, terms-both, terms-long}
 
 -- ---- units, and more after them
 
 pub with-both : (b : Built) (us vs : List SsaUnit) → with_units (with_units b us) vs ≡ with_units b (us ++ vs)
-with-both b us vs =
-    λ i. record {
-      first = b.first;
-      units = append_assoc b.units us vs i;
-      terms = sym (terms-both Whole b.first b.terms us vs) i;
-      names = b.names;
-    }
+with-both b us vs = λ i. record { first = b.first; units = append_assoc b.units us vs i; names = b.names }
+
+pub next-behind : (b : Built) (us : List SsaUnit) → next (with_units b us) ≡ next b + length us
+next-behind b us = let l = length-append b.units us in omega arith
 
 pub take-front : (b : Built) (us vs : List SsaUnit) → CanTake b (us ++ vs) → CanTake b us
-take-front b us vs h = record {
-  few = (let l = length-append us vs in let f = h.few in omega arith);
-  fit = fit-front Whole b.first b.terms us vs h.fit;
-}
+take-front b us vs h = let l = length-append us vs in omega arith
 
 pub take-behind : (b : Built) (us vs : List SsaUnit) → CanTake b (us ++ vs) → CanTake (with_units b us) vs
-take-behind b us vs h = record {
-  few = (let l = length-append us vs in let m = terms-long Whole b.first b.terms us in let f = h.few in omega arith);
-  fit = fit-behind Whole b.first b.terms us vs h.fit;
-}
+take-behind b us vs h = let l = length-append us vs in let m = length-append b.units us in omega arith
 
 -- ---- one expression after another
 
 -- an expression after these units
 abbrev pub behind_units : Built → List SsaUnit → Expression → Numbered
-behind_units b us e = numbered (length b.terms + length us) b.names e
+behind_units b us e = numbered (next b + length us) b.names e
 
 pub numbered-behind : (b : Built) (us : List SsaUnit) (e : Expression) → numbered_in (with_units b us) e ≡ behind_units b us e
-numbered-behind b us e = ap (λ n. numbered n b.names e) (terms-long Whole b.first b.terms us)
+numbered-behind b us e = ap (λ n. numbered n b.names e) (next-behind b us)
 
 -- where so many units were numbered, an expression can be, and what it gives
 pub can-number : (b c : Built) (us : List SsaUnit) (e : Expression) → c ≡ with_units b us → CanTake b (us ++ (behind_units b us e).units) → CanTake c (numbered_in c e).units
@@ -65,22 +52,21 @@ further b c new us e x same h =
 pub can-push : (b c : Built) (us : List SsaUnit) (u v : SsaUnit) → c ≡ with_units b us → v ≡ u → CanTake b (us ++ u ∷ []) → CanTake c (v ∷ [])
 can-push b c us u v same e h = subst (λ d. CanTake d (v ∷ [])) (sym same) (subst (λ w. CanTake (with_units b us) (w ∷ [])) (sym e) (take-behind b us (u ∷ []) h))
 
-pub pushed : (b c new : Built) (us : List SsaUnit) (u v : SsaUnit) (x : Wanted) → c ≡ with_units b us → v ≡ u → new ≡ with_units c (v ∷ []) → x ≡ Value (length c.terms) → Numbers b (found (length b.terms) us u) new x
+pub pushed : (b c new : Built) (us : List SsaUnit) (u v : SsaUnit) (x : Wanted) → c ≡ with_units b us → v ≡ u → new ≡ with_units c (v ∷ []) → x ≡ Value (next c) → Numbers b (found (next b) us u) new x
 pushed b c new us u v x same e h g = record {
   built = h ∙ (λ i. with_units (same i) (e i ∷ [])) ∙ with-both b us (u ∷ []);
-  value = g ∙ ap Value (ap (λ d. length d.terms) same ∙ terms-long Whole b.first b.terms us);
+  value = g ∙ ap Value (ap next same ∙ next-behind b us);
 }
 
 -- ---- statements
 
 -- statements are numbered, and others are left
 abbrev pub left_units : Built → List Statement → List SsaUnit
-left_units b ss = units_from (length b.terms) b.names ss
+left_units b ss = units_from (next b) b.names ss
 
 pub record Left (start : Built) (all : List Statement) (b : Built) (rest : List Statement) : Type 0 where
   pub first : b.first ≡ start.first
   pub units : b.units ++ left_units b rest ≡ start.units ++ left_units start all
-  pub terms : terms_behind Whole b.first b.terms (left_units b rest) ≡ terms_behind Whole start.first start.terms (left_units start all)
   pub room : CanTake b (left_units b rest)
 
 -- two clauses on what a call gives
@@ -92,31 +78,24 @@ ok-both (Err e) P Q R f p q = tt
 statement-split : (b : Built) (s : Statement) (ss : List Statement) → left_units b (s ∷ ss) ≡ statement_units b s ++ left_units (after_statement b s) ss
 statement-split b (assign e) ss =
     let p = numbered_in b e in
-    λ i. p.units ++ units_from (sym (terms-long Whole b.first b.terms p.units) i) (b.names ++ p.value ∷ []) ss
+    λ i. p.units ++ units_from (sym (next-behind b p.units) i) (b.names ++ p.value ∷ []) ss
 statement-split b (store w a e) ss =
     let p = numbered_in b e in
     let us = p.units ++ Store a w p.value ∷ [] in
-    let long : length b.terms + length p.units + 1 ≡ length (terms_behind Whole b.first b.terms us) =
-    (let l = length_push p.units (Store a w p.value) in let e : length b.terms + length p.units + 1 ≡ length b.terms + length us = omega arith in e) ∙ sym (terms-long Whole b.first b.terms us) in
+    let long : next b + length p.units + 1 ≡ next (with_units b us) = let l = length_push p.units (Store a w p.value) in let m = next-behind b us in omega arith in
     λ i. us ++ units_from (long i) b.names ss
 
--- what a statement leaves has the terms and units of what it numbered
+-- what a statement leaves has the units of what it numbered
 record After (b : Built) (s : Statement) : Type 0 where
   first : (after_statement b s).first ≡ b.first
   units : (after_statement b s).units ≡ b.units ++ statement_units b s
-  terms : (after_statement b s).terms ≡ terms_behind Whole b.first b.terms (statement_units b s)
 
 after-is : (b : Built) (s : Statement) → After b s
-after-is b (assign e) = record { first = refl; units = refl; terms = refl }
-after-is b (store w a e) = record { first = refl; units = refl; terms = refl }
+after-is b (assign e) = record { first = refl; units = refl }
+after-is b (store w a e) = record { first = refl; units = refl }
 
-room-after : (b c : Built) (us vs : List SsaUnit) → c.first ≡ b.first → c.terms ≡ terms_behind Whole b.first b.terms us → CanTake b (us ++ vs) → CanTake c vs
-room-after b c us vs f t h =
-    let g = take-behind b us vs h in
-    record {
-      few = subst (λ l. length l + length vs < 2 ^ 32) (sym t) g.few;
-      fit = subst (λ n. UnitsFit Whole n c.terms vs) (sym f) (subst (λ l. UnitsFit Whole b.first l vs) (sym t) g.fit);
-    }
+room-after : (b c : Built) (us vs : List SsaUnit) → c.first ≡ b.first → c.units ≡ b.units ++ us → CanTake b (us ++ vs) → CanTake c vs
+room-after b c us vs f t h = let l = length-append us vs in let m = ap length t ∙ length-append b.units us in omega arith
 
 pub left-step : (start : Built) (all : List Statement) (b : Built) (s : Statement) (ss : List Statement) → Left start all b (s ∷ ss) → Left start all (after_statement b s) ss
 left-step start all b s ss h =
@@ -127,8 +106,7 @@ left-step start all b s ss h =
     record {
       first = a.first ∙ h.first;
       units = ap (λ l. l ++ rest) a.units ∙ append_assoc b.units us rest ∙ ap (λ l. b.units ++ l) (sym split) ∙ h.units;
-      terms = (λ i. terms_behind Whole (a.first i) (a.terms i) rest) ∙ sym (terms-both Whole b.first b.terms us rest) ∙ ap (terms_behind Whole b.first b.terms) (sym split) ∙ h.terms;
-      room = room-after b (after_statement b s) us rest a.first a.terms (subst (CanTake b) split h.room);
+      room = room-after b (after_statement b s) us rest a.first a.units (subst (CanTake b) split h.room);
     }
 
 pub left-room : (start : Built) (all : List Statement) (b : Built) (s : Statement) (ss : List Statement) → Left start all b (s ∷ ss) → CanTake b (statement_units b s)

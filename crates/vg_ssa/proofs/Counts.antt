@@ -66,7 +66,7 @@ shape-length : (kind : KParamKind) {A : Type 0} (x : A) (xs : List A) (ys : List
 shape-length (kinds.Pointer noalias) x xs ys e = e
 shape-length (kinds.Integer w) x xs ys e = ap suc e
 
-arguments-first : (ps : List KParam) → length (integers_of (map param_of ps)) ≡ length (integer_widths ps)
+pub arguments-first : (ps : List KParam) → length (integers_of (map param_of ps)) ≡ length (integer_widths ps)
 arguments-first [] = refl
 arguments-first (p ∷ ps) = shape-length p.kind (param_of p) (integers_of (map param_of ps)) (integer_widths ps) (arguments-first ps)
 

@@ -94,18 +94,18 @@ bound None f y e = absurd (cc)
 bound (Some x) f y e = (x, refl, e)
 
 -- the number that a unit gives
-abbrev Gives : List ℕ → SsaUnit → ℕ → Type 0
+abbrev pub Gives : List ℕ → SsaUnit → ℕ → Type 0
 Gives numbers (Load a w) n = n < 2 ^ bits_of w
 Gives numbers (Store a w x) n = n ≡ 0
 Gives numbers (Operation op w k xs) n = n ≡ result_of (slice_index numbers) op (bits_of w) k xs
 
-record Step (r : Reached) (u : SsaUnit) (t : Reached) : Type 0 where
-  given : ℕ
-  numbers : t.numbers ≡ r.numbers ++ given ∷ []
-  gives : Gives r.numbers u given
-  memory : IsBytes t.memory
+pub record Step (r : Reached) (u : SsaUnit) (t : Reached) : Type 0 where
+  pub given : ℕ
+  pub numbers : t.numbers ≡ r.numbers ++ given ∷ []
+  pub gives : Gives r.numbers u given
+  pub memory : IsBytes t.memory
 
-unit-step : (places : List ℕ) (u : SsaUnit) (r t : Reached) → IsBytes r.memory → unit_run places u r ≡ Some t → Step r u t
+pub unit-step : (places : List ℕ) (u : SsaUnit) (r t : Reached) → IsBytes r.memory → unit_run places u r ≡ Some t → Step r u t
 unit-step places (Load a w) r t h e =
     let b = bound (loaded r.memory (place_of places a) (size_of w)) (λ read. Some (reached r.memory r.numbers (number read))) t e in
     let same : reached r.memory r.numbers (number b.0) ≡ t = cc in

@@ -9,8 +9,6 @@ use Rattle.vg_base.specs.Trap.{◌>>=◌}
 use Rattle.vg_base.specs.declared.width.Width.{Width}
 use Rattle.vg_base.specs.declared.width.Width.TheVariants.{W8, W16, W32, W64}
 use Rattle.vg_base.specs.Width.{bits_of}
-use Rattle.vg_kernel.specs.Tree.{Tree as Kernel}
-use Rattle.vg_kernel.specs.WellFormed.{integer_widths, IsWellFormed}
 use Rattle.vg_shapes.specs.declared.ssa.Ssa.{Ssa}
 use Rattle.vg_shapes.specs.declared.ssa_unit.Operands.{Operands}
 use Rattle.vg_shapes.specs.declared.ssa_unit.Operator.{Operator}
@@ -23,13 +21,12 @@ use Rattle.vg_shapes.specs.Sound.{cut_at, cut_key, cuts_of, kind_bits, name_of, 
 use Rattle.vg_shapes.specs.Units.{arguments, integers, unit_at}
 use Rattle.vg_ssa.specs.declared.value_terms.Depth.{Depth}
 use Rattle.vg_ssa.specs.declared.value_terms.Depth.TheVariants.{Cut}
-use Rattle.vg_ssa.specs.Cuts.{AreOverNames, HasCuts, named}
-use Rattle.vg_ssa.specs.Numbering.{IsNumbering}
+use Rattle.vg_ssa.specs.Cuts.{AreOverNames, named}
+use Rattle.vg_ssa.specs.OfUnits.{CanBeNumbered, HaveCuts, widths_of}
 use Rattle.vg_canon.specs.Canonical.{canonical}
 use Rattle.vg_ssa.specs.ValueTerm.{argument_terms, cut_term, no_term, operation_term, over_operands, terms_behind, unit_term}
-use Rattle.vg_ssa.proofs.Counts.{arguments_first}
 use Rattle.vg_ssa.proofs.Meaning.{bound}
-use Rattle.vg_ssa.proofs.Soundness.{all_terms, all_widths, arguments-long, made-terms, numbered-typed, some-below, Typed, value-at, widths}
+use Rattle.vg_ssa.proofs.Soundness.{all_terms, all_widths, can-typed, over-terms, params-first, some-below, Typed, value-at, widths}
 use Rattle.vg_ssa.proofs.Terms.{Stand, stand-more, terms_after, terms-behind}
 use Rattle.vg_ssa.proofs.Typing.{behind, BitIn, NumberIn, OperationIn, stays, UnitIn, UnitsIn}
 use Rattle.vg_terms.specs.Term.{Tree, leaf, width_of}
@@ -181,7 +178,5 @@ over-names ssa terms typed first same v op w k xs e = by (nat_lt v (arguments ss
     by true f = absurd (none-some (Operation op w k xs) (sym (cond-true (nat_lt v (arguments ssa)) None (slice_get ssa.units (v - arguments ssa)) f) ∙ e))
     by false f = unit-named ssa terms typed same v op w k xs first f (sym (cond-false (nat_lt v (arguments ssa)) None (slice_get ssa.units (v - arguments ssa)) f) ∙ e)
 
-pub numbered-over_names : (k : Kernel) (ssa : Ssa) → IsWellFormed k → IsNumbering k ssa → HasCuts k ssa → AreOverNames ssa
-numbered-over_names k ssa good is cuts =
-    let ws = integer_widths k.params in
-    over-names ssa (argument_terms 0 ws) (numbered-typed k ssa good is) (arguments-long 0 ws ∙ sym (arguments_first k ssa is)) (made-terms Cut k ssa (cuts_of ssa) is cuts)
+pub numbered-over_names : (ssa : Ssa) → CanBeNumbered ssa → HaveCuts ssa.params ssa.units ssa → AreOverNames ssa
+numbered-over_names ssa h cuts = over-names ssa (argument_terms 0 (widths_of ssa.params)) (can-typed ssa h) (params-first ssa) (cuts ∙ over-terms Cut ssa)

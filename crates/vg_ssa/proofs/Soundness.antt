@@ -1,11 +1,11 @@
 -- The numbered values of a well-formed kernel are sound.
-use Rattle.std.proofs.Common.{◌≡◌, ℕ, zero, suc, ◌+◌, ◌-◌, ◌%◌, ◌^◌, ◌<◌, ◌≤◌, Bool, true, false, List, [], ◌∷◌, ◌++◌, length, take, drop, map, Option, Some, None, refl, sym, ap, subst, ◌∙◌, arith, append_assoc, append-nil, inl, inr}
+use Rattle.std.proofs.Common.{◌≡◌, ℕ, zero, suc, ◌+◌, ◌-◌, ◌%◌, ◌^◌, ◌<◌, ◌≤◌, ◌⊎◌, Bool, true, false, List, [], ◌∷◌, ◌++◌, length, take, drop, map, Option, Some, None, refl, sym, ap, subst, ◌∙◌, arith, append_assoc, append-nil, inl, inr}
 use Rattle.std.specs.Prelude.{◌&&◌, filter, IsTrue, nat_eq, nat_lt, not, slice_get, slice_index, slice_index_or, sum_by, if◌then◌else◌}
 use Rattle.std.specs.List.{AllByRecursion, cons_option, IsDistinct}
 use Rattle.std.specs.Option.{option_map}
 use Rattle.std.specs.Str.{bytes_eq}
 use Rattle.std.proofs.lemmas.Bool.{cond-true, cond-false, ltb-true, ltb-false}
-use Rattle.std.proofs.lemmas.List.{get_or_append_left, get_or-append_right, length-append, length-map, take-append-drop}
+use Rattle.std.proofs.lemmas.List.{get_or_append_left, get_or-append_right, length-append, length-map, length_push, take-append-drop}
 use Rattle.std.proofs.lemmas.List.Elements.{filter-append}
 use Rattle.std.proofs.lemmas.List.Sums.{sum_by-cons}
 use Rattle.std.proofs.Math.Nat.{mod-eq_of_lt}
@@ -25,6 +25,8 @@ use Rattle.vg_kernel.specs.Words.{is_free, is_reserved}
 use Rattle.vg_text.specs.Byte.{is_name_text}
 use Rattle.vg_shapes.specs.declared.ssa.Ssa.{Ssa}
 use Rattle.vg_shapes.specs.declared.ssa.SsaParam.{SsaParam}
+use Rattle.vg_shapes.specs.declared.ssa.SsaParamKind.{SsaParamKind}
+use Rattle.vg_shapes.specs.declared.ssa.SsaParamKind.TheVariants.{Pointer, Integer}
 use Rattle.vg_shapes.specs.declared.ssa_unit.Operands.{Operands}
 use Rattle.vg_shapes.specs.declared.ssa_unit.Operator.{Operator}
 use Rattle.vg_shapes.specs.declared.ssa_unit.Operator.TheVariants.{Two, Shift, Resize, Compare, Select}
@@ -33,15 +35,16 @@ use Rattle.vg_shapes.specs.declared.ssa_unit.SsaUnit.TheVariants.{Load, Store, O
 use Rattle.vg_shapes.specs.declared.wanted.Wanted.{Wanted}
 use Rattle.vg_shapes.specs.declared.wanted.Wanted.TheVariants.{Value, Constant, Nothing}
 use Rattle.vg_shapes.specs.RunUnits.{Reached, run_units, start_of}
-use Rattle.vg_shapes.specs.Sound.{AreArguments, AreArgumentTerms, AreCuts, argument_key, AreUnitTerms, cut_at, cut_key, cuts_of, environment, HaveNumbers, IsNumber, IsOperation, IsBit, IsUnit, is_store, kind_bits, name_at, name_of, pointers, result_bits, terms_of, TakeEarlier, unit_bits, unit_name, value_bits}
+use Rattle.vg_shapes.specs.Sound.{AreArguments, AreArgumentTerms, AreCuts, argument_key, AreUnitTerms, cut_at, cut_key, cuts_of, environment, HaveNumbers, IsEarlier, IsNumber, IsOperation, IsBit, IsSound, IsUnit, is_store, kind_bits, name_at, name_of, pointers, result_bits, terms_of, TakeEarlier, TakesEarlier, unit_bits, unit_name, value_bits}
 use Rattle.vg_shapes.specs.Units.{arguments, integers, integers_of, is_integer, unit_at}
 use Rattle.vg_ssa.specs.declared.value_terms.Depth.{Depth}
 use Rattle.vg_ssa.specs.declared.value_terms.Depth.TheVariants.{Whole, Cut}
 use Rattle.vg_ssa.specs.Laws.{NumberedValuesAreSound}
+use Rattle.vg_ssa.specs.OfUnits.{CanBeNumbered, HaveCuts, terms_over, width_of_kind, widths_of, without_terms}
 use Rattle.vg_ssa.specs.Numbering.{first_unit, IsNumbering, kind_of, numbered, param_of, units_from, units_of}
 use Rattle.vg_ssa.specs.ValueTerm.{argument_terms, no_term, terms_behind}
 use Rattle.vg_ssa.specs.Fitting.{IsTermOf, UnitsFit}
-use Rattle.vg_ssa.proofs.Counts.{arguments_first, expression-units}
+use Rattle.vg_ssa.proofs.Counts.{arguments-first, expression-units}
 use Rattle.vg_ssa.proofs.Earlier.{units-take_earlier}
 use Rattle.vg_ssa.proofs.Environment.{of-arguments, of-units, ReadArguments, read-front, ReadUnits}
 use Rattle.vg_ssa.proofs.Meaning.{bound, leaf-means, Mean, run-means, run-more}
@@ -96,17 +99,39 @@ width-at [] k w e = absurd (cc)
 width-at (v ∷ ws) zero w e = let same : v ≡ w = cc in ap (λ u. Some (bits_of u)) same
 width-at (v ∷ ws) (suc k) w e = width-at ws k w e
 
--- their terms
-terms-of-integer : (v : ℕ) (kind : KParamKind) (name : List ℕ) (qs : List SsaParam) (ws : List Width)
-    → ((u : ℕ) → AreArgumentTerms u qs (argument_terms u ws))
-    → AreArgumentTerms v (if is_integer (kind_of kind) then (record { name = name; kind = kind_of kind }) ∷ qs else qs)
-    (argument_terms v (cons_option (elim kind as (λ k. Option Width) [ kinds.Pointer noalias ↦ None | kinds.Integer w ↦ Some w ]) ws))
-terms-of-integer v (kinds.Pointer noalias) name qs ws h = h v
-terms-of-integer v (kinds.Integer w) name qs ws h = (refl, h (v + 1))
+-- the same of parameters of units
+same-widths : (ps : List KParam) → widths_of (map param_of ps) ≡ integer_widths ps
+same-widths [] = refl
+same-widths (p ∷ ps) = width-more p.kind (widths_of (map param_of ps)) (integer_widths ps) (same-widths ps)
+  where
+    width-more : (kind : KParamKind) (vs ws : List Width) → vs ≡ ws
+        → cons_option (width_of_kind (kind_of kind)) vs ≡ cons_option (elim kind as (λ k. Option Width) [ kinds.Pointer noalias ↦ None | kinds.Integer w ↦ Some w ]) ws
+    width-more (kinds.Pointer noalias) vs ws e = e
+    width-more (kinds.Integer w) vs ws e = ap (λ l. w ∷ l) e
 
-argument-terms : (ps : List KParam) (v : ℕ) → AreArgumentTerms v (integers_of (map param_of ps)) (argument_terms v (integer_widths ps))
+bits-more : (kind : SsaParamKind) (name : List ℕ) (qs : List SsaParam) (ws : List Width) → widths qs ≡ map (λ w. Some (bits_of w)) ws
+    → widths (if is_integer kind then (record { name = name; kind = kind }) ∷ qs else qs) ≡ map (λ w. Some (bits_of w)) (cons_option (width_of_kind kind) ws)
+bits-more (Pointer noalias) name qs ws e = e
+bits-more (Integer w) name qs ws e = ap (λ l. Some (bits_of w) ∷ l) e
+
+param-widths : (ps : List SsaParam) → widths (integers_of ps) ≡ map (λ w. Some (bits_of w)) (widths_of ps)
+param-widths [] = refl
+param-widths (p ∷ ps) = bits-more p.kind p.name (integers_of ps) (widths_of ps) (param-widths ps)
+
+pub widths-many : (ps : List SsaParam) → length (widths_of ps) ≡ length (integers_of ps)
+widths-many ps =
+    sym (length-map (widths_of ps) (λ w. Some (bits_of w))) ∙ sym (ap length (param-widths ps)) ∙ length-map (integers_of ps) (λ p. Some (kind_bits p.kind))
+
+-- their terms
+terms-of-integer : (v : ℕ) (kind : SsaParamKind) (name : List ℕ) (qs : List SsaParam) (ws : List Width)
+    → ((u : ℕ) → AreArgumentTerms u qs (argument_terms u ws))
+    → AreArgumentTerms v (if is_integer kind then (record { name = name; kind = kind }) ∷ qs else qs) (argument_terms v (cons_option (width_of_kind kind) ws))
+terms-of-integer v (Pointer noalias) name qs ws h = h v
+terms-of-integer v (Integer w) name qs ws h = (refl, h (v + 1))
+
+argument-terms : (ps : List SsaParam) (v : ℕ) → AreArgumentTerms v (integers_of ps) (argument_terms v (widths_of ps))
 argument-terms [] v = refl
-argument-terms (p ∷ ps) v = terms-of-integer v p.kind p.name (integers_of (map param_of ps)) (integer_widths ps) (argument-terms ps)
+argument-terms (p ∷ ps) v = terms-of-integer v p.kind p.name (integers_of ps) (widths_of ps) (argument-terms ps)
 
 pub arguments-long : (v : ℕ) (ws : List Width) → length (argument_terms v ws) ≡ length ws
 arguments-long v [] = refl
@@ -186,6 +211,45 @@ units-sound ssa bits [] same h = tt
 units-sound ssa bits (u ∷ us) same h = (
   unit-sound ssa bits (map unit_bits (u ∷ us)) u same h.0,
   units-sound ssa (bits ++ unit_bits u ∷ []) us (λ v. same v ∙ ap (λ l. slice_index_or l v None) (sym (append_assoc bits (unit_bits u ∷ []) (map unit_bits us)))) h.1,
+)
+
+-- and the other way round: what a unit takes is among the values before it
+number-in : (ssa : Ssa) (bits more : List (Option ℕ)) (w : Width) (x : Wanted) → ((v : ℕ) → value_bits ssa v ≡ slice_index_or (bits ++ more) v None) → IsEarlier (length bits) x → IsNumber ssa w x → NumberIn bits w x
+number-in ssa bits more w (Value v) same l h = sym (same v ∙ get_or_append_left bits more None v l) ∙ h
+number-in ssa bits more w (Constant m k) same l h = h
+number-in ssa bits more w Nothing same l h = h
+
+bit-in : (ssa : Ssa) (bits more : List (Option ℕ)) (x : Wanted) → ((v : ℕ) → value_bits ssa v ≡ slice_index_or (bits ++ more) v None) → IsEarlier (length bits) x → IsBit ssa x → BitIn bits x
+bit-in ssa bits more (Value v) same l h = sym (same v ∙ get_or_append_left bits more None v l) ∙ h
+bit-in ssa bits more (Constant m k) same l h = h
+bit-in ssa bits more Nothing same l h = h
+
+operation-in : (ssa : Ssa) (bits more : List (Option ℕ)) (op : Operator) (w : Width) (k : ℕ) (xs : Operands) → ((v : ℕ) → value_bits ssa v ≡ slice_index_or (bits ++ more) v None)
+    → IsEarlier (length bits) xs.first → IsEarlier (length bits) xs.second → IsEarlier (length bits) xs.third → IsOperation ssa op w k xs → OperationIn bits op w k xs
+operation-in ssa bits more op w k xs same x y z = by op
+  where
+    n : (w : Width) (x : Wanted) → IsEarlier (length bits) x → IsNumber ssa w x → NumberIn bits w x
+    n w x l h = number-in ssa bits more w x same l h
+
+    by : (op : Operator) → IsOperation ssa op w k xs → OperationIn bits op w k xs
+    by (Two op) h = (h.0, n w xs.first x h.1, n w xs.second y h.2, h.3)
+    by (Shift op) h = (h.0, n w xs.first x h.1, h.2, h.3)
+    by (Resize op v) h = (h.0, h.1, n v xs.first x h.2, h.3, h.4)
+    by (Compare op) h = (h.0, n w xs.first x h.1, n w xs.second y h.2, h.3)
+    by Select h = (h.0, bit-in ssa bits more xs.first same x h.1, n w xs.second y h.2, n w xs.third z h.3)
+
+unit-in : (ssa : Ssa) (bits more : List (Option ℕ)) (u : SsaUnit) → ((v : ℕ) → value_bits ssa v ≡ slice_index_or (bits ++ more) v None) → TakesEarlier (length bits) u → IsUnit ssa u → UnitIn (length (pointers ssa)) bits u
+unit-in ssa bits more (Load a w) same l h = h
+unit-in ssa bits more (Store a w x) same l h = (h.0, number-in ssa bits more w x same l h.1)
+unit-in ssa bits more (Operation op w k xs) same l h = operation-in ssa bits more op w k xs same l.0 l.1 l.2 h
+
+units-in : (ssa : Ssa) (bits : List (Option ℕ)) (us : List SsaUnit) → ((v : ℕ) → value_bits ssa v ≡ slice_index_or (behind bits us) v None) → TakeEarlier (length bits) us → AllByRecursion (IsUnit ssa) us
+    → UnitsIn (length (pointers ssa)) bits us
+units-in ssa bits [] same l h = tt
+units-in ssa bits (u ∷ us) same l h = (
+  unit-in ssa bits (map unit_bits (u ∷ us)) u same l.0 h.0,
+  units-in ssa (bits ++ unit_bits u ∷ []) us (λ v. same v ∙ ap (λ l. slice_index_or l v None) (sym (append_assoc bits (unit_bits u ∷ []) (map unit_bits us))))
+      (subst (λ n. TakeEarlier n us) (sym (length_push bits (unit_bits u))) l.1) h.1,
 )
 
 -- ---- the limits
@@ -376,28 +440,30 @@ terms-mean d ssa terms made h same places memory args k r bytes fit run v t l e 
 
 -- ---- all of it
 
--- the widths of the parameters, and the units after them
-pub numbered-typed : (k : Kernel) (ssa : Ssa) → IsWellFormed k → IsNumbering k ssa → Typed ssa (argument_terms 0 (integer_widths k.params))
-numbered-typed k ssa good is =
-    let first = first_unit k in
-    let ws = integer_widths k.params in
-    let count : length (pointers ssa) ≡ length (kernel_pointers k.params) = ap (λ l. length (filter (λ p. not (is_integer p.kind)) l)) is.params ∙ pointers-same k.params in
-    let wide : widths (integers ssa) ≡ map (λ w. Some (bits_of w)) ws = ap (λ l. widths (integers_of l)) is.params ∙ widths-same k.params in
-    let held : Held k.params [] [] (map (λ w. Some (bits_of w)) ws) = record { args = width-at ws; count = refl; named = λ j t e. absurd (cc) } in
-    let units = statements-typed k.params [] [] first (map (λ w. Some (bits_of w)) ws) k.statements good.each held (sym (length-map ws (λ w. Some (bits_of w)))) in
+-- the terms of parameters stand
+pub params-stand : (ps : List SsaParam) → Stand (widths (integers_of ps)) (argument_terms 0 (widths_of ps))
+params-stand ps =
+    let ws = widths_of ps in
+    subst (λ b. Stand b (argument_terms 0 ws)) (sym (param-widths ps)) (record {
+      long = arguments-long 0 ws ∙ sym (length-map ws (λ w. Some (bits_of w)));
+      each = arguments-each 0 ws;
+    })
+
+-- units that can be numbered, after the terms of their parameters
+pub can-typed : (ssa : Ssa) → CanBeNumbered ssa → Typed ssa (argument_terms 0 (widths_of ssa.params))
+can-typed ssa h =
+    let long = length-map (integers ssa) (λ p. Some (kind_bits p.kind)) in
     record {
-      units = subst (UnitsIn (length (pointers ssa)) (widths (integers ssa))) (sym is.units) (subst (λ b. UnitsIn (length (pointers ssa)) b (units_of k)) (sym wide) (subst (λ n. UnitsIn n (map (λ w. Some (bits_of w)) ws) (units_of k)) (sym count) units));
-      stand = subst (λ b. Stand b (argument_terms 0 ws)) (sym wide) (record {
-        long = arguments-long 0 ws ∙ sym (length-map ws (λ w. Some (bits_of w)));
-        each = arguments-each 0 ws;
-      });
-      leaves = subst (λ l. AreArgumentTerms 0 (integers_of l) (argument_terms 0 ws)) (sym is.params) (argument-terms k.params 0);
+      units = units-in ssa (widths (integers ssa)) ssa.units (value-at (integers ssa) ssa.units) (subst (λ n. TakeEarlier n ssa.units) (sym long) h.earlier) h.units;
+      stand = params-stand ssa.params;
+      leaves = argument-terms ssa.params 0;
     }
 
--- the terms of a kernel are those of its units after those of its parameters
-pub made-terms : (d : Depth) (k : Kernel) (ssa : Ssa) (made : List Tree) → IsNumbering k ssa → made ≡ terms_behind d (first_unit k) (argument_terms 0 (integer_widths k.params)) (units_of k)
-    → made ≡ all_terms d ssa (argument_terms 0 (integer_widths k.params))
-made-terms d k ssa made is e = e ∙ (λ i. terms_behind d (sym (arguments_first k ssa is) i) (argument_terms 0 (integer_widths k.params)) (sym is.units i))
+pub over-terms : (d : Depth) (ssa : Ssa) → terms_over d ssa.params ssa.units ≡ all_terms d ssa (argument_terms 0 (widths_of ssa.params))
+over-terms d ssa = ap (λ n. terms_behind d n (argument_terms 0 (widths_of ssa.params)) ssa.units) (widths-many ssa.params)
+
+pub params-first : (ssa : Ssa) → length (argument_terms 0 (widths_of ssa.params)) ≡ arguments ssa
+params-first ssa = arguments-long 0 (widths_of ssa.params) ∙ widths-many ssa.params
 
 typed-sound : (ssa : Ssa) (terms : List Tree) → Typed ssa terms → AllByRecursion (IsUnit ssa) ssa.units
 typed-sound ssa terms h = units-sound ssa (widths (integers ssa)) ssa.units (value-at (integers ssa) ssa.units) h.units
@@ -414,16 +480,11 @@ unit-terms-behind d ssa terms made h e is =
     let fit = units-fit d (length (pointers ssa)) (arguments ssa) (widths (integers ssa)) terms ssa.units h.stand h.units in
     subst (AreUnitTerms (arguments ssa) ssa.units) (sym same) (subst (λ n. AreUnitTerms n ssa.units after) e (unit-terms d (arguments ssa) terms ssa.units fit))
 
--- the units of a well-formed kernel fit after the terms of its parameters
-pub kernel-fits : (d : Depth) (k : Kernel) → IsWellFormed k → UnitsFit d (first_unit k) (argument_terms 0 (integer_widths k.params)) (units_of k)
-kernel-fits d k good =
-    let ws = integer_widths k.params in
-    let bits = map (λ w. Some (bits_of w)) ws in
-    let held : Held k.params [] [] bits = record { args = width-at ws; count = refl; named = λ j t e. absurd (cc) } in
-    let long = length-map ws (λ w. Some (bits_of w)) in
-    let stand : Stand bits (argument_terms 0 ws) = record { long = arguments-long 0 ws ∙ sym long; each = arguments-each 0 ws } in
-    units-fit d (length (kernel_pointers k.params)) (first_unit k) bits (argument_terms 0 ws) (units_of k) stand
-    (statements-typed k.params [] [] (first_unit k) bits k.statements good.each held (sym long))
+-- units that can be numbered fit after the terms of their parameters
+pub can-fit : (d : Depth) (ssa : Ssa) → CanBeNumbered ssa → UnitsFit d (length (widths_of ssa.params)) (argument_terms 0 (widths_of ssa.params)) ssa.units
+can-fit d ssa h =
+    let typed = can-typed ssa h in
+    units-fit d (length (pointers ssa)) (length (widths_of ssa.params)) (widths (integers ssa)) (argument_terms 0 (widths_of ssa.params)) ssa.units typed.stand typed.units
 
 -- ---- names
 
@@ -493,26 +554,82 @@ cuts-sound ssa terms h first same = record {
   names = names-mean ssa terms h same;
 }
 
-pub numbered-values-are-sound : NumberedValuesAreSound
-numbered-values-are-sound k ssa good is cuts =
-    let terms = argument_terms 0 (integer_widths k.params) in
-    let typed = numbered-typed k ssa good is in
-    let made = made-terms Whole k ssa (terms_of ssa) is is.terms in
-    let first : length terms ≡ arguments ssa = arguments-long 0 (integer_widths k.params) ∙ sym (arguments_first k ssa is) in
+-- values of units that can be numbered are sound
+pub numbered-sound : (ssa : Ssa) → CanBeNumbered ssa → terms_of ssa ≡ terms_over Whole ssa.params ssa.units → (ssa.cuts ≡ []) ⊎ HaveCuts ssa.params ssa.units ssa → IsSound ssa
+numbered-sound ssa h is cuts =
+    let terms = argument_terms 0 (widths_of ssa.params) in
+    let typed = can-typed ssa h in
+    let made = is ∙ over-terms Whole ssa in
+    let first = params-first ssa in
     record {
-      name = subst (λ n. IsTrue (is_name_text n)) (sym is.name) (and-left (is_name_text k.name) (not (is_reserved k.name)) good.name);
-      names = subst (AllByRecursion (λ p. IsTrue (is_name_text p.name))) (sym is.params) (names-free k.params good.names);
-      distinct = subst (IsDistinct bytes_eq) (sym (ap (map (λ p. p.name)) is.params ∙ names-same k.params)) good.distinct;
-      params = subst (λ n. n ≤ 16) (sym (ap length is.params ∙ length-map k.params param_of)) good.params;
-      stores = (let few = stores-few (first_unit k) [] k.statements in let same = ap (λ us. length (stores_of us)) is.units in let most = good.statements in omega arith);
-      uses = (let same = ap (λ us. length (others_of us)) is.units in let count = others-counted (first_unit k) [] k.statements in let most = good.uses in omega arith);
-      units = typed-sound ssa terms typed;
-      earlier = subst (λ n. TakeEarlier n ssa.units) (sym (arguments_first k ssa is)) (subst (TakeEarlier (first_unit k)) (sym is.units) (units-take_earlier k good));
+      name = h.name;
+      names = h.names;
+      distinct = h.distinct;
+      params = h.params;
+      stores = h.stores;
+      uses = h.uses;
+      units = h.units;
+      earlier = h.earlier;
       argument_terms = argument-terms-first Whole ssa terms (terms_of ssa) typed first made;
       unit_terms = unit-terms-behind Whole ssa terms (terms_of ssa) typed first made;
       meaning = terms-mean Whole ssa terms (terms_of ssa) typed made;
       cuts = elim cuts [
         | inl none ↦ inl none
-        | inr are ↦ inr (cuts-sound ssa terms typed first (made-terms Cut k ssa (cuts_of ssa) is are))
+        | inr are ↦ inr (cuts-sound ssa terms typed first (are ∙ over-terms Cut ssa))
       ];
     }
+
+-- ---- kernels
+
+-- whatever terms there are
+pub can-same : (ssa : Ssa) → CanBeNumbered (without_terms ssa.name ssa.params ssa.units) → CanBeNumbered ssa
+can-same ssa h = record {
+  name = h.name;
+  names = h.names;
+  distinct = h.distinct;
+  params = h.params;
+  stores = h.stores;
+  uses = h.uses;
+  units = h.units;
+  earlier = h.earlier;
+}
+
+-- the units of a well-formed kernel can be numbered over its parameters
+pub kernel-can : (k : Kernel) → IsWellFormed k → CanBeNumbered (without_terms k.name (map param_of k.params) (units_of k))
+kernel-can k good =
+    let ssa = without_terms k.name (map param_of k.params) (units_of k) in
+    let ws = integer_widths k.params in
+    let bits = map (λ w. Some (bits_of w)) ws in
+    let wide : widths (integers ssa) ≡ bits = widths-same k.params in
+    let held : Held k.params [] [] bits = record { args = width-at ws; count = refl; named = λ j t e. absurd (cc) } in
+    let typed = statements-typed k.params [] [] (first_unit k) bits k.statements good.each held (sym (length-map ws (λ w. Some (bits_of w)))) in
+    let units : UnitsIn (length (pointers ssa)) (widths (integers ssa)) ssa.units =
+    subst (λ b. UnitsIn (length (pointers ssa)) b (units_of k)) (sym wide) (subst (λ n. UnitsIn n bits (units_of k)) (sym (pointers-same k.params)) typed) in
+    record {
+      name = and-left (is_name_text k.name) (not (is_reserved k.name)) good.name;
+      names = names-free k.params good.names;
+      distinct = subst (IsDistinct bytes_eq) (sym (names-same k.params)) good.distinct;
+      params = subst (λ n. n ≤ 16) (sym (length-map k.params param_of)) good.params;
+      stores = (let few = stores-few (first_unit k) [] k.statements in let most = good.statements in omega arith);
+      uses = (let count = others-counted (first_unit k) [] k.statements in let most = good.uses in omega arith);
+      units = units-sound ssa (widths (integers ssa)) ssa.units (value-at (integers ssa) ssa.units) units;
+      earlier = subst (λ n. TakeEarlier n (units_of k)) (sym (arguments-first k.params)) (units-take_earlier k good);
+    }
+
+-- what a kernel is numbered as has these units, which can be numbered
+pub numbered-can : (k : Kernel) (ssa : Ssa) → IsWellFormed k → IsNumbering k ssa → CanBeNumbered ssa
+numbered-can k ssa good is = can-same ssa (subst CanBeNumbered (λ i. without_terms (sym is.name i) (sym is.params i) (sym is.units i)) (kernel-can k good))
+
+-- the terms of a kernel are those of its units over its parameters
+pub kernel-terms : (d : Depth) (k : Kernel) → terms_over d (map param_of k.params) (units_of k) ≡ terms_behind d (first_unit k) (argument_terms 0 (integer_widths k.params)) (units_of k)
+kernel-terms d k = ap (λ ws. terms_behind d (length ws) (argument_terms 0 ws) (units_of k)) (same-widths k.params)
+
+pub numbered-terms : (d : Depth) (k : Kernel) (ssa : Ssa) → IsNumbering k ssa → terms_behind d (first_unit k) (argument_terms 0 (integer_widths k.params)) (units_of k) ≡ terms_over d ssa.params ssa.units
+numbered-terms d k ssa is = sym (kernel-terms d k) ∙ (λ i. terms_over d (sym is.params i) (sym is.units i))
+
+pub numbered-values-are-sound : NumberedValuesAreSound
+numbered-values-are-sound k ssa good is cuts =
+    numbered-sound ssa (numbered-can k ssa good is) (is.terms ∙ numbered-terms Whole k ssa is) (elim cuts [
+      | inl none ↦ inl none
+      | inr are ↦ inr (are ∙ numbered-terms Cut k ssa is)
+    ])

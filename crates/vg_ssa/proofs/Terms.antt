@@ -178,12 +178,3 @@ unit-terms d first terms [] h = refl
 unit-terms d first terms (u ∷ us) h =
     let t = unit_term d first terms u in
     (is-unit-term d first terms u h.0, subst (λ n. AreUnitTerms n us (terms_after d first (terms ++ t ∷ []) us)) (length_push terms t) (unit-terms d first (terms ++ t ∷ []) us h.1))
-
--- units that fit after each other
-pub fit-front : (d : Depth) (first : ℕ) (terms : List Tree) (us vs : List SsaUnit) → UnitsFit d first terms (us ++ vs) → UnitsFit d first terms us
-fit-front d first terms [] vs h = tt
-fit-front d first terms (u ∷ us) vs h = (h.0, fit-front d first (terms ++ unit_term d first terms u ∷ []) us vs h.1)
-
-pub fit-behind : (d : Depth) (first : ℕ) (terms : List Tree) (us vs : List SsaUnit) → UnitsFit d first terms (us ++ vs) → UnitsFit d first (terms_behind d first terms us) vs
-fit-behind d first terms [] vs h = h
-fit-behind d first terms (u ∷ us) vs h = fit-behind d first (terms ++ unit_term d first terms u ∷ []) us vs h.1

@@ -1,5 +1,5 @@
--- Units that are numbered one after the other, each with the term of its value.
-use Rattle.std.specs.Prelude.{◌≡◌, ◌<◌, ◌+◌, ◌^◌, ℕ, List, [], ◌∷◌, ◌++◌, length, map}
+-- Units that are numbered one after the other.
+use Rattle.std.specs.Prelude.{◌<◌, ◌+◌, ◌^◌, ◌≡◌, ℕ, List, [], ◌∷◌, ◌++◌, length}
 use Rattle.vg_base.specs.declared.width.Width.{Width}
 use Rattle.vg_kernel.specs.Tree.{Expression, Statement, assign, store}
 use Rattle.vg_shapes.specs.declared.ssa_unit.Operator.{Operator}
@@ -8,83 +8,62 @@ use Rattle.vg_shapes.specs.declared.ssa_unit.SsaUnit.{SsaUnit}
 use Rattle.vg_shapes.specs.declared.ssa_unit.SsaUnit.TheVariants.{Operation, Store}
 use Rattle.vg_shapes.specs.declared.wanted.Wanted.{Wanted}
 use Rattle.vg_shapes.specs.declared.wanted.Wanted.TheVariants.{Nothing}
-use Rattle.vg_ssa.specs.declared.value_terms.Depth.TheVariants.{Whole}
-use Rattle.vg_ssa.specs.declared.value_terms.ValueTerms.{ValueTerms}
 use Rattle.vg_ssa.specs.declared.values.Values.{Values}
-use Rattle.vg_ssa.specs.Fitting.{UnitsFit}
 use Rattle.vg_ssa.specs.Numbering.{found, Numbered, numbered, operands}
-use Rattle.vg_ssa.specs.ValueTerm.{terms_behind}
-use Rattle.vg_terms.specs.Term.{Tree, tree}
 
--- the number of the first unit, the units and the terms of all values so far, and what stands for
--- the names that statements gave
+-- the number of the first unit, the units so far, and what stands for the names that statements gave
 pub record Built : Type 0 where
   pub first : ℕ
   pub units : List SsaUnit
-  pub terms : List Tree
   pub names : List Wanted
-
--- the terms that the code has so far
-abbrev pub trees_of : ValueTerms → List Tree
-trees_of known = map tree known.terms.items
 
 -- what values of the code hold
 abbrev pub built : Values → Built
-built v =
-    record {
-      first = v.known.first;
-      units = v.units.items;
-      terms = trees_of v.known;
-      names = v.names.items;
-    }
+built v = record { first = v.first; units = v.units.items; names = v.names.items }
+
+-- the number of the next unit
+abbrev pub next : Built → ℕ
+next b = b.first + length b.units
 
 -- these units more
 abbrev pub with_units : Built → List SsaUnit → Built
-with_units b us =
-    record {
-      first = b.first;
-      units = b.units ++ us;
-      terms = terms_behind Whole b.first b.terms us;
-      names = b.names;
-    }
+with_units b us = record { first = b.first; units = b.units ++ us; names = b.names }
 
 -- a name more
 abbrev pub with_name : Built → Wanted → Built
 with_name b x = record b { names = b.names ++ x ∷ [] }
 
--- there are numbers for these units, and their operands have the terms that they need
-pub record CanTake (b : Built) (us : List SsaUnit) : Type 0 where
-  pub few : length b.terms + length us < 2 ^ 32
-  pub fit : UnitsFit Whole b.first b.terms us
+-- there are numbers for these units
+abbrev pub CanTake : Built → List SsaUnit → Type 0
+CanTake b us = next b + length us < 2 ^ 32
 
 -- what was numbered is after the rest, and this stands for its value
 pub record Numbers (b : Built) (p : Numbered) (new : Built) (x : Wanted) : Type 0 where
   pub built : new ≡ with_units b p.units
   pub value : x ≡ p.value
 
--- the next number is that of the next term
+-- the units of an expression behind the rest
 abbrev pub numbered_in : Built → Expression → Numbered
-numbered_in b e = numbered (length b.terms) b.names e
+numbered_in b e = numbered (next b) b.names e
 
 -- an operation of a width and an amount on what one, two or three expressions give
 abbrev pub single_in : Built → Operator → Width → ℕ → Expression → Numbered
 single_in b op w k x =
     let p = numbered_in b x in
-    found (length b.terms) p.units (Operation op w k (operands p.value Nothing Nothing))
+    found (next b) p.units (Operation op w k (operands p.value Nothing Nothing))
 
 abbrev pub pair_in : Built → Operator → Width → Expression → Expression → Numbered
 pair_in b op w x y =
     let p = numbered_in b x in
-    let q = numbered (length b.terms + length p.units) b.names y in
-    found (length b.terms) (p.units ++ q.units)
-    (Operation op w 0 (operands p.value q.value Nothing))
+    let q = numbered (next b + length p.units) b.names y in
+    found (next b) (p.units ++ q.units) (Operation op w 0 (operands p.value q.value Nothing))
 
 abbrev pub choice_in : Built → Width → Expression → Expression → Expression → Numbered
 choice_in b w c x y =
     let o = numbered_in b c in
-    let p = numbered (length b.terms + length o.units) b.names x in
-    let q = numbered (length b.terms + length (o.units ++ p.units)) b.names y in
-    found (length b.terms) ((o.units ++ p.units) ++ q.units)
+    let p = numbered (next b + length o.units) b.names x in
+    let q = numbered (next b + length (o.units ++ p.units)) b.names y in
+    found (next b) ((o.units ++ p.units) ++ q.units)
     (Operation Select w 0 (operands o.value p.value q.value))
 
 -- the units of a statement, and what they leave

@@ -8,8 +8,8 @@ ghost use Rattle.vg_ssa.specs.Cuts.{AreOverNames, HasCuts};
 ghost use Rattle.vg_ssa.specs.Numbering.{IsNumbering, kind_of, param_of};
 ghost use Rattle.vg_ssa.specs.StandsFor.{StandsFor};
 
-use crate::value_terms::{ValueTerms, cut_terms};
-use crate::values::Values;
+use crate::kernels::kernel_units;
+use crate::of_units::{number_units, without_cuts};
 use std::alloc::{AllocError, Global};
 use vg_base::Items;
 use vg_kernel::{KParam, KParamKind, Kernel};
@@ -30,21 +30,8 @@ pub fn number_values(alloc: Global, kernel: &Kernel) -> Result<Ssa, AllocError>
 {
     let name = kernel.name.copy(alloc)?;
     let params = ssa_params(alloc, kernel.params.as_slice())?;
-    let mut values = Values::new(alloc, kernel.params.as_slice())?;
-    values.number_statements(alloc, kernel.statements.as_slice())?;
-    let Values {
-        known,
-        units,
-        names: _,
-    } = values;
-    let ValueTerms { first: _, terms } = known;
-    Ok(Ssa {
-        name,
-        params: Items::from_vec(params),
-        units: Items::from_vec(units),
-        terms: Items::from_vec(terms),
-        cuts: Items::from_vec(Vec::new(alloc)),
-    })
+    let units = kernel_units(alloc, kernel)?;
+    without_cuts(alloc, name, Items::from_vec(params), Items::from_vec(units))
 }
 
 /// The same numbered values, and for each its cut term: that of an operation is its canonical form
@@ -61,10 +48,10 @@ pub fn number_more(alloc: Global, kernel: &Kernel) -> Result<Ssa, AllocError>
     ensures sound { IfOk result IsSound }
     ensures stands_for { IfOk result (StandsFor (tree_of kernel.now)) }
 {
-    let mut ssa = number_values(alloc, kernel)?;
-    let cuts = cut_terms(alloc, kernel.params.as_slice(), ssa.units.as_slice())?;
-    ssa.cuts = Items::from_vec(cuts);
-    Ok(ssa)
+    let name = kernel.name.copy(alloc)?;
+    let params = ssa_params(alloc, kernel.params.as_slice())?;
+    let units = kernel_units(alloc, kernel)?;
+    number_units(alloc, name, Items::from_vec(params), Items::from_vec(units))
 }
 
 // The parameters, in their order.

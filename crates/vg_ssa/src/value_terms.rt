@@ -2,18 +2,16 @@
 
 ghost use Rattle.std.specs.Prelude.{◌≡◌, ◌+◌, ◌<◌, ◌≤◌, ◌^◌, [], ◌∷◌, ◌++◌, true, false, IfOk, OnOk, length, map, slice_index_or};
 ghost use Rattle.vg_base.specs.Width.{bits_of};
-ghost use Rattle.vg_kernel.specs.WellFormed.{integer_widths};
 ghost use Rattle.vg_shapes.specs.Sound.{argument_key, cut_key, load_key};
-ghost use Rattle.vg_ssa.specs.Built.{trees_of};
 ghost use Rattle.vg_ssa.specs.Fitting.{Fit, UnitFits, UnitsFit};
+ghost use Rattle.vg_ssa.specs.OfUnits.{terms_over, trees_of, widths_of};
 ghost use Rattle.vg_ssa.specs.ValueTerm.{argument_terms, cut_term, no_term, operand_term, over_operands, terms_behind, unit_term, writes_bits};
 ghost use Rattle.vg_terms.specs.Term.{tree, width_of};
 
 use crate::operations::operation;
 use std::alloc::{AllocError, Global};
 use vg_base::{Address, Width};
-use vg_kernel::{KParam, KParamKind};
-use vg_shapes::{Operands, Operator, SsaUnit, Wanted};
+use vg_shapes::{Operands, Operator, SsaParam, SsaParamKind, SsaUnit, Wanted};
 use vg_terms::{LeafKey, Term, make_const, make_leaf};
 
 /// The most nodes of a whole term of an operation. One that has more is cut at its operands.
@@ -37,11 +35,11 @@ pub(crate) struct ValueTerms {
 
 impl ValueTerms {
     /// Those of the integer parameters.
-    pub(crate) fn new(alloc: Global, params: &[KParam]) -> Result<ValueTerms, AllocError>
+    pub(crate) fn new(alloc: Global, params: &[SsaParam]) -> Result<ValueTerms, AllocError>
         requires { length params.now ≤ 16 }
-        ensures first { IfOk result (λ known. known.first ≡ length (integer_widths params.now)) }
+        ensures first { IfOk result (λ known. known.first ≡ length (widths_of params.now)) }
         ensures terms { IfOk result
-            (λ known. trees_of known ≡ argument_terms 0 (integer_widths params.now)) }
+            (λ known. trees_of known ≡ argument_terms 0 (widths_of params.now)) }
     {
         let terms = argument_terms(alloc, params)?;
         Ok(ValueTerms {
@@ -50,25 +48,22 @@ impl ValueTerms {
         })
     }
 
-    /// The term of the value of one unit more. Gives its number.
+    /// The term of the value of one unit more.
     pub(crate) fn push(
         &mut self,
         alloc: Global,
         depth: Depth,
         unit: &SsaUnit,
-    ) -> Result<u32, AllocError>
+    ) -> Result<(), AllocError>
         requires few { length (trees_of self.old) < 2 ^ 32 }
         requires fit { UnitFits depth self.old.first (trees_of self.old) unit.now }
-        ensures first { IfOk result (λ number. self.new.first ≡ self.old.first) }
-        ensures terms { IfOk result
-            (λ number. trees_of self.new ≡ trees_of self.old
+        ensures first { OnOk result (self.new.first ≡ self.old.first) }
+        ensures terms { OnOk result (trees_of self.new ≡ trees_of self.old
             ++ unit_term depth self.old.first (trees_of self.old) unit.now ∷ []) }
-        ensures number { IfOk result (λ number. number ≡ length (trees_of self.old)) }
     {
-        let number = self.terms.len() as u32;
         let term = self.unit_term(alloc, depth, unit)?;
         self.terms.push(term)?;
-        Ok(number)
+        Ok(())
     }
 
     // The term of the next value.
@@ -235,15 +230,15 @@ fn cut_key(value: u32) -> LeafKey
 }
 
 // The terms of the integer parameters, in their order.
-fn argument_terms(alloc: Global, params: &[KParam]) -> Result<Vec<Term>, AllocError>
+fn argument_terms(alloc: Global, params: &[SsaParam]) -> Result<Vec<Term>, AllocError>
     requires { length params.now ≤ 16 }
     ensures { IfOk result
-        (λ terms. map tree terms.items ≡ argument_terms 0 (integer_widths params.now)) }
+        (λ terms. map tree terms.items ≡ argument_terms 0 (widths_of params.now)) }
 {
     let mut terms = Vec::new(alloc);
     let mut rest = params;
     'params: while let [param, behind @ ..] = rest {
-        if let KParamKind::Integer(width) = param.kind {
+        if let SsaParamKind::Integer(width) = param.kind {
             let number = terms.len() as u32;
             terms.push(make_leaf(width.bits(), argument_key(number)))?;
         }
@@ -252,26 +247,25 @@ fn argument_terms(alloc: Global, params: &[KParam]) -> Result<Vec<Term>, AllocEr
     Ok(terms)
 }
 
-/// The cut terms of the values of a kernel with these parameters and units, which are numbered
-/// after the integer parameters.
-pub(crate) fn cut_terms(
+/// The terms of the values of units over these parameters. The units are numbered after the integer
+/// parameters.
+pub(crate) fn terms_of_units(
     alloc: Global,
-    params: &[KParam],
+    depth: Depth,
+    params: &[SsaParam],
     units: &[SsaUnit],
 ) -> Result<Vec<Term>, AllocError>
     requires params { length params.now ≤ 16 }
-    requires few { length (integer_widths params.now) + length units.now < 2 ^ 32 }
-    requires fit { UnitsFit Depth.Cut (length (integer_widths params.now))
-        (argument_terms 0 (integer_widths params.now)) units.now }
+    requires few { length (widths_of params.now) + length units.now < 2 ^ 32 }
+    requires fit { UnitsFit depth (length (widths_of params.now))
+        (argument_terms 0 (widths_of params.now)) units.now }
     ensures { IfOk result
-        (λ terms. map tree terms.items
-        ≡ terms_behind Depth.Cut (length (integer_widths params.now))
-        (argument_terms 0 (integer_widths params.now)) units.now) }
+        (λ terms. map tree terms.items ≡ terms_over depth params.now units.now) }
 {
     let mut known = ValueTerms::new(alloc, params)?;
     let mut rest = units;
     'units: while let [unit, behind @ ..] = rest {
-        let _number = known.push(alloc, Depth::Cut, unit)?;
+        known.push(alloc, depth, unit)?;
         rest = behind;
     }
     let ValueTerms { first: _, terms } = known;

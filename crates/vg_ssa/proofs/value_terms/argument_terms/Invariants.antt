@@ -1,5 +1,5 @@
 use Rattle.std.proofs.Common.{◌≡◌, ◌+◌, ◌≤◌, ◌++◌, length, map, vec_len}
-use Rattle.vg_kernel.specs.WellFormed.{integer_widths}
+use Rattle.vg_ssa.specs.OfUnits.{widths_of}
 use Rattle.vg_ssa.specs.ValueTerm.{argument_terms}
 use Rattle.vg_terms.specs.Term.{tree}
 use Rattle.vg_ssa.proofs.value_terms.argument_terms.Given as goal
@@ -7,7 +7,7 @@ use Rattle.vg_ssa.proofs.value_terms.argument_terms.Given as goal
 -- the terms so far and those of the parameters that are left are all
 abbrev pub invariant-params : goal.invariant-params
 invariant-params l = record {
-  all : map tree l.terms.items ++ argument_terms (vec_len l.terms) (integer_widths l.rest) ≡ argument_terms 0 (integer_widths l.params);
+  all : map tree l.terms.items ++ argument_terms (vec_len l.terms) (widths_of l.rest) ≡ argument_terms 0 (widths_of l.params);
   few : vec_len l.terms + length l.rest ≤ 16;
 }
 
