@@ -1,0 +1,4 @@
+pub mod Laws
+pub mod Operand
+pub mod Span
+pub mod Spans
