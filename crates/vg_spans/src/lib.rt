@@ -12,5 +12,6 @@ mod span;
 mod value_spans;
 
 pub use law::spans_hold;
+pub use operand_spans::{operand_span, span_at};
 pub use span::Span;
 pub use value_spans::spans;

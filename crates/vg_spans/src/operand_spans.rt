@@ -20,8 +20,8 @@ pub struct OperandSpans {
     pub unsigned: Span,
 }
 
-// The span of a value, where the values have these.
-fn span_at(spans: &[Span], value: u32) -> Span
+/// The span of a value, where the values have these.
+pub fn span_at(spans: &[Span], value: u32) -> Span
     ensures { result ≡ slice_index_or spans.now value (only (pos 0)) }
 {
     spans.get(value as usize).copied().unwrap_or(Span::only(0))
