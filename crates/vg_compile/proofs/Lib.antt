@@ -1,5 +1,6 @@
 pub mod Carried
 pub mod Choices
+pub mod Described
 pub mod EmptyPlan
 pub mod Joined
 pub mod More

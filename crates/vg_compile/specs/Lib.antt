@@ -1,5 +1,6 @@
 pub mod Chosen
 pub mod Compiled
+pub mod Described
 pub mod Emitted
 pub mod Laws
 pub mod Means

@@ -1,11 +1,15 @@
 //! The program of a kernel.
 
-ghost use Rattle.std.specs.Prelude.{true, false, IfOk};
+ghost use Rattle.std.specs.Prelude.{true, false, IfOk, map};
+ghost use Rattle.std.specs.List.{AllByRecursion};
 ghost use Rattle.vg_catalog.specs.Catalogs.{entries_in};
 ghost use Rattle.vg_catalog.specs.Extensions.{bits_in};
 ghost use Rattle.vg_compile.specs.Compiled.{IsCompiled};
+ghost use Rattle.vg_compile.specs.Described.{IsCompiledBy};
+ghost use Rattle.vg_emission.specs.Truth.{IsCallable};
 ghost use Rattle.vg_kernel.specs.Tree.{tree_of};
 ghost use Rattle.vg_kernel.specs.WellFormed.{IsWellFormed};
+ghost use Rattle.vg_shapes.specs.Description.{description_of};
 
 use crate::emitting::emit_plan;
 use crate::more_plans::plan_more;
@@ -15,7 +19,73 @@ use vg_catalog::{Catalog, Extensions};
 use vg_descriptions::descriptions_of;
 use vg_kernel::Kernel;
 use vg_program::Program;
+use vg_shapes::Description;
 use vg_ssa::number_values;
+
+/// The program of the chosen plan of a kernel, by the descriptions of instances.
+fn compile_chosen(
+    alloc: Global,
+    descriptions: &[Description],
+    kernel: &Kernel,
+    width: u32,
+) -> Result<Program, AllocError>
+    requires kernel { IsWellFormed (tree_of kernel.now) }
+    requires callable { AllByRecursion IsCallable (map description_of descriptions.now) }
+    ensures { IfOk result (IsCompiledBy (map description_of descriptions.now) (tree_of kernel.now)
+        width false) }
+{
+    let ssa = number_values(alloc, kernel)?;
+    compile_units(alloc, descriptions, &ssa, width)
+}
+
+/// The program of the cheapest of the three plans of a kernel, by the descriptions of instances.
+fn compile_cheapest(
+    alloc: Global,
+    descriptions: &[Description],
+    kernel: &Kernel,
+    width: u32,
+) -> Result<Program, AllocError>
+    requires kernel { IsWellFormed (tree_of kernel.now) }
+    requires callable { AllByRecursion IsCallable (map description_of descriptions.now) }
+    ensures { IfOk result (IsCompiledBy (map description_of descriptions.now) (tree_of kernel.now)
+        width true) }
+{
+    let planned = plan_more(alloc, descriptions, kernel, width)?;
+    let values = &planned.values;
+    let chosen = &values.planned.chosen;
+    emit_plan(
+        alloc,
+        descriptions,
+        &chosen.plan,
+        &chosen.table,
+        &values.ssa,
+        &chosen.deps,
+    )
+}
+
+/// What `compile_by` gives of a catalogue and a set of extensions, by their descriptions, as
+/// `descriptions_of` gives them: so the entries of a catalogue are described once for many kernels.
+///
+/// Fails for want of memory, also past 2^24 matches and leaves that they bind, together, or 2^24
+/// packs that a search meets.
+pub fn compile_described(
+    alloc: Global,
+    descriptions: &[Description],
+    kernel: &Kernel,
+    width: u32,
+    more: bool,
+) -> Result<Program, AllocError>
+    requires kernel { IsWellFormed (tree_of kernel.now) }
+    requires callable { AllByRecursion IsCallable (map description_of descriptions.now) }
+    ensures { IfOk result (IsCompiledBy (map description_of descriptions.now) (tree_of kernel.now)
+        width more) }
+{
+    if more {
+        compile_cheapest(alloc, descriptions, kernel, width)
+    } else {
+        compile_chosen(alloc, descriptions, kernel, width)
+    }
+}
 
 /// The program of a kernel, which may call the instructions of a catalogue whose extension is in the set.
 ///
@@ -38,9 +108,7 @@ pub fn compile(
     ensures { IfOk result
         (IsCompiled (entries_in catalog.now) (bits_in allowed) (tree_of kernel.now) width false) }
 {
-    let ssa = number_values(alloc, kernel)?;
-    let descriptions = descriptions_of(alloc, catalog, allowed)?;
-    compile_units(alloc, descriptions.as_slice(), &ssa, width)
+    compile_by(alloc, catalog, allowed, kernel, width, false)
 }
 
 /// The same with more plans: the program of the first of the least cost of the plan that `compile`
@@ -61,19 +129,7 @@ pub fn compile_more(
     ensures { IfOk result
         (IsCompiled (entries_in catalog.now) (bits_in allowed) (tree_of kernel.now) width true) }
 {
-    let descriptions = descriptions_of(alloc, catalog, allowed)?;
-    let described = descriptions.as_slice();
-    let planned = plan_more(alloc, described, kernel, width)?;
-    let values = &planned.values;
-    let chosen = &values.planned.chosen;
-    emit_plan(
-        alloc,
-        described,
-        &chosen.plan,
-        &chosen.table,
-        &values.ssa,
-        &chosen.deps,
-    )
+    compile_by(alloc, catalog, allowed, kernel, width, true)
 }
 
 /// What `compile_more` gives where more plans are asked for, else what `compile` gives.
@@ -89,9 +145,6 @@ pub fn compile_by(
     ensures { IfOk result
         (IsCompiled (entries_in catalog.now) (bits_in allowed) (tree_of kernel.now) width more) }
 {
-    if more {
-        compile_more(alloc, catalog, allowed, kernel, width)
-    } else {
-        compile(alloc, catalog, allowed, kernel, width)
-    }
+    let descriptions = descriptions_of(alloc, catalog, allowed)?;
+    compile_described(alloc, descriptions.as_slice(), kernel, width, more)
 }

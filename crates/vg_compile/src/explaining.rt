@@ -1,10 +1,13 @@
 //! What is told of the plan of a kernel.
 
 ghost use Rattle.std.specs.Prelude.{◌≡◌, true, false, IfOk, map};
+ghost use Rattle.std.specs.List.{AllByRecursion};
 ghost use Rattle.vg_catalog.specs.Catalogs.{entries_in};
 ghost use Rattle.vg_catalog.specs.Extensions.{bits_in};
+ghost use Rattle.vg_compile.specs.Described.{IsExplainedBy};
 ghost use Rattle.vg_compile.specs.Means.{param_of};
 ghost use Rattle.vg_compile.specs.Planned.{IsExplained, costs_told};
+ghost use Rattle.vg_emission.specs.Truth.{IsCallable};
 ghost use Rattle.vg_kernel.specs.Tree.{tree_of};
 ghost use Rattle.vg_kernel.specs.WellFormed.{IsWellFormed};
 ghost use Rattle.vg_plan_text.specs.PlanText.{plan_text};
@@ -51,6 +54,69 @@ fn lines_on(
     )
 }
 
+/// The lines on the chosen plan of a kernel, by the descriptions of instances.
+fn explain_chosen(
+    alloc: Global,
+    descriptions: &[Description],
+    kernel: &Kernel,
+    width: u32,
+) -> Result<Vec<u8>, AllocError>
+    requires kernel { IsWellFormed (tree_of kernel.now) }
+    requires callable { AllByRecursion IsCallable (map description_of descriptions.now) }
+    ensures { IfOk result (λ text. IsExplainedBy (map description_of descriptions.now)
+        (tree_of kernel.now) width false text.items) }
+{
+    let ssa = number_values(alloc, kernel)?;
+    let planned = plan_units(alloc, descriptions, &ssa, width)?;
+    lines_on(alloc, kernel, descriptions, &ssa, &planned, planned.plain)
+}
+
+/// The lines on the cheapest of the three plans of a kernel, by the descriptions of instances.
+fn explain_cheapest(
+    alloc: Global,
+    descriptions: &[Description],
+    kernel: &Kernel,
+    width: u32,
+) -> Result<Vec<u8>, AllocError>
+    requires kernel { IsWellFormed (tree_of kernel.now) }
+    requires callable { AllByRecursion IsCallable (map description_of descriptions.now) }
+    ensures { IfOk result (λ text. IsExplainedBy (map description_of descriptions.now)
+        (tree_of kernel.now) width true text.items) }
+{
+    let more = plan_more(alloc, descriptions, kernel, width)?;
+    let values = &more.values;
+    lines_on(
+        alloc,
+        kernel,
+        descriptions,
+        &values.ssa,
+        &values.planned,
+        more.plain,
+    )
+}
+
+/// What `explain_by` gives of a catalogue and a set of extensions, by their descriptions, as
+/// `descriptions_of` gives them. Fails for want of memory, also at the bounds of
+/// `compile_described`.
+pub fn explain_described(
+    alloc: Global,
+    descriptions: &[Description],
+    kernel: &Kernel,
+    width: u32,
+    more: bool,
+) -> Result<Vec<u8>, AllocError>
+    requires kernel { IsWellFormed (tree_of kernel.now) }
+    requires callable { AllByRecursion IsCallable (map description_of descriptions.now) }
+    ensures { IfOk result (λ text. IsExplainedBy (map description_of descriptions.now)
+        (tree_of kernel.now) width more text.items) }
+{
+    if more {
+        explain_cheapest(alloc, descriptions, kernel, width)
+    } else {
+        explain_chosen(alloc, descriptions, kernel, width)
+    }
+}
+
 /// The lines on the chosen plan of a kernel, where the search keeps `width` plans of each size, as for
 /// `compile`: a line for each pack, in the order of the plan, and one on what the plan, the plain plan and the
 /// kernel cost. It is the plan that `compile` emits. Fails for want of memory, also at the bounds of
@@ -66,11 +132,7 @@ pub fn explain(
     ensures { IfOk result (λ text. IsExplained (entries_in catalog.now) (bits_in allowed)
         (tree_of kernel.now) width false text.items) }
 {
-    let ssa = number_values(alloc, kernel)?;
-    let descriptions = descriptions_of(alloc, catalog, allowed)?;
-    let described = descriptions.as_slice();
-    let planned = plan_units(alloc, described, &ssa, width)?;
-    lines_on(alloc, kernel, described, &ssa, &planned, planned.plain)
+    explain_by(alloc, catalog, allowed, kernel, width, false)
 }
 
 /// The lines on the plan of a kernel that `compile_more` emits: the cost of the plain plan, in
@@ -87,18 +149,7 @@ pub fn explain_more(
     ensures { IfOk result (λ text. IsExplained (entries_in catalog.now) (bits_in allowed)
         (tree_of kernel.now) width true text.items) }
 {
-    let descriptions = descriptions_of(alloc, catalog, allowed)?;
-    let described = descriptions.as_slice();
-    let more = plan_more(alloc, described, kernel, width)?;
-    let values = &more.values;
-    lines_on(
-        alloc,
-        kernel,
-        described,
-        &values.ssa,
-        &values.planned,
-        more.plain,
-    )
+    explain_by(alloc, catalog, allowed, kernel, width, true)
 }
 
 /// What `explain_more` gives where more plans are asked for, else what `explain` gives.
@@ -114,9 +165,6 @@ pub fn explain_by(
     ensures { IfOk result (λ text. IsExplained (entries_in catalog.now) (bits_in allowed)
         (tree_of kernel.now) width more text.items) }
 {
-    if more {
-        explain_more(alloc, catalog, allowed, kernel, width)
-    } else {
-        explain(alloc, catalog, allowed, kernel, width)
-    }
+    let descriptions = descriptions_of(alloc, catalog, allowed)?;
+    explain_described(alloc, descriptions.as_slice(), kernel, width, more)
 }

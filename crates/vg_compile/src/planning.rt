@@ -4,6 +4,7 @@ ghost use Rattle.std.specs.Prelude.{◌≡◌, IfOk, map};
 ghost use Rattle.std.specs.List.{AllByRecursion};
 ghost use Rattle.vg_catalog.specs.Catalogs.{entries_in};
 ghost use Rattle.vg_catalog.specs.Extensions.{bits_in};
+ghost use Rattle.vg_compile.specs.Described.{IsPlanBy};
 ghost use Rattle.vg_compile.specs.Planned.{IsPlanOf, IsPlanned};
 ghost use Rattle.vg_emission.specs.Truth.{IsCallable};
 ghost use Rattle.vg_descriptions.specs.Descriptions.{AreOf, descriptions};
@@ -57,6 +58,54 @@ pub(crate) fn plan_units(
     })
 }
 
+/// The plan of a kernel, with what it and others cost.
+#[derive(Drop)]
+pub struct Priced {
+    /// The packs of the plan, in the order in which it grew, their units numbered as by `number_values`.
+    pub plan: Plan,
+    /// What the plan costs.
+    pub cost: u64,
+    /// What the plain plan costs.
+    pub plain: u64,
+    /// What the kernel costs with a line for each load, operation and store.
+    pub scalar: u32,
+}
+
+/// What `plan_of` gives of a catalogue and a set of extensions, by their descriptions, as
+/// `descriptions_of` gives them: a pack names an instance by its index there. Fails for want of
+/// memory, also at the bounds of `compile_described`.
+pub fn plan_described(
+    alloc: Global,
+    descriptions: &[Description],
+    kernel: &Kernel,
+    width: u32,
+) -> Result<Priced, AllocError>
+    requires kernel { IsWellFormed (tree_of kernel.now) }
+    requires callable { AllByRecursion IsCallable (map description_of descriptions.now) }
+    ensures plan { IfOk result (λ p. IsPlanBy (map description_of descriptions.now)
+        (tree_of kernel.now) width p.plan p.cost p.plain) }
+    ensures scalar { IfOk result (λ p. p.scalar ≡ scalar_cost (tree_of kernel.now)) }
+{
+    let ssa = number_values(alloc, kernel)?;
+    let planned = plan_units(alloc, descriptions, &ssa, width)?;
+    let Planned {
+        chosen,
+        cost,
+        plain,
+    } = planned;
+    let ChosenPlan {
+        table: _,
+        deps: _,
+        plan,
+    } = chosen;
+    Ok(Priced {
+        plan,
+        cost,
+        plain,
+        scalar: scalar_cost(kernel),
+    })
+}
+
 /// The plan of a kernel, with the descriptions by which its packs name the instances that they call.
 #[derive(Drop)]
 pub struct Chosen {
@@ -96,24 +145,19 @@ pub fn plan_of(
         (map description_of c.descriptions.items)) }
     ensures scalar { IfOk result (λ c. c.scalar ≡ scalar_cost (tree_of kernel.now)) }
 {
-    let ssa = number_values(alloc, kernel)?;
     let descriptions = descriptions_of(alloc, catalog, allowed)?;
-    let planned = plan_units(alloc, descriptions.as_slice(), &ssa, width)?;
-    let Planned {
-        chosen,
+    let priced = plan_described(alloc, descriptions.as_slice(), kernel, width)?;
+    let Priced {
+        plan,
         cost,
         plain,
-    } = planned;
-    let ChosenPlan {
-        table: _,
-        deps: _,
-        plan,
-    } = chosen;
+        scalar,
+    } = priced;
     Ok(Chosen {
         plan,
         descriptions,
         cost,
         plain,
-        scalar: scalar_cost(kernel),
+        scalar,
     })
 }
