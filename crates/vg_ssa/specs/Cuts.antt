@@ -1,5 +1,5 @@
 -- The cut terms of the values of a kernel.
-use Rattle.std.specs.Prelude.{◌≡◌, ℕ, Some, unwrap_or}
+use Rattle.std.specs.Prelude.{◌≡◌, ℕ, List, Some, unwrap_or}
 use Rattle.vg_base.specs.declared.width.Width.{Width}
 use Rattle.vg_base.specs.Width.{bits_of}
 use Rattle.vg_kernel.specs.Tree.{Tree as Kernel}
@@ -12,16 +12,24 @@ use Rattle.vg_shapes.specs.declared.wanted.Wanted.{Wanted}
 use Rattle.vg_shapes.specs.declared.wanted.Wanted.TheVariants.{Value, Constant, Nothing}
 use Rattle.vg_shapes.specs.Sound.{cut_at, cuts_of, name_at}
 use Rattle.vg_shapes.specs.Units.{unit_at}
-use Rattle.vg_ssa.specs.declared.value_terms.Depth.TheVariants.{Cut}
+use Rattle.vg_ssa.specs.declared.value_terms.Depth.TheVariants.{Whole, Cut}
 use Rattle.vg_ssa.specs.Numbering.{first_unit, units_of}
 use Rattle.vg_ssa.specs.ValueTerm.{argument_terms, no_term, over_operands, terms_behind}
 use Rattle.vg_terms.specs.Term.{Tree, constant}
 
+-- for each number of the values of a kernel its term
+abbrev pub whole_terms : Kernel → List Tree
+whole_terms k =
+    terms_behind Whole (first_unit k) (argument_terms 0 (integer_widths k.params)) (units_of k)
+
+-- and its cut term
+abbrev pub cut_terms : Kernel → List Tree
+cut_terms k =
+    terms_behind Cut (first_unit k) (argument_terms 0 (integer_widths k.params)) (units_of k)
+
 -- each value has its cut term
 abbrev pub HasCuts : Kernel → Ssa → Type 0
-HasCuts k ssa =
-    cuts_of ssa
-    ≡ terms_behind Cut (first_unit k) (argument_terms 0 (integer_widths k.params)) (units_of k)
+HasCuts k ssa = cuts_of ssa ≡ cut_terms k
 
 -- the name of an operand; a constant is itself
 abbrev pub named : Ssa → Wanted → Tree
