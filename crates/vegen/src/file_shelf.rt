@@ -1,6 +1,6 @@
 //! Files by their paths. What a real file holds is trusted, and not told.
 
-ghost use Rattle.std.specs.Prelude.{◌≤◌, None};
+ghost use Rattle.std.specs.Prelude.{◌≡◌, ◌≤◌, ◌+◌, take, IfOk, IfSome, None};
 
 use std::alloc::{AllocError, Global};
 use std::fs;
@@ -27,7 +27,10 @@ impl<R> Drop for FileShelf<'_, R> {
 
 impl<'a, R: Files> FileShelf<'a, R> {
     /// The files that this runtime opens, with no absence and no fault counted.
-    pub fn new(rt: &'a R) -> FileShelf<'a, R> {
+    pub fn new(rt: &'a R) -> FileShelf<'a, R>
+        ensures absents { result.absents ≡ 0 }
+        ensures faults { result.faults ≡ 0 }
+    {
         FileShelf {
             rt,
             absents: 0,
@@ -43,7 +46,10 @@ enum Stop {
 }
 
 /// The first `limit + 1` bytes, or all where there are fewer.
-fn read_front<F: Read>(alloc: Global, file: &mut F, limit: u64) -> Result<Vec<u8>, Stop> {
+fn read_front<F: Read>(alloc: Global, file: &mut F, limit: u64) -> Result<Vec<u8>, Stop>
+    ensures { IfOk result (λ bytes. IfSome (F.remaining file.old) (λ all.
+        bytes.items ≡ take (limit + 1) all)) }
+{
     let mut bytes = Vec::new(alloc);
     let mut buffer = [0u8; 4096];
     'pieces: for _ in 0..u64::MAX {
@@ -104,7 +110,47 @@ impl<R: Files> Shelf for FileShelf<'_, R> {
 #[cfg(test)]
 mod tests {
     use super::*;
+    use std::io;
     use std::test::Fail;
+
+    /// Gives one byte a call, and is interrupted before each call that gives something.
+    #[derive(Drop)]
+    struct Halting {
+        bytes: Vec<u8>,
+        given: usize,
+        halted: bool,
+    }
+
+    impl Read for Halting {
+        fn read(&mut self, buf: &mut [u8]) -> io::Result<usize> {
+            self.halted = !self.halted;
+            if self.halted {
+                return Err(io::Error::from(ErrorKind::Interrupted));
+            }
+            if self.given < self.bytes.len() && !buf.is_empty() {
+                buf[0] = self.bytes[self.given];
+                self.given += 1;
+                return Ok(1);
+            }
+            Ok(0)
+        }
+    }
+
+    /// What is read up to a limit of nine bytes that come one by one.
+    fn read_one_by_one(alloc: Global, limit: u64) -> Result<Vec<u8>, Fail> {
+        let mut bytes = Vec::new(alloc);
+        bytes.extend_from_slice(b"123456789")?;
+        let mut slow = Halting {
+            bytes,
+            given: 0,
+            halted: false,
+        };
+        match read_front(alloc, &mut slow, limit) {
+            Ok(front) => Ok(front),
+            Err(Stop::Memory(error)) => Err(Fail::from(error)),
+            Err(Stop::Failed) => Err(Fail::from(AllocError)),
+        }
+    }
 
     /// So many bytes, each unlike the 250 before it.
     fn many_bytes(alloc: Global, count: usize) -> Result<Vec<u8>, AllocError> {
@@ -125,6 +171,15 @@ mod tests {
         let front = many_bytes(rt.alloc(), 5_000_000)?;
         assert!(rt; shelf.read(rt.alloc(), "large", 4_999_999)? == front);
         assert_eq!(rt; shelf.faults, 0);
+        Ok(())
+    }
+
+    #[test]
+    fn bytes_that_come_one_by_one_are_all_read(rt: HostRuntime) -> Result<(), Fail> {
+        let all = read_one_by_one(rt.alloc(), 9)?;
+        assert_eq!(rt; all.as_slice(), b"123456789".as_slice());
+        let front = read_one_by_one(rt.alloc(), 4)?;
+        assert_eq!(rt; front.as_slice(), b"12345".as_slice());
         Ok(())
     }
 

@@ -3,9 +3,11 @@
 #![tactic(auto)]
 
 mod file_shelf;
+mod program_words;
 mod stream_sink;
 
 use file_shelf::FileShelf;
+use program_words::words_behind_name;
 use std::alloc::{AllocError, Global};
 use std::env;
 use std::io::ErrorKind;
@@ -29,20 +31,13 @@ impl From<AllocError> for NoWords {
 
 /// The words after the name of the program.
 fn words_of(rt: &HostRuntime, alloc: Global) -> Result<Words, NoWords> {
-    let all = match env::args(rt) {
-        Ok(all) => all,
-        Err(error) => {
-            return Err(match error.kind() {
-                ErrorKind::OutOfMemory => NoWords::Memory,
-                _ => NoWords::NotText,
-            });
-        }
-    };
-    let mut words = Words::new(alloc);
-    for word in all.skip(1) {
-        words.push(word.as_bytes())?;
+    match env::args(rt) {
+        Ok(all) => Ok(words_behind_name(alloc, all)?),
+        Err(error) => Err(match error.kind() {
+            ErrorKind::OutOfMemory => NoWords::Memory,
+            _ => NoWords::NotText,
+        }),
     }
-    Ok(words)
 }
 
 fn main(rt: HostRuntime) -> ExitCode {

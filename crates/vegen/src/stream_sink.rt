@@ -1,6 +1,8 @@
 //! A stream as a sink. What it shows is trusted, and not told.
 
-ghost use Rattle.std.specs.Prelude.{None};
+ghost use Rattle.std.specs.Prelude.{◌≡◌, ℕ, ◌≤◌, take, None, OnOk, OnErr};
+ghost use Rattle.std.specs.Io.KnownBytes.{Appends};
+ghost use Rattle.vg_outside.specs.Count.{Rose};
 
 use std::io::{ErrorKind, Write};
 use vg_outside::{Sink, SinkFault};
@@ -14,24 +16,32 @@ pub struct StreamSink<W> {
 
 impl<W: Write> StreamSink<W> {
     /// The sink that writes to this stream, with no fault counted.
-    pub fn new(to: W) -> StreamSink<W> {
+    pub fn new(to: W) -> StreamSink<W>
+        ensures stream { result.to ≡ to }
+        ensures faults { result.faults ≡ 0 }
+    {
         StreamSink { to, faults: 0 }
     }
 }
 
 /// Writes all bytes and flushes. A write that takes nothing is a failure.
-fn write_whole<W: Write>(to: &mut W, bytes: &[u8]) -> Result<(), SinkFault> {
-    let mut rest = bytes;
+#[tactic(auto, using(crate::proofs::Streams::appends_more))]
+fn write_whole<W: Write>(to: &mut W, bytes: &[u8]) -> Result<(), SinkFault>
+    ensures whole { OnOk result (Appends (W.contents to.old) (W.contents to.new) bytes.now) }
+    ensures front { OnErr result ((n : ℕ)
+        × Appends (W.contents to.old) (W.contents to.new) (take n bytes.now)) }
+{
+    let mut done = 0;
     'pieces: for _ in 0..u64::MAX {
-        if rest.is_empty() {
+        if done == bytes.len() {
             return match to.flush() {
                 Ok(()) => Ok(()),
                 Err(_) => Err(SinkFault),
             };
         }
-        match to.write(rest) {
+        match to.write(&bytes[done..]) {
             Ok(0) => return Err(SinkFault),
-            Ok(count) => rest = &rest[count..],
+            Ok(count) => done += count,
             Err(error) => {
                 if error.kind() != ErrorKind::Interrupted {
                     return Err(SinkFault);
@@ -47,7 +57,14 @@ impl<W: Write> Sink for StreamSink<W> {
 
     ghost faults = { λ s. s.faults };
 
-    fn write(&mut self, bytes: &[u8]) -> Result<(), SinkFault> {
+    fn write(&mut self, bytes: &[u8]) -> Result<(), SinkFault>
+        ensures whole { OnOk result
+            (Appends (W.contents self.old.to) (W.contents self.new.to) bytes.now) }
+        ensures front { OnErr result ((n : ℕ)
+            × Appends (W.contents self.old.to) (W.contents self.new.to) (take n bytes.now)) }
+        ensures fault { OnErr result (Rose self.old.faults self.new.faults) }
+        ensures faults_never_fall { self.old.faults ≤ self.new.faults }
+    {
         let written = write_whole(&mut self.to, bytes);
         if written.is_err() {
             self.faults = self.faults.saturating_add(1);
@@ -62,15 +79,20 @@ mod tests {
     use std::io;
     use std::test::Fail;
 
-    /// Takes three bytes a call, up to its room.
+    /// Takes three bytes a call, up to its room, and is interrupted before each call that takes some.
     #[derive(Drop)]
     struct Narrow {
         bytes: Vec<u8>,
         room: usize,
+        halted: bool,
     }
 
     impl Write for Narrow {
         fn write(&mut self, buf: &[u8]) -> io::Result<usize> {
+            self.halted = !self.halted;
+            if self.halted {
+                return Err(io::Error::from(ErrorKind::Interrupted));
+            }
             let left = self.room.saturating_sub(self.bytes.len());
             let count = buf.len().min(3).min(left);
             self.bytes.extend_from_slice(&buf[..count])?;
@@ -130,6 +152,7 @@ mod tests {
         let narrow = Narrow {
             bytes: Vec::new(rt.alloc()),
             room: 10,
+            halted: false,
         };
         let mut sink = StreamSink::new(narrow);
         assert!(rt; sink.write(b"1234567").is_ok());
