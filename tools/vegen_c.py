@@ -1,5 +1,7 @@
 """Program texts as C with intrinsics, and what the tools beside this file share: headers of instruction files, the table of calls."""
-import os, re
+import collections, os, re
+
+from program_text import Fault, Text
 
 LIBRARY = os.path.join(os.path.dirname(os.path.abspath(__file__)), '..', 'library')
 REGISTERS = {128: '__m128i', 256: '__m256i', 512: '__m512i'}
@@ -64,11 +66,14 @@ def read_entries(path):
     return entries
 
 
+LIBRARY_FILES = [os.path.join(LIBRARY, name) for name in ('avx512', 'avx2', 'sse')]
+
+
 def library_entries():
-    """All entries of the library; what stands in more than one file is the same there."""
+    """All entries of the library; what stands in more than one file is the same there, but for fewer immediates in `avx512`."""
     entries = {}
-    for name in ('sse', 'avx2', 'avx512'):
-        entries.update(read_entries(os.path.join(LIBRARY, name)))
+    for path in LIBRARY_FILES:
+        entries.update(read_entries(path))
     return entries
 
 
@@ -83,40 +88,85 @@ def read_calls(path=os.path.join(LIBRARY, 'calls')):
     return calls
 
 
-class Fault(Exception):
-    """A program that is none of the entries that are given, with the line."""
+class Chain:
+    """A register that inserts make of a constant: the constant's register and bytes, the width of the lanes, the operands of those that
+    are inserted, and the registers between."""
+
+    def __init__(self, base, data, width, operands=None, between=()):
+        self.base, self.data, self.width, self.operands, self.between = base, data, width, operands or {}, between
+
+    def longer(self, register, lane, operand):
+        """The chain with an insert more into the register that it made so far."""
+        between = (*self.between, register) if self.operands else ()
+        return Chain(self.base, self.data, self.width, {**self.operands, lane: operand}, between)
+
+    def lanes(self):
+        """The lanes from the lowest: an operand, or the number of one that is left or a literal."""
+        size = self.width // 8
+        left = [int.from_bytes(self.data[at:at + size], 'little') for at in range(0, len(self.data), size)]
+        some = [self.operands.get(lane, number) for lane, number in enumerate(left)]
+        return [int(lane.split('i')[0]) if str(lane)[0].isdigit() and isinstance(lane, str) else lane for lane in some]
 
 
-class Translation:
-    """The C of one program: what `vegen run` accepts, by the entries that it calls."""
+    def is_set(self):
+        """Whether a `set` is better than the inserts: gcc puts a lane of 8 or 16 bits that is a constant other than zero together anew."""
+        return self.width > 16 or not any(isinstance(lane, int) and lane for lane in self.lanes())
 
-    def __init__(self, text, entries, calls, name=None):
-        self.entries, self.calls, self.lines, self.features = entries, calls, [], set()
-        self.helpers, self.widths, self.scalars, self.used = {}, {}, {}, set()
-        rows = text.rstrip('\n').split('\n')
-        head = re.match(r'program (\w+)\((.*)\)$', rows[0])
-        if not head:
-            raise Fault(f'line 1: no program: {rows[0]}')
-        self.program = head.group(1)
-        self.name = c_name(name or self.program, ())
-        self.parameters(head.group(2))
-        for at, row in enumerate(rows[1:-1], 2):
+
+class Chains:
+    """The inserts of a body that one intrinsic takes the place of: the chains by their last register, and what is not written then."""
+
+    def __init__(self):
+        self.ends, self.without, self.constants, self.uses = {}, set(), {}, collections.Counter()
+
+    def count(self, row):
+        self.uses.update(word for word in row.split(' ')[1:] if word.startswith('%v'))
+
+    def see(self, row, width_of):
+        """A row in its turn; `width_of` gives the width of an operand."""
+        target, _, operation, *words = row.split(' ')
+        if operation == 'const':
+            self.constants[target] = bytes.fromhex(words[0])
+        elif operation == 'insert':
+            base, lane, width = words[0], int(words[1]), width_of(words[2])
+            if base in self.ends and self.uses[base] == 1 and self.ends[base].width == width:
+                self.ends[target] = self.ends.pop(base).longer(base, lane, words[2])
+            elif base in self.constants:
+                self.ends[target] = Chain(base, self.constants[base], width).longer(base, lane, words[2])
+
+    def close(self):
+        self.ends = {target: chain for target, chain in self.ends.items() if chain.is_set()}
+        self.without = {register for chain in self.ends.values() for register in chain.between}
+        starts = collections.Counter(chain.base for chain in self.ends.values())
+        self.without |= {base for base, count in starts.items() if count == self.uses[base]}
+
+
+class Function:
+    """The C of one body, by the entries that it calls; what all bodies of a text share is in `whole`."""
+
+    def __init__(self, whole, body):
+        self.whole, self.features, self.helper = whole, whole.features, whole.helper
+        self.lines, self.widths, self.scalars, self.used = [], {}, dict(whole.scalars), set()
+        self.chains = Chains()
+        self.each(body, self.chains.count)
+        self.each(body, self.see)
+        self.chains.close()
+        self.each(body, self.line)
+
+    def each(self, body, act):
+        for at, row in enumerate(body.lines, body.first):
             try:
-                self.line(row)
-            except (KeyError, ValueError, IndexError) as fault:
-                raise Fault(f'line {at}: {row}: {fault!r}')
-        self.end = rows[-1]
+                act(row)
+            except (KeyError, ValueError, IndexError, AttributeError, TypeError) as fault:
+                raise Fault(f'line {at}: {row}: {fault!r}') from None
 
-    def parameters(self, text):
-        self.names, self.signature = {}, []
-        for part in filter(None, text.split(', ')):
-            name, kind = part.split(': ')
-            self.names[name] = c = c_name(name, self.names.values())
-            if kind == 'ptr':
-                self.signature.append(('ptr', name, c))
-            else:
-                self.signature.append((kind, name, c))
-                self.scalars[name] = int(kind[1:])
+    def see(self, row):
+        """What stands before the lines are written: the widths of the scalars, and the chains."""
+        target, _, kind = row.split(' ')[0].partition(':')
+        if target.startswith('%s'):
+            self.scalars[target] = int(kind[1:])
+        if target.startswith('%v'):
+            self.chains.see(row, lambda word: int(word.split('i')[1]) if word[0].isdigit() else self.scalars[word])
 
     # Operands
 
@@ -129,8 +179,8 @@ class Translation:
         if literal:
             number, width = int(literal.group(1)), int(literal.group(2))
             return (f'UINT{width}_C({number})' if width > 16 else str(number)), width
-        self.used.add(self.names[word])
-        return self.names[word], self.scalars[word]
+        self.used.add(self.whole.names[word])
+        return self.whole.names[word], self.scalars[word]
 
     def register(self, word):
         self.used.add(word[1:])
@@ -138,13 +188,13 @@ class Translation:
 
     def place(self, word):
         name, sign, offset = re.match(r'(\w+)([+-])(\d+)$', word).groups()
-        self.used.add(self.names[name])
-        return f'{self.names[name]} {sign} {offset}'
+        self.used.add(self.whole.names[name])
+        return f'{self.whole.names[name]} {sign} {offset}'
 
-    def helper(self, name, text):
-        """A small function that stands above the program's."""
-        self.helpers.setdefault(name, text)
-        return name
+    def stored(self, word):
+        """A place to which something is stored."""
+        self.whole.stored.add(re.match(r'\w+', word).group(0))
+        return self.place(word)
 
     # Lines
 
@@ -157,18 +207,20 @@ class Translation:
             value, width = self.operand(words[2])
             name = self.helper(f'vegen_store{width}', f'static inline void vegen_store{width}(unsigned char *p, uint{width}_t x)\n'
                                '{\n    memcpy(p, &x, sizeof x);\n}')
-            return self.put(f'{name}({self.place(words[1])}, {value});')
+            return self.put(f'{name}({self.stored(words[1])}, {value});')
         if words[0] == 'vstore':
-            return self.vstore(int(words[1]), self.place(words[2]), self.register(words[3])[0])
+            return self.vstore(int(words[1]), self.stored(words[2]), self.register(words[3])[0])
         target, kind = (words[0].split(':') + [None])[:2]
+        if target in self.chains.without:
+            return None
         if target.startswith('%v'):
-            c, width = self.vector(words[2], words[3:])
+            c, width = self.set(self.chains.ends[target]) if target in self.chains.ends else self.vector(words[2], words[3:])
             self.widths[target] = width
             return self.put(f'const {REGISTERS[width]} {target[1:]} = {c};')
         width = int(kind[1:])
         c = self.extract(words, width) if words[2] == 'extract' else self.scalar(words[2], words[3:], width)
         self.scalars[target] = width
-        return self.put(f'const {"int" if width == 1 else f"uint{width}_t"} {target[1:]} = {c};')
+        self.put(f'const {"int" if width == 1 else f"uint{width}_t"} {target[1:]} = {c};')
 
     def scalar(self, operation, words, width):
         """C of a line that gives an integer; each result is a number of its width."""
@@ -223,6 +275,16 @@ class Translation:
         self.features |= {'avx2'} if of == 256 else {'sse4.1'} if width != 16 else set()
         return f'_mm{"256" if of == 256 else ""}_insert_epi{width}({register}, ({kind}){value}, {lane})'
 
+    def set(self, chain):
+        """C of a register that a chain of inserts makes, and its width."""
+        lanes, bits = chain.lanes(), 8 * len(chain.data)
+        self.features |= {256: {'avx'}, 512: {'avx512f'}}.get(bits, set())
+        name = f'_mm{"" if bits == 128 else bits}_set{{}}_epi{chain.width}{"x" if chain.width == 64 and bits < 512 else ""}'
+        c = [self.operand(lane)[0] if isinstance(lane, str) else literal(lane, chain.width) for lane in reversed(lanes)]
+        if len(set(lanes)) == 1:
+            return f'{name.format("1")}({c[0]})', bits
+        return f'{name.format("")}({", ".join(c)})', bits
+
     def vector(self, operation, words):
         """C of a line that gives a register, and the register's width."""
         if operation == 'vload':
@@ -235,17 +297,19 @@ class Translation:
             register, of = self.register(words[0])
             value, width = self.operand(words[2])
             return self.insert(register, of, int(words[1]), value, width), of
-        entry = self.entries[words[0]]
+        entry = self.whole.entries[words[0]]
         immediate = words[-1] if entry.immediate else None
         registers = [self.register(word)[0] for word in words[1:1 + len(entry.parameters)]]
-        self.features |= set(features_of(entry))
+        self.features |= set(features_of(entry, self.whole.avx512vnni))
         return self.call(entry, registers, immediate), entry.result
 
     def call(self, entry, registers, immediate):
-        names, c = self.calls.get(entry.name, (None, None))
+        names, c = self.whole.calls.get(entry.name, ([name for name, _ in entry.parameters] + ['imm8'], None))
         arguments = registers + ([immediate] if immediate else [])
         if c is None:
-            return f'{entry.name}({", ".join(arguments)})'
+            c = f'{entry.name}({", ".join(names[:len(arguments)])})'
+        if self.whole.avx512vnni or entry.extension != 'AVX_VNNI':
+            c = c.replace('_avx_epi32(', '_epi32(')
         if 'return ' not in c:
             return re.sub(r'\b\w+\b', lambda match: dict(zip(names, arguments)).get(match.group(0), match.group(0)), c)
         parameters = ', '.join(f'{REGISTERS[width]} {name}' for name, (_, width) in zip(names, entry.parameters))
@@ -273,25 +337,125 @@ class Translation:
                   32: f'_mm256_storeu_si256((__m256i *)({place}), {register});',
                   64: f'_mm512_storeu_si512((void *)({place}), {register});'}[size])
 
-    # The whole
+
+class Translation:
+    """The C of a text that `vegen run` accepts, plain, guarded or looped. With the kernel of the text (layouts.Kernel) pointers that it
+    says are noalias are `restrict`; with avx512vnni its VNNI instructions are those of AVX-512VL."""
+
+    def __init__(self, text, entries, calls, name=None, kernel=None, avx512vnni=False):
+        self.source, self.entries, self.calls, self.avx512vnni = Text(text), entries, calls, avx512vnni
+        self.features, self.helpers, self.scalars, self.names, self.stored = set(), {}, {}, {}, set()
+        self.program, self.kind = self.source.name, self.source.kind
+        self.name = c_name(name or self.program, ())
+        self.alone = {word for word, _, alone in kernel.parameters if alone} if kernel else set()
+        self.signature, parts = [], [f'{self.name}_{part}' for part in self.source.bodies]
+        for word, kind in self.source.parameters:
+            self.names[word] = c = c_name(word, [*self.names.values(), *parts])
+            self.signature.append((kind, word, c))
+            if kind != 'ptr':
+                self.scalars[word] = int(kind[1:])
+        self.functions = {part: Function(self, body) for part, body in self.source.bodies.items() if self.has(part)}
+        self.apart = {word for word, kind in self.source.parameters if kind == 'ptr'} if kernel and self.source.checks else set()
+
+    def has(self, part):
+        """Whether a body can come to be run: no other side is where nothing is checked, no rest where a block is one turn."""
+        return self.source.checks if part == 'else' else self.source.block > 1 if part == 'rest' else True
+
+    def helper(self, name, text):
+        """A small function that stands above the program's."""
+        self.helpers.setdefault(name, text)
+        return name
 
     def target(self):
         some = sorted(self.features, key=ORDER.index)
         return f'__attribute__((target("{",".join(some)}")))\n' if some else ''
 
+    def parameters(self, alone, restrict='restrict'):
+        """The parameters as C declares them; `alone` are the pointers that share no byte with another that is stored through."""
+        def declared(kind, word, c):
+            if kind != 'ptr':
+                return f'uint{kind[1:]}_t {c}'
+            return f'{"" if word in self.stored else "const "}unsigned char *{restrict + " " if word in alone else ""}{c}'
+        return ', '.join(declared(*parameter) for parameter in self.signature) or 'void'
+
+    def of_body(self, head, lines, function):
+        """A function with the lines of a body, and what is not used in it."""
+        defined = re.findall(r'^const [^=]* (\w+) =', '\n'.join(lines), re.M)
+        unused = [c for _, _, c in self.signature if c not in function.used] + [c for c in defined if c not in function.used]
+        return f'{self.target()}{head}\n{{\n' + ''.join(f'    {l}\n' for l in [*lines, *(f'(void){c};' for c in unused)]) + '}\n'
+
+    def part(self, name):
+        """The function of one body of a text that has more than one."""
+        alone = self.alone | (self.apart if name == 'then' else set())
+        head = f'static inline void {self.name}_{name}({self.parameters(alone)})'
+        return self.of_body(head, self.functions[name].lines, self.functions[name]) + '\n'
+
+    def call_of(self, part, turn=None):
+        """The call of a body's function, its pointers moved on by so many turns."""
+        def argument(word, c):
+            step = self.source.steps.get(word) if turn else None
+            return c if step is None else f'{c} + {turn}' if step == 1 else f'{c} + {step} * {turn}'
+        return f'{self.name}_{part}({", ".join(argument(word, c) for _, word, c in self.signature)});'
+
+    def chosen(self, turn=None):
+        """What is done once, or for each block: the body, or that side of it which the checks choose."""
+        if 'then' not in self.functions:
+            return [self.call_of('block', turn)]
+        if 'else' not in self.functions:
+            return [self.call_of('then', turn)]
+        tests = []
+        for p, n, size, q, m, other in self.source.checks:
+            p, q = self.names[p], self.names[q]
+            tests.append(f'vegen_after({p}, {q}, {n + size - m}) || vegen_after({q}, {p}, {m + other - n})')
+        tests = f'({") && (".join(tests)})' if len(tests) > 1 else tests[0]
+        self.helper('vegen_after', AFTER)
+        return [f'if ({tests})', '    ' + self.call_of('then', turn), 'else', '    ' + self.call_of('else', turn)]
+
+    def acts(self):
+        """The lines of the function of a text with more than one body."""
+        if not self.source.times:
+            return self.chosen()
+        n, u, turn = self.names[self.source.times], self.source.block, 'vegen_turn'
+        lines = [f'uint64_t {turn} = 0;', f'for (; {n} - {turn} >= {u}; {turn} += {u})', *('    ' + line for line in self.chosen(turn))]
+        return lines + ([f'for (; {turn} < {n}; {turn}++)', '    ' + self.call_of('rest', turn)] if 'rest' in self.functions else [])
+
     def function(self):
         """The helpers and the function, each with the processor's features that it needs."""
-        kinds = {'ptr': 'unsigned char *', 'i8': 'uint8_t ', 'i16': 'uint16_t ', 'i32': 'uint32_t ', 'i64': 'uint64_t '}
-        parameters = ', '.join(kinds[kind] + c for kind, _, c in self.signature) or 'void'
-        defined = re.findall(r'^const [^=]* (\w+) =', '\n'.join(self.lines), re.M)
-        unused = [c for _, _, c in self.signature if c not in self.used] + [c for c in defined if c not in self.used]
-        body = self.lines + [f'(void){c};' for c in unused]
+        head = f'void {self.name}({self.parameters(self.alone)})'
+        if self.kind == 'program':
+            made = self.of_body(head, self.functions['body'].lines, self.functions['body'])
+        else:
+            lines = self.acts()
+            made = ''.join(self.part(name) for name in self.functions)
+            made += f'{self.target()}{head}\n{{\n' + ''.join(f'    {l}\n' for l in lines) + '}\n'
         above = ''.join(self.target() + text + '\n\n' for _, text in sorted(self.helpers.items()))
-        return above, f'{self.target()}void {self.name}({parameters})\n{{\n' + ''.join(f'    {l}\n' for l in body) + '}\n'
+        return above, made
+
+    def remark(self):
+        costs = ', '.join(f'{part}: {body.end}' if self.kind != 'program' else body.end for part, body in self.source.bodies.items())
+        return f'/* The {"program" if self.kind == "program" else self.kind + " text"} `{self.program}` ({costs}), made by tools/to-c. */\n'
 
     def text(self):
         above, function = self.function()
-        return f'/* The program `{self.program}` ({self.end[4:]}), made by tools/to-c. */\n{INCLUDES}\n{above}{function}'
+        return f'{self.remark()}{INCLUDES}\n{above}{function}'
+
+    def header(self):
+        """A header file for C and C++ that declares the function."""
+        guard, some = re.sub(r'\W', '_', self.name.upper()) + '_H', sorted(self.features, key=ORDER.index)
+        asks = ''.join(f'/* {line} */\n' for line in [
+            *([f'The processor has to have {", ".join(some)}.'] if some else []),
+            *(['What is stored through one pointer is not accessed through another that is restrict, or the other way round.']
+              if self.alone else [])])
+        return (f'{self.remark()}#ifndef {guard}\n#define {guard}\n\n#include <stdint.h>\n\n#ifdef __cplusplus\nextern "C" {{\n#endif\n\n'
+                f'{asks}void {self.name}({self.parameters(self.alone, "__restrict")});\n\n#ifdef __cplusplus\n}}\n#endif\n\n#endif\n')
+
+
+# Whether q lies so many bytes after p at the least, as whole numbers.
+AFTER = '''static inline int vegen_after(const unsigned char *p, const unsigned char *q, int64_t least)
+{
+    const uintptr_t a = (uintptr_t)p, b = (uintptr_t)q;
+    return b >= a ? least <= 0 || b - a >= (uint64_t)least : least <= 0 && a - b <= (uint64_t)-least;
+}'''
 
 
 INCLUDES = '#include <immintrin.h>\n#include <stdint.h>\n#include <string.h>\n'
@@ -304,20 +468,27 @@ def processor():
     return re.search(r'model name\s*: (.*)', text).group(1), set(re.search(r'flags\s*: (.*)', text).group(1).split())
 
 
+def only_avx512vnni(has):
+    """Whether a processor that has these has VNNI instructions of 128 and 256 bits in the form of AVX-512VL alone."""
+    return 'avx_vnni' not in has and {'avx512_vnni', 'avx512vl'} <= has
+
+
 def is_here(features, has):
     """Whether a processor that has these has all features."""
     named = {'sse3': 'pni', 'sse4.1': 'sse4_1', 'sse4.2': 'sse4_2', 'avxvnni': 'avx_vnni', 'avx512vnni': 'avx512_vnni'}
     return all(named.get(f, f) in has for f in features)
 
 
-def features_of(entry):
-    """What the processor has to have for an entry, in the words of gcc and clang."""
+def features_of(entry, avx512vnni=False):
+    """What the processor has to have for an entry, in the words of gcc and clang; with the VNNI instructions of AVX-512VL, where asked."""
     some = FEATURES[entry.extension]
+    if avx512vnni and 'avxvnni' in some:
+        return ('avx2', 'avx512f', 'avx512vl', 'avx512vnni')
     if entry.extension.startswith('AVX512'):
         widths = [entry.result] + [width for _, width in entry.parameters]
         if min(widths) < 512 and max(widths) < 512:
             some += ('avx512vl',)
-        if re.match(r'_mm512_dp', entry.name):
+        if re.match(r'_mm(256|512)?_dp(bus|wss)ds?_', entry.name):
             some += ('avx512vnni',)
     return some
 
@@ -331,6 +502,14 @@ def c_name(name, others):
     return name
 
 
+def literal(number, width):
+    """C of a number of so many bits as a lane."""
+    number -= (number >> width - 1) << width
+    if width == 64:
+        return f'(long long)UINT64_C({number % 2**64})'
+    return '-2147483647 - 1' if number == -2**31 else str(number)
+
+
 def constant(data):
     """C of a register with these bytes, the lowest first."""
     mark = {16: '', 32: '256', 64: '512'}[len(data)]
@@ -338,8 +517,7 @@ def constant(data):
         return f'_mm{mark}_setzero_si{len(data) * 8}()'
     for size in (1, 2, 4, 8):
         if data == data[:size] * (len(data) // size):
-            number = int.from_bytes(data[:size], 'little', signed=True)
-            number = f'(long long)UINT64_C({number % 2**64})' if size == 8 else '-2147483647 - 1' if number == -2**31 else str(number)
+            number = literal(int.from_bytes(data[:size], 'little'), 8 * size)
             return f'_mm{mark}_set1_epi{8 * size}{"x" if size == 8 and mark != "512" else ""}({number})'
-    lanes = [int.from_bytes(data[i:i + 4], 'little', signed=True) for i in range(0, len(data), 4)]
-    return f'_mm{mark}_setr_epi32({", ".join("-2147483647 - 1" if n == -2**31 else str(n) for n in lanes)})'
+    lanes = [literal(int.from_bytes(data[i:i + 4], 'little'), 32) for i in range(0, len(data), 4)]
+    return f'_mm{mark}_setr_epi32({", ".join(lanes)})'
