@@ -243,7 +243,7 @@ class Function:
         if operation in ('eq', 'slt', 'ult', 'smin', 'smax', 'umin', 'umax'):
             return f'{self.comparison(operation, of)}({a}, {b})'
         sign = {'add': '+', 'sub': '-', 'mul': '*', 'and': '&', 'or': '|', 'xor': '^'}[operation]
-        wide = '(uint32_t)' if operation == 'mul' and width == 16 else ''
+        wide = '(uint32_t)' if operation == 'mul' and width == 16 else f'(uint{width}_t)' if operation == 'xor' and a.isdigit() else ''
         return f'(uint{width}_t)({wide}{a} {sign} {b})'
 
     def comparison(self, operation, width):
