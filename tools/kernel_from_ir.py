@@ -1,0 +1,100 @@
+"""What tools/from-ir and tools/from-c share: their words, and a function of a text of IR as a kernel."""
+import argparse, os, re, sys
+
+import clang_ir
+import kernel_trial
+import llvm_ir as ir
+from llvm_kernel import Refusal, Translation
+from llvm_loop import LoopTranslation
+
+sys.setrecursionlimit(20000)
+
+
+class Fault(Exception):
+    """What ends a tool with one line."""
+
+
+def reader_of(tool, page, file):
+    """A reader of the words that both tools take."""
+    reader = argparse.ArgumentParser(prog=tool, description=page, formatter_class=argparse.RawDescriptionHelpFormatter,
+                                     usage=re.search(r'usage: (.*)', page).group(1))
+    reader.add_argument('file', metavar=file)
+    reader.add_argument('function', metavar='FUNCTION')
+    for option in ('--rows', '--loop', '--noalias', '--both'):
+        reader.add_argument(option, action='store_true')
+    reader.add_argument('--stride', metavar='NAME=N', action='append', default=[])
+    reader.add_argument('--try', metavar='N', type=int, default=0, dest='tries')
+    reader.add_argument('--vegen', metavar='BINARY')
+    reader.add_argument('--seed', metavar='S', type=int, default=1)
+    return reader
+
+
+def strides(words):
+    """The numbers of `NAME=N` words, by name."""
+    found = {}
+    for word in words:
+        name, sign, number = word.partition('=')
+        if not sign or not re.fullmatch(r'-?\d{1,20}', number):
+            raise Fault(f'--stride {word}: NAME=N with a number N is wanted')
+        found[name] = int(number)
+    return found
+
+
+def function_names(module):
+    return ', '.join(sorted(module.functions)[:8]) + (', ..' if len(module.functions) > 8 else '')
+
+
+def translated(text, path, name, words, fixed):
+    """The translation of a function of a text of IR."""
+    try:
+        module = ir.Module(text)
+        if name not in module.functions:
+            raise Fault(f'{path}: no function {name}; ' + (f'there are {function_names(module)}' if module.functions else 'there is none'))
+        if not module.little:
+            raise Fault(f'{path}: the module is for a machine that stores the highest byte first')
+        function = module.function(name)
+        kind = LoopTranslation if words.loop else Translation
+        return kind(module, function, path, words.rows, words.noalias, fixed, words.both).run()
+    except ir.Malformed as fault:
+        raise Fault(f'{path or "the IR of clang"}:{fault.line}: {fault.what}')
+    except RecursionError:
+        raise Fault(f'{path or "the IR of clang"}: nested too deep')
+
+
+def written(text, path, words, fixed, notes):
+    """The text of the kernel of a function, and its translation."""
+    name = words.function
+    try:
+        made = translated(text, path, name, words, fixed)
+        return made.text(notes), made
+    except Refusal as refusal:
+        raise Fault(f'{name}: {refusal}')
+
+
+def vegen_path(given):
+    """Where vegen is: as given, where the repository builds it, or on the PATH."""
+    if given:
+        return os.path.abspath(given)
+    built = os.path.join(os.path.dirname(os.path.abspath(__file__)), '..', 'crates', 'vegen', 'out', 'vegen')
+    if os.path.exists(built):
+        return os.path.normpath(built)
+    for folder in os.environ.get('PATH', '').split(os.pathsep):
+        if os.access(os.path.join(folder, 'vegen'), os.X_OK):
+            return os.path.join(folder, 'vegen')
+    raise Fault('--try: no vegen is built or on the PATH; name it with --vegen BINARY')
+
+
+def beside(tool, words, text, made, source, programs):
+    """Tries the kernel beside the function, with the first of the compilers that reads its IR."""
+    vegen, failed = vegen_path(words.vegen), None
+    for clang, opt in programs:
+        try:
+            wrong, met = kernel_trial.trial(made, text, source, clang, opt, vegen, words.tries, words.seed)
+        except kernel_trial.Failed as fault:
+            failed = failed or fault
+            continue
+        print(f'{tool}: {words.function}: {words.tries} memories, pointers meet in {met}: {len(wrong)} differences', file=sys.stderr)
+        if wrong:
+            raise Fault(f'{words.function}: {wrong[0]}')
+        return
+    raise Fault(f'{words.function}: --try: {failed or "clang is not there"}')
