@@ -174,8 +174,7 @@ class Writer:
         if value.op == 'parameter':
             return value.pointer.name, 0
         if value.op == 'literal':
-            number = signed(value.number, value.width)
-            return f'{number if number > -256 else value.number}i{value.width}', 0
+            return min(str(signed(value.number, value.width)), str(value.number), key=len) + f'i{value.width}', 0
         if value in self.names:
             return self.names[value], 0
         return self.made(value)

@@ -122,7 +122,8 @@ class Choice:
 
 def spelled(terms):
     """The text of the terms of a linear form."""
-    return ' + '.join((f'{number}*' if number != 1 else '') + word[0] for word, number in sorted(terms.items()))
+    return ' '.join(('- ' if number < 0 else '+ ') + (f'{abs(number)}*' if abs(number) != 1 else '') + word[0]
+                    for word, number in sorted(terms.items()))
 
 
 class Translation:
@@ -273,12 +274,21 @@ class Translation:
         if one.op == two.op == 'literal':
             made = FOLDED[op](one.number, two.number, width)
             return made if op in COMPARISONS else literal(width, made)
+        if one.op == 'literal' and op not in ('sub', 'eq', 'slt', 'ult'):
+            one, two = two, one
         if two.op == 'literal' and ((two.number == 0 and op in ('add', 'sub', 'or', 'xor')) or (two.number == 1 and op == 'mul')
                                     or (two.number == (1 << width) - 1 and op == 'and')):
             return one
-        if one.op == 'literal' and ((one.number == 0 and op in ('add', 'or', 'xor')) or (one.number == 1 and op == 'mul')):
-            return two
+        if op in ('smax', 'umax') and two.op == 'literal' and self.is_clamp(op[0], one, two):
+            return self.two(op[0] + 'min', self.two(op, one.operands[0], two), one.operands[1])
         return self.put(op, 1 if op in COMPARISONS else width, (one, two))
+
+    def is_clamp(self, kind, one, low):
+        """Whether a number is kept below a limit that is not below `low`: then the greater may be taken first."""
+        if one.op != kind + 'min' or one.operands[1].op != 'literal':
+            return False
+        high = one.operands[1].number
+        return low.number <= high if kind == 'u' else signed(low.number, low.width) <= signed(high, low.width)
 
     def shift(self, op, value, by):
         if by == 0:
@@ -420,7 +430,7 @@ class Translation:
 
     def spot_of(self, base, terms):
         if terms and not self.rows:
-            self.refuse('variable index', f'{base.name} + {spelled(terms)}')
+            self.refuse('variable index', f'{base.name} {spelled(terms)}')
         return self.row(base, terms, 0)
 
     def row(self, base, terms, step):
@@ -515,9 +525,17 @@ class Translation:
                 of = of.of
             size = self.module.size(of)[0]
             if form is None:
-                self.refuse('variable index', f'{start.base.name} at a place that is no sum of parameters')
+                self.refuse_place(start.base)
             terms, offset = plus((terms, offset), scaled(form, size))
         return Address(start.base, terms, signed(offset % (1 << 64), 64))
+
+    def refuse_place(self, base):
+        """Refuses a place that data chooses."""
+        if base.kind == 'global':
+            self.refuse('global variable', f'@{base.name} at a place that is not constant')
+        if base.kind == 'local':
+            self.refuse('local array', f'%{base.name} at a place that is not constant')
+        self.refuse('variable index', f'{base.name} at a place that is no sum of parameters, or one that may wrap')
 
     def field(self, of, form, offset):
         if form is None or form[0] or not 0 <= form[1] < len(of.fields):
@@ -744,8 +762,10 @@ class Translation:
         one, two = self.bit(of, one), self.bit(of, two)
         if isinstance(bit, bool):
             return one if bit else two
-        if isinstance(one, bool) or isinstance(two, bool):
-            return self.kept(either(both(bit, one), both(negated(bit), two)))
+        if isinstance(one, bool):
+            return self.kept(either(bit, two) if one else both(negated(bit), two))
+        if isinstance(two, bool):
+            return self.kept(either(negated(bit), one) if two else both(bit, one))
         return self.kept(Condition('choose', bit, one, two))
 
     def do_freeze(self, parts):
@@ -933,9 +953,10 @@ class Translation:
     def notes(self):
         """What each parameter is that the function has not, and what was fixed."""
         lines = [f'{self.exact[name]} = {number}' for name, number in self.fixed.items()]
-        for (base, terms, _), spot in self.spots.items():
+        order = self.parameters()
+        for (base, terms, _), spot in sorted(self.spots.items(), key=lambda pair: order.index(pair[1])):
             if spot.name != base.name:
-                lines.append(f'{spot.name} = {base.name}' + (f' + {spelled(dict(terms))}' if terms else ''))
+                lines.append(f'{spot.name} = {base.name}' + (f' {spelled(dict(terms))}' if terms else ''))
         return lines
 
     def text(self, notes=()):

@@ -5,7 +5,7 @@ a constant each turn, its count is a parameter of the function, and nothing else
 is read without a sign.
 """
 import llvm_ir as ir
-from kernel_graph import Store, Value, may_meet
+from kernel_graph import Store, Value, may_meet, signed
 from llvm_kernel import Address, Translation, forms_of, plus, spelled
 
 TURN = ('turn', '')
@@ -46,7 +46,7 @@ class LoopTranslation(Translation):
         found = [label for label, block in self.function.blocks.items()
                  if block and block[-1].op == 'br' and block[-1].parts['condition'] and label in block[-1].parts['to']]
         if len(found) != 1:
-            self.refuse('branch', f'{len(found)} loops of one block, in the place of one')
+            self.refuse('branch', f'{len(found)} loops of one block' if found else 'no loop of one block')
         return found[0]
 
     def lead(self, turn):
@@ -205,14 +205,15 @@ class LoopTranslation(Translation):
         return None
 
     def count_down(self, counter, test, stays):
-        """A counter from a parameter by -1 down to 0."""
-        following, (one, two) = self.known.get(counter.following), test.operands
+        """A counter from a parameter, or from a number more, by -1: the parameter where it says how many turns there are."""
+        bound, more = counter.start, 0
+        if bound.op == 'add' and bound.operands[1].op == 'literal':
+            bound, more = bound.operands[0], signed(bound.operands[1].number, bound.width)
         if counter.step != -1:
             return None
-        for value, edge in ((following, 0), (counter.value, 1)):
-            if (test.op == 'eq' and not stays and ((one is value and is_number(two, edge)) or (two is value and is_number(one, edge)))) \
-                    or (test.op in ('slt', 'ult') and stays and is_number(one, edge) and two is value):
-                return counter.start, test.op == 'slt'
+        for value, edge in ((self.known.get(counter.following), more), (counter.value, more + 1)):
+            if ends_at(test, stays, value, edge):
+                return bound, test.op == 'slt'
         return None
 
     def guarded_count(self, bound, has_sign):
@@ -270,12 +271,12 @@ class LoopTranslation(Translation):
         rest = {word: number for word, number in terms.items() if word != TURN}
         step = terms.get(TURN, 0)
         if rest and not self.rows:
-            self.refuse('variable index', f'{base.name} + {spelled(rest)}')
+            self.refuse('variable index', f'{base.name} {spelled(rest)}')
         if not 0 <= step <= LONGEST_STEP:
             self.refuse('variable index', f'{base.name} moves by {step} bytes a turn')
         others = {key[2] for key in self.spots if key[0] is base}
         if others - {step} and not self.rows:
-            self.refuse('variable index', f'{base.name} moves by {step} bytes a turn and by {min(others)}')
+            self.refuse('variable index', f'{base.name} moves by {step} bytes a turn and by {min(others - {step})} (--rows)')
         return self.row(base, rest, step)
 
     def store(self, address, value):
@@ -330,5 +331,13 @@ def origin(value):
     return None, None
 
 
+def ends_at(test, stays, value, edge):
+    """Whether a test lets a loop stay until a value that goes down meets a number."""
+    one, two = test.operands
+    if test.op == 'eq':
+        return not stays and ((one is value and is_number(two, edge)) or (two is value and is_number(one, edge)))
+    return stays and two is value and is_number(one, edge)
+
+
 def is_number(value, number):
-    return value.op == 'literal' and value.number == number
+    return value.op == 'literal' and value.number == number % (1 << value.width)
