@@ -10,7 +10,7 @@ LIMITS = ['-inline-threshold=100000', '-unroll-threshold=200000', '-unroll-max-p
           '-unroll-max-iteration-count-to-analyze=1024', '-two-entry-phi-node-folding-threshold=60', '-phi-node-folding-threshold=60',
           '-speculate-one-expensive-inst']
 LOOPS = 'loop-simplify,lcssa,loop(loop-rotate),{}loop-simplify,lcssa,loop(indvars,loop-unroll-full),sroa,early-cse<memssa>'
-PASSES = ('cgscc(inline),function(sroa,early-cse,simplifycfg,instsimplify,' + LOOPS.format('simplifycfg,')
+PASSES = ('internalize,globaldce,cgscc(inline),function(sroa,early-cse,simplifycfg,instsimplify,' + LOOPS.format('simplifycfg,')
           + ',simplifycfg<bonus-inst-threshold=20;hoist-common-insts;sink-common-insts>,instsimplify,' + LOOPS.format('')
           + ',simplifycfg,instsimplify,sccp,simplifycfg,dse,adce)')
 
@@ -94,8 +94,9 @@ def with_numbers(text, name, fixed):
     return text[:found.end()] + body + text[end:]
 
 
-def few_passes(opt, text):
-    return output([opt, '-S', *LIMITS, f'-passes={PASSES}', '-', '-o', '-'], text)
+def few_passes(opt, text, name, seconds=120):
+    """The IR of one function after the few passes, without what it does not use."""
+    return output([opt, '-S', *LIMITS, f'-internalize-public-api-list={name}', f'-passes={PASSES}', '-', '-o', '-'], text, seconds)
 
 
 def all_passes(clang, path, flags):
@@ -103,7 +104,7 @@ def all_passes(clang, path, flags):
     return output([clang, '-O2', *FRONT, *flags, path, '-o', '-'])
 
 
-def plain_ir(clang, path, flags, name):
-    """The IR of -O2 as clang has it, but that sums wrap, with the function seen from outside."""
-    words = [clang, '-O2', '-S', '-emit-llvm', '-w', '-femit-all-decls', '-fwrapv', '-fno-strict-aliasing', *flags, path, '-o', '-']
-    return opened(output(words), name)
+def plain_ir(clang, path, flags, name=None):
+    """The IR that clang makes before any pass, but that sums wrap, with the function, or all, seen from outside."""
+    text = first_ir(clang, path, ['-fwrapv', *flags])
+    return opened(text, name) if name else re.sub('^define (?:internal|linkonce_odr|linkonce|available_externally) ', 'define ', text, flags=re.M)

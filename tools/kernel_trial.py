@@ -28,14 +28,30 @@ def shared_object(text, name, clang, opt, folder):
     if opt:
         run([opt, '-S', '-passes=internalize,globaldce', f'-internalize-public-api-list={name}', source, '-o', source + '.one.ll'])
         source += '.one.ll'
-    run([clang, '-O2', '-w', '-shared', '-fPIC', '-x', 'ir', source, '-o', target])
+    run([clang, '-O2', '-w', '-shared', '-fPIC', '-Wl,-Bsymbolic', '-x', 'ir', source, '-o', target])
+    return target
+
+
+def whole_object(text, clang, folder):
+    """Compiles a text of IR whole; what it calls and no library has ends the process."""
+    source, target, stubs = (os.path.join(folder, name) for name in ('file.ll', 'file.so', 'stubs.s'))
+    with open(source, 'w', encoding='utf-8', errors='surrogateescape') as file:
+        file.write(text)
+    run([clang, '-O2', '-w', '-c', '-fPIC', '-x', 'ir', source, '-o', source + '.o'])
+    told = subprocess.run(['nm', '-u', source + '.o'], capture_output=True, text=True, errors='replace').stdout
+    here = ctypes.CDLL(None)
+    absent = [word for word in re.findall(r' U (\S+)', told) if not hasattr(here, word)]
+    with open(stubs, 'w') as file:
+        file.write(''.join(f'.globl {word}\n{word}:\n' for word in absent) + 'ud2\n.section .note.GNU-stack\n')
+    run([clang, '-shared', '-Wl,-Bsymbolic', source + '.o', stubs, '-lm', '-o', target])
     return target
 
 
 def run(words):
     ended = subprocess.run(words, capture_output=True, text=True, errors='replace', stdin=subprocess.DEVNULL)
     if ended.returncode:
-        raise Failed(f'{os.path.basename(words[0])} ended with {ended.returncode}: {ended.stderr.strip().split(chr(10))[0][:300]}')
+        lines = [line for line in ended.stderr.split('\n') if 'warning' not in line]
+        raise Failed(f'{os.path.basename(words[0])} ended with {ended.returncode}: {lines[0][:300]}')
 
 
 class Spot:
@@ -114,7 +130,7 @@ class Trial:
             else:
                 place = end + self.rng.randrange(5) * self.grain - low
             place += -place % self.grain
-            if place + low < 0:
+            if place + min(0, low) < 0:
                 return None
             made.places[base] = place
             end = max(end, place + high + -(place + high) % 8)
