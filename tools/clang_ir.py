@@ -30,7 +30,7 @@ def version_of(path):
 
 
 def programs(name):
-    """The paths of a program by the version of LLVM that it is of, the one that the PATH names first in the front."""
+    """The paths of a program by the version of LLVM that it is of, the one that the PATH names first as the first."""
     found = {}
     for suffix in VERSIONS:
         for path in (shutil.which(name + suffix), SEARCHED.format(suffix[1:], name) if suffix else None):
@@ -100,8 +100,8 @@ def few_passes(opt, text, name, seconds=120):
 
 
 def all_passes(clang, path, flags):
-    """The IR of -O2, without vectors."""
-    return output([clang, '-O2', *FRONT, *flags, path, '-o', '-'])
+    """The IR of -O2, without vectors and without loops that are turned some turns at a time."""
+    return output([clang, '-O2', *FRONT, '-mllvm', '-unroll-runtime=false', *flags, path, '-o', '-'])
 
 
 def plain_ir(clang, path, flags, name=None):

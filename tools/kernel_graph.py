@@ -1,8 +1,8 @@
 """Kernels as graphs of values, and their texts: what becomes a name and what stands in an expression.
 
 A graph is made from the top: a value after those that it is made of, loads and stores in their order. `text` writes the kernel
-(docs/kernel.md). A value that is used once stands where it is used, any other has a name; a load that a store behind it may meet has one
-as well, so that it stays where it was made.
+(docs/kernel.md). A value that is used once stands where it is used, any other has a name; a load has one as well where a store that
+may meet it comes between it and its use, so that it stays where it was made.
 """
 import bisect, re, textwrap
 
@@ -139,7 +139,7 @@ class Writer:
             self.depths[value] = 1 if is_named else depth
 
     def hold_loads(self):
-        """Gives a name to each load whose expression would move it behind a store that may meet it."""
+        """Gives a name to each load that its expression would move past a store that may meet it."""
         users = {}
         for item in self.graph.items:
             for operand in [item.value] if isinstance(item, Store) else item.operands if item in self.uses else ():
