@@ -6,8 +6,8 @@ SEARCHED = '/usr/lib/llvm-{}/bin/{}'
 FRONT = ['-S', '-emit-llvm', '-w', '-gline-tables-only', '-fno-discard-value-names', '-femit-all-decls', '-fno-vectorize',
          '-fno-slp-vectorize', '-fno-strict-aliasing', '-fno-stack-protector']
 # One phi of a join becomes selects, a loop of a known count its turns. No instcombine: it makes narrow choices of clamps.
-LIMITS = ['-inline-threshold=100000', '-unroll-threshold=200000', '-unroll-max-percent-threshold-boost=10000', '-unroll-full-max-count=1024',
-          '-unroll-max-iteration-count-to-analyze=1024', '-two-entry-phi-node-folding-threshold=60', '-phi-node-folding-threshold=60',
+LIMITS = ['-inline-threshold=100000', '-unroll-threshold=200000', '-unroll-max-percent-threshold-boost=10000',
+          '-unroll-full-max-count=1024', '-unroll-max-iteration-count-to-analyze=1024', '-two-entry-phi-node-folding-threshold=60', '-phi-node-folding-threshold=60',
           '-speculate-one-expensive-inst']
 LOOPS = 'loop-simplify,lcssa,loop(loop-rotate),{}loop-simplify,lcssa,loop(indvars,loop-unroll-full),sroa,early-cse<memssa>'
 PASSES = ('internalize,globaldce,cgscc(inline),function(sroa,early-cse,simplifycfg,instsimplify,' + LOOPS.format('simplifycfg,')
@@ -107,4 +107,6 @@ def all_passes(clang, path, flags):
 def plain_ir(clang, path, flags, name=None):
     """The IR that clang makes before any pass, but that sums wrap, with the function, or all, seen from outside."""
     text = first_ir(clang, path, ['-fwrapv', *flags])
-    return opened(text, name) if name else re.sub('^define (?:internal|linkonce_odr|linkonce|available_externally) ', 'define ', text, flags=re.M)
+    if name:
+        return opened(text, name)
+    return re.sub('^define (?:internal|linkonce_odr|linkonce|available_externally) ', 'define ', text, flags=re.M)

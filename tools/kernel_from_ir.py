@@ -14,9 +14,16 @@ class Fault(Exception):
     """What ends a tool with one line."""
 
 
+class Reader(argparse.ArgumentParser):
+    """A reader of words whose complaint is one line."""
+
+    def error(self, message):
+        self.exit(2, f'{self.prog}: {message}\n')
+
+
 def reader_of(tool, page, file):
     """A reader of the words that both tools take."""
-    reader = argparse.ArgumentParser(prog=tool, description=page, formatter_class=argparse.RawDescriptionHelpFormatter,
+    reader = Reader(prog=tool, description=page, formatter_class=argparse.RawDescriptionHelpFormatter,
                                      usage=re.search(r'usage: (.*)', page).group(1))
     reader.add_argument('file', metavar=file)
     reader.add_argument('function', metavar='FUNCTION')
@@ -41,7 +48,9 @@ def strides(words):
 
 
 def function_names(module):
-    return ', '.join(sorted(module.functions)[:8]) + (', ..' if len(module.functions) > 8 else '')
+    """Some names of the functions of a module, as the end of a line."""
+    some = sorted(module.functions)
+    return f'there are {", ".join(some[:8])}{", .." if len(some) > 8 else ""}' if some else 'there is none'
 
 
 def translated(text, path, name, words, fixed):
@@ -49,9 +58,9 @@ def translated(text, path, name, words, fixed):
     try:
         module = ir.Module(text)
         if name not in module.functions:
-            raise Fault(f'{path}: no function {name}; ' + (f'there are {function_names(module)}' if module.functions else 'there is none'))
+            raise Fault(f'{path or words.file}: no function {name}; {function_names(module)}')
         if not module.little:
-            raise Fault(f'{path}: the module is for a machine that stores the highest byte first')
+            raise Fault(f'{path or words.file}: the module is for a machine that stores the highest byte first')
         function = module.function(name)
         kind = LoopTranslation if words.loop else Translation
         return kind(module, function, path, words.rows, words.noalias, fixed, words.both).run()

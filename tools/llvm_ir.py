@@ -19,6 +19,7 @@ CASTS = {'trunc', 'zext', 'sext', 'fptrunc', 'fpext', 'fptoui', 'fptosi', 'uitof
          'addrspacecast'}
 LINKAGES = {'private', 'internal', 'available_externally', 'linkonce', 'weak', 'common', 'appending', 'extern_weak', 'linkonce_odr',
             'weak_odr', 'external'}
+OUTSIDE = r'\s*(;|target |declare |attributes |\$|module asm|uselistorder|\^|source_filename|\}|#dbg)'
 DEEPEST = 60
 
 
@@ -186,6 +187,7 @@ class Function:
     line: int
     variadic: bool
     blocks: dict
+    location: Any = None
 
 
 @dataclass
@@ -644,7 +646,7 @@ class Module:
 
     def __init__(self, text):
         self.types, self.variables, self.functions, self.notes = {}, {}, {}, {}
-        self.layout, self.source, self.little = {}, None, True
+        self.sizes, self.source, self.little = {}, None, True
         self.lines = text.split('\n')
         self.bits = {'p': (64, 64), 'i64': (64, 32), 'i128': (128, 64), 'f80': (128, 128)}
         at = 0
@@ -674,7 +676,7 @@ class Module:
         elif line.startswith('source_filename'):
             found = re.search(r'"([^"]*)"', line)
             self.source = found and unquoted(found.group(0))
-        elif line.strip() and not re.match(r'\s*(;|target |declare |attributes |\$|module asm|uselistorder|\^|source_filename|\}|#dbg)', line):
+        elif line.strip() and not re.match(OUTSIDE, line):
             raise Malformed(at + 1, f'nothing of a module: {line.strip()[:40]!r}')
         return at + 1
 
@@ -713,7 +715,9 @@ class Module:
         result = words.type()
         words.take()
         parameters, variadic = self.parameters(words)
-        return Function(name, result, attributes, parameters, start + 1, variadic, self.blocks(start + 1, end, parameters))
+        note = re.search(r'!dbg (!\d+)', self.lines[start])
+        blocks = self.blocks(start + 1, end, parameters)
+        return Function(name, result, attributes, parameters, start + 1, variadic, blocks, note and note.group(1))
 
     def parameters(self, words):
         parameters, unnamed, variadic = [], 0, False
@@ -774,6 +778,11 @@ class Module:
         scope = re.search(r'scope: (!\d+)', text)
         return self.file_of(scope.group(1) if scope else None), int(found.group(1))
 
+    def function_place(self, note):
+        """The file and the line where a function begins, by its note."""
+        found = re.match(r'distinct !DISubprogram\(.*?\bline: (\d+)', self.notes.get(note, '') if note else '')
+        return (self.file_of(note), int(found.group(1))) if found else None
+
     def file_of(self, scope):
         for _ in range(100):
             text = self.notes.get(scope, '')
@@ -816,7 +825,10 @@ class Module:
 
     def size(self, of, depth=0):
         """The bytes from one element of a type to the next, and its alignment; None where it has none."""
-        of = self.known(of)
+        if isinstance(of, Named):
+            if of.name not in self.sizes:
+                self.sizes[of.name] = self.size(self.known(of), depth + 1)
+            return self.sizes[of.name]
         if depth > DEEPEST:
             raise Malformed(1, 'types are nested too deep')
         if isinstance(of, Integer):
@@ -826,17 +838,25 @@ class Module:
             return self.bits['p'][0] // 8, self.bits['p'][1] // 8
         if isinstance(of, Float):
             size = FLOATS[of.name]
-            return (12, 4) if of.name == 'x86_fp80' and self.bits['p'][0] == 32 else (size, self.bits.get(f'f{8 * size}', (0, 8 * size))[1] // 8)
+            if of.name == 'x86_fp80' and self.bits['p'][0] == 32:
+                return 12, 4
+            return size, self.bits.get(f'f{8 * size}', (0, 8 * size))[1] // 8
         if isinstance(of, Array):
             size, align = self.size(of.of, depth + 1)
             return of.count * size, align
         if isinstance(of, Vector):
-            size, _ = self.size(of.of, depth + 1)
-            return of.count * size, max(1, of.count * size)
+            return self.vector_size(of)
         if isinstance(of, Struct):
             _, end, align = self.fields(of, depth)
             return end, align
         raise Malformed(1, f'a type without a size: {of}')
+
+    def vector_size(self, of):
+        """The size of a vector, which is its alignment: the least power of two that holds its lanes."""
+        inner = self.known(of.of)
+        bits = of.count * (inner.bits if isinstance(inner, Integer) else 8 * self.size(inner)[0])
+        size = 1 << max(0, (max(1, (bits + 7) // 8) - 1).bit_length())
+        return size, size
 
     def integer_alignment(self, bits):
         """The alignment of an integer in bytes: that of the next wider one that the layout names, or of the widest."""

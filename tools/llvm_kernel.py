@@ -148,7 +148,8 @@ class Translation:
         upto = [one for block in self.function.blocks.values() for one in block if at and one.line <= at.line]
         places = (self.module.place(one.location) for one in sorted(upto, key=lambda one: -one.line))
         found = next((place for place in places if place and place[0] and place[1]), None)
-        if found:
+        found = found or self.module.function_place(self.function.location)
+        if found and found[0]:
             return found
         return (self.path, at.line if at else self.function.line) if self.path else None
 
@@ -593,7 +594,7 @@ class Translation:
             if at not in met and at in self.function.blocks:
                 met.add(at)
                 last = self.function.blocks[at][-1:]
-                rest += last[0].parts.get('to', []) if last else []
+                rest += last[0].parts['to'] if last and last[0].op == 'br' else []
         return False
 
     def phi(self, at, before):
@@ -812,6 +813,8 @@ class Translation:
         if self.has_no_effect(name):
             return None
         found = re.fullmatch(r'llvm\.([a-z.]+?)((?:\.(?:[ipv]\d+\w*|p0i8))*)', name)
+        if found and found.group(1).startswith('mem') and len(arguments) > 3 and arguments[3][1] == ir.Number(1):
+            self.refuse('call', f'a volatile {found.group(1)}')
         made = found and getattr(self, 'call_' + found.group(1).replace('.', '_'), None)
         if name in ('abs', 'labs', 'llabs') and name not in self.module.functions:
             made = self.call_abs

@@ -141,11 +141,19 @@ class LoopTranslation(Translation):
             return
         start = self.number(of, ways[before])
         value = Value('turn', start.width, line=at)
-        is_plain = start.op == 'literal' and start.number == 0 and step == 1
-        value.forms = tuple(plus(form, ({TURN: step}, 0)) if start.width == 64 or is_plain or flag in flags else None
+        is_plain = start.op == 'literal' and start.number == 0 and step == 1 and self.is_compared(following, block)
+        if is_plain:
+            flags = flags | {'nuw'} | ({'nsw'} if self.guard and self.guard[1] else set())
+        value.forms = tuple(plus(form, ({TURN: step}, 0)) if start.width == 64 or flag in flags else None
                             for form, flag in zip(forms_of(start), ('nsw', 'nuw')))
         self.known[at.name] = value
         self.counters.append(Counter(value, following, start, step))
+
+    def is_compared(self, name, block):
+        """Whether the test at the end of the loop compares a value: then no turn comes at which that has wrapped."""
+        _, test = block[-1].parts['condition']
+        found = [at for at in block if at.op == 'icmp' and isinstance(test, ir.Local) and at.name == test.name]
+        return bool(found) and ir.Local(name) in (found[0].parts['first'], found[0].parts['second'])
 
     def advance(self, name, following, made):
         """By how much a value moves until its next one, and the flags that all steps on the way have."""
@@ -209,7 +217,7 @@ class LoopTranslation(Translation):
         bound, more = counter.start, 0
         if bound.op == 'add' and bound.operands[1].op == 'literal':
             bound, more = bound.operands[0], signed(bound.operands[1].number, bound.width)
-        if counter.step != -1:
+        if counter.step != -1 or (test.op != 'eq' and more not in (0, -1)):
             return None
         for value, edge in ((self.known.get(counter.following), more), (counter.value, more + 1)):
             if ends_at(test, stays, value, edge):
@@ -336,7 +344,7 @@ def ends_at(test, stays, value, edge):
     one, two = test.operands
     if test.op == 'eq':
         return not stays and ((one is value and is_number(two, edge)) or (two is value and is_number(one, edge)))
-    return stays and two is value and is_number(one, edge)
+    return stays and two is value and is_number(one, edge) and (test.op == 'slt' or edge >= 0)
 
 
 def is_number(value, number):

@@ -61,9 +61,8 @@ class Maker:
         if kind == 8:
             name = rng.choice(['MIN', 'MAX', 'ABS', 'CLAMP'])
             of, one = rng.choice(['int32_t', 'int64_t', 'int16_t', 'uint32_t']), self.leaf()
-            words = {'ABS': [f'({of})({one})'], 'CLAMP': [f'({of})({one})', '-128', '127']}.get(name) or [f'({of})({one})', f'({of})({self.leaf()})']
-            if name == 'CLAMP' and rng.random() < 0.5:
-                words[1:] = ['0', '255']
+            limits = rng.choice([['-128', '127'], ['0', '255']])
+            words = [f'({of})({one})', *{'ABS': [], 'CLAMP': limits}.get(name, [f'({of})({self.leaf()})'])]
             return f'{name}({", ".join(words)})'
         if kind == 9:
             return f'(({rng.choice(["int32_t", "uint32_t", "uint64_t", "int64_t"])})({inner()}) {rng.choice("/%")} {1 << rng.randrange(6)})'
@@ -99,15 +98,17 @@ class Maker:
             return [f'd[{self.at()}] += {self.leaf()};']
         if kind == 6 and self.assignable():
             name = rng.choice(self.assignable())
-            return [f'if ({self.condition(1)}) {name} = {self.value(1)};' + (f' else {name} ^= {self.leaf()};' if rng.random() < 0.5 else '')]
+            other = f' else {name} ^= {self.leaf()};' if rng.random() < 0.5 else ''
+            return [f'if ({self.condition(1)}) {name} = {self.value(1)};{other}']
         if kind == 7 and depth == 0 and self.index is None:
             self.index = 'i'
             inner = [line for _ in range(rng.choice([1, 2])) for line in self.statement(1)]
             self.index = None
             return [f'for (int i = 0; i < {rng.randrange(1, 7)}; i++) {{', *inner, '}']
         if kind == 8 and depth == 0:
-            return ['{', 'uint16_t w[8];', f'for (int k = 0; k < 8; k++) w[k] = {self.leaf()} + k;', f'd[{rng.randrange(8)}] = w[{rng.randrange(8)}]'
-                    f' + w[{rng.randrange(8)}];', f'memcpy(d + 1, w, {rng.randrange(1, 16)});' if rng.random() < 0.5 else '', '}']
+            copy = f'memcpy(d + 1, w, {rng.randrange(1, 16)});' if rng.random() < 0.5 else ''
+            return ['{', 'uint16_t w[8];', f'for (int k = 0; k < 8; k++) w[k] = {self.leaf()} + k;',
+                    f'd[{rng.randrange(8)}] = w[{rng.randrange(8)}] + w[{rng.randrange(8)}];', copy, '}']
         if kind == 9 and depth == 0:
             return ['{', 'Parts s;', f'memcpy(&s, {rng.choice(self.pointers)}, sizeof s);', f's.b += {self.leaf()};',
                     rng.choice(['memcpy(d, &s, sizeof s);', f'd[{self.at()}] = s.c + s.a + s.b;', 'd[2] = s.d;', 'd[1] = s.a * s.b;']), '}']
