@@ -1,7 +1,6 @@
 """What tools/from-ir and tools/from-c share: their words, and a function of a text of IR as a kernel."""
 import argparse, os, re, sys
 
-import clang_ir
 import kernel_trial
 import llvm_ir as ir
 from llvm_kernel import Refusal, Translation

@@ -6,7 +6,8 @@ is read without a sign.
 """
 import llvm_ir as ir
 from kernel_graph import Store, Value, may_meet, signed
-from llvm_kernel import Address, Translation, forms_of, plus, spelled
+from llvm_kernel import Translation
+from llvm_values import Address, forms_of, plus, spelled
 
 TURN = ('turn', '')
 LONGEST_STEP, LONGEST_CHAIN = 65536, 1000
