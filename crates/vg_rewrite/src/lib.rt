@@ -1,0 +1,13 @@
+//! The units of a kernel, rewritten before they are planned: numbers in the width that they need.
+//!
+//! `specs/Choice.antt` says in which widths a number can be had, and `specs/Form.antt` how the number of
+//! a value is had at a width.
+#![tactic(auto)]
+
+mod choice;
+mod form;
+mod forms;
+
+pub use choice::{Compared, Reading, Shifted};
+pub use form::{Form, Made};
+pub use forms::value_form;
