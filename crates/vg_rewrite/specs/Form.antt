@@ -1,5 +1,5 @@
 -- Forms: how the number of a value is had at a width that is asked of it.
-use Rattle.std.specs.Prelude.{ℕ, Bool, true, false, List, nat_eq, nat_le, nat_lt, Option, Some, None, slice_index_or, pos, if◌then◌else◌}
+use Rattle.std.specs.Prelude.{ℕ, List, nat_le, nat_lt, Option, Some, None, slice_index_or, pos, if◌then◌else◌}
 use Rattle.vg_base.specs.declared.width.Width.{Width}
 use Rattle.vg_base.specs.Width.{bits_of}
 use Rattle.vg_rewrite.specs.declared.choice.Compared.{Compared}
@@ -23,7 +23,7 @@ use Rattle.vg_shapes.specs.declared.ssa_unit.Operator.TheVariants.{Two, Shift as
 use Rattle.vg_shapes.specs.declared.ssa_unit.SsaUnit.{SsaUnit}
 use Rattle.vg_shapes.specs.declared.ssa_unit.SsaUnit.TheVariants.{Load, Store, Operation}
 use Rattle.vg_shapes.specs.declared.wanted.Wanted.{Wanted}
-use Rattle.vg_shapes.specs.declared.wanted.Wanted.TheVariants.{Value, Constant, Nothing}
+use Rattle.vg_shapes.specs.declared.wanted.Wanted.TheVariants.{Value, Nothing}
 use Rattle.vg_spans.specs.declared.span.Span.{Span}
 use Rattle.vg_spans.specs.Span.{is_unsigned, only}
 use Rattle.vg_spans.specs.Spans.{operand_span}

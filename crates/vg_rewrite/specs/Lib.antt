@@ -1,3 +1,4 @@
 pub mod Choice
 pub mod Form
+pub mod Laws
 pub mod Readable

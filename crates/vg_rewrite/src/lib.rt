@@ -1,13 +1,15 @@
 //! The units of a kernel, rewritten before they are planned: numbers in the width that they need.
 //!
 //! `specs/Choice.antt` says in which widths a number can be had, and `specs/Form.antt` how the number of
-//! a value is had at a width.
+//! a value is had at a width. `specs/Laws.antt` says that it has it in every run.
 #![tactic(auto)]
 
 mod choice;
 mod form;
 mod forms;
+mod law;
 
 pub use choice::{Compared, Reading, Shifted};
 pub use form::{Form, Made};
 pub use forms::value_form;
+pub use law::forms_hold;

@@ -126,13 +126,13 @@ max-ends s t x y h k = record {
 }
 
 -- and both stay in a span that has both spans
-min-within : (s t u : Span) → is_within s u ≡ true → is_within t u ≡ true → is_within (end_by_end int_min s t) u ≡ true
+pub min-within : (s t u : Span) → is_within s u ≡ true → is_within t u ≡ true → is_within (end_by_end int_min s t) u ≡ true
 min-within s t u e f =
     let h = within-ends s u e in
     let k = within-ends t u f in
     within (end_by_end int_min s t) u (omega (arith, ints, clamps, h.above, k.above)) (omega (arith, ints, clamps, h.below, k.below))
 
-max-within : (s t u : Span) → is_within s u ≡ true → is_within t u ≡ true → is_within (end_by_end int_max s t) u ≡ true
+pub max-within : (s t u : Span) → is_within s u ≡ true → is_within t u ≡ true → is_within (end_by_end int_max s t) u ≡ true
 max-within s t u e f =
     let h = within-ends s u e in
     let k = within-ends t u f in
@@ -157,10 +157,10 @@ signed-pick w a b x y c s z h k fits e inside =
     by true = h.below
     by false = k.below
 
-pos-min : (a b : ℕ) → int_min (pos a) (pos b) ≡ pos (min a b)
+pub pos-min : (a b : ℕ) → int_min (pos a) (pos b) ≡ pos (min a b)
 pos-min a b = grind arith
 
-pos-max : (a b : ℕ) → int_max (pos a) (pos b) ≡ pos (max a b)
+pub pos-max : (a b : ℕ) → int_max (pos a) (pos b) ≡ pos (max a b)
 pos-max a b = grind arith
 
 -- ---- two operands
@@ -283,13 +283,13 @@ shift-holds Ashr w k a x h =
 
 -- ---- resizes
 
-signed-wider : (v w : ℕ) → v ≤ w → is_within (signed_span v) (signed_span w) ≡ true
+pub signed-wider : (v w : ℕ) → v ≤ w → is_within (signed_span v) (signed_span w) ≡ true
 signed-wider v w h = let p = pow-le (v - 1) (w - 1) (omega arith) in within (signed_span v) (signed_span w) (omega (arith, ints)) (omega (arith, ints))
 
-unsigned-wider : (v w : ℕ) → v ≤ w → is_within (unsigned_span v) (unsigned_span w) ≡ true
+pub unsigned-wider : (v w : ℕ) → v ≤ w → is_within (unsigned_span v) (unsigned_span w) ≡ true
 unsigned-wider v w h = let p = pow-le v w h in within (unsigned_span v) (unsigned_span w) (omega (arith, ints)) (omega (arith, ints))
 
-within-within : (s t u : Span) → is_within s t ≡ true → is_within t u ≡ true → is_within s u ≡ true
+pub within-within : (s t u : Span) → is_within s t ≡ true → is_within t u ≡ true → is_within s u ≡ true
 within-within s t u e f =
     let h = within-ends s t e in
     let k = within-ends t u f in

@@ -181,7 +181,7 @@ arguments-hold (p ∷ ps) (n ∷ ns) h g zero w e =
     subst (λ k. Holds k (signed_span (kind_bits p.kind)) n) same (any-holds (kind_bits p.kind) n h.0 g.0)
 arguments-hold (p ∷ ps) (n ∷ ns) h g (suc v) w e = arguments-hold ps ns h.1 g.1 v w e
 
-arguments-long : (ps : List SsaParam) (ns : List ℕ) → AreArguments ps ns → length ns ≡ length ps
+pub arguments-long : (ps : List SsaParam) (ns : List ℕ) → AreArguments ps ns → length ns ≡ length ps
 arguments-long [] ns h = ap length h
 arguments-long (p ∷ ps) [] h = absurd h
 arguments-long (p ∷ ps) (n ∷ ns) h = ap suc (arguments-long ps ns h.1)
