@@ -4,5 +4,7 @@ pub mod Extremes
 pub mod FormRows
 pub mod FormsHold
 pub mod Naturals
+pub mod NarrowedRows
 pub mod Reaching
+pub mod RepeatedRows
 pub mod Stands
