@@ -231,8 +231,8 @@ fn or_compared(found: Option<Reading>, width: Width, other: Compared) -> Compare
     }
 }
 
-/// The least width in which two numbers with these spans compare as they do at their own by a reading,
-/// and the reading there.
+/// The least width in which two numbers with these spans compare as they do at their own by a
+/// reading, and the reading there.
 pub fn comparison_choice(how: Reading, own: Width, x: Span, y: Span) -> Compared
     ensures { result ≡ comparison_choice how own x y }
 {

@@ -12,7 +12,8 @@ pub struct Made {
     /// The number of places of a shift, and 0 elsewhere.
     pub amount: u32,
     pub operands: Operands,
-    /// The width at which the forms of the operands are asked for. The condition of a choice is a bit.
+    /// The width at which the forms of the operands are asked for. The condition of a choice is a
+    /// bit.
     pub asked: Width,
 }
 

@@ -1,10 +1,11 @@
 //! The units of a kernel, rewritten before they are planned: numbers in the width that they need.
 //!
-//! `specs/Choice.antt` says in which widths a number can be had, and `specs/Form.antt` how the number of
-//! a value is had at a width. `specs/Laws.antt` says that it has it in every run.
+//! `specs/Choice.antt` says in which widths a number can be had, and `specs/Form.antt` how the number
+//! of a value is had at a width. `specs/Laws.antt` says that it is so in every run.
 //!
-//! `specs/Narrowed.antt` and `specs/Repeated.antt` define which units are planned beside a kernel's own:
-//! each number in the widths that are asked of it, and each free use of a load with a load of its own.
+//! `specs/Narrowed.antt` and `specs/Repeated.antt` define which units are planned beside a kernel's
+//! own: each number in the widths that are asked of it, and each free use of a load with a load of
+//! its own.
 #![tactic(auto)]
 
 mod choice;

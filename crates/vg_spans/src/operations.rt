@@ -88,7 +88,8 @@ fn differences_of_ends(x: Span, y: Span) -> Span
     differences_with(x.low, y).hull(differences_with(x.high, y))
 }
 
-// The span of differences. An end past 128 bits stops there, which is past each reading of the width.
+// The span of differences. An end past 128 bits stops there, which is past each reading of the
+// width.
 fn differences(width: u32, x: Span, y: Span) -> Span
     requires least { 1 ≤ width }
     requires most { width ≤ 64 }
