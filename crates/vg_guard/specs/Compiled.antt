@@ -1,13 +1,14 @@
 -- What is compiled of a kernel with guards.
-use Rattle.std.specs.Prelude.{◌≡◌, ◌≤◌, ℕ, Bool, List}
+use Rattle.std.specs.Prelude.{◌≡◌, ℕ, Bool, List}
 use Rattle.vg_catalog.specs.Called.{called_by, headers_of}
 use Rattle.vg_catalog.specs.Entries.{Entry}
 use Rattle.vg_compile.specs.Compiled.{IsCompiled}
+use Rattle.vg_compile.specs.Described.{AreDescribed}
 use Rattle.vg_compile.specs.Means.{IsInput}
 use Rattle.vg_kernel.specs.Tree.{Tree}
 use Rattle.vg_kernel.specs.Meaning.{meaning}
-use Rattle.vg_kernel.specs.WellFormed.{IsWellFormed}
 use Rattle.vg_program.specs.Meaning.{Instructions}
+use Rattle.vg_shapes.specs.Description.{Description}
 use Rattle.vg_guard.specs.declared.guarded.Guarded.{Guarded}
 use Rattle.vg_guard.specs.Checks.{checks_of}
 use Rattle.vg_guard.specs.Guarded.{guarded_meaning, IsGuarded}
@@ -33,3 +34,9 @@ pub record IsCompiledGuarded
   pub rules : IsGuarded (headers_of entries) g
   pub fast : IsCompiled entries set (all_noalias k) width more g.fast
   pub slow : IsCompiled entries set k width more g.slow
+
+-- it is compiled of the kernel, of whatever entries and set of extensions these are the descriptions
+abbrev pub IsGuardedBy : List Description → Tree → ℕ → Bool → Guarded → Type 0
+IsGuardedBy ds k width more g =
+    (entries : List Entry) (set : ℕ) → AreDescribed entries set ds
+    → IsCompiledGuarded entries set k width more g

@@ -1,11 +1,14 @@
 //! The guarded program of a kernel.
 
-ghost use Rattle.std.specs.Prelude.{IfOk};
+ghost use Rattle.std.specs.Prelude.{IfOk, map};
+ghost use Rattle.std.specs.List.{AllByRecursion};
 ghost use Rattle.vg_catalog.specs.Catalogs.{entries_in};
 ghost use Rattle.vg_catalog.specs.Extensions.{bits_in};
-ghost use Rattle.vg_guard.specs.Compiled.{IsCompiledGuarded};
+ghost use Rattle.vg_emission.specs.Truth.{IsCallable};
+ghost use Rattle.vg_guard.specs.Compiled.{IsCompiledGuarded, IsGuardedBy};
 ghost use Rattle.vg_kernel.specs.Tree.{tree_of};
 ghost use Rattle.vg_kernel.specs.WellFormed.{IsWellFormed};
+ghost use Rattle.vg_shapes.specs.Description.{description_of};
 
 use crate::guarded::Guarded;
 use crate::kernel_checks::checks_of;
@@ -13,8 +16,36 @@ use crate::noalias::all_noalias;
 use std::alloc::{AllocError, Global};
 use vg_base::Items;
 use vg_catalog::{Catalog, Extensions};
-use vg_compile::compile_by;
+use vg_compile::compile_described;
+use vg_descriptions::descriptions_of;
 use vg_kernel::Kernel;
+use vg_shapes::Description;
+
+/// What `compile_guarded` gives of a catalogue and a set of extensions, by their descriptions, as
+/// `descriptions_of` gives them. Fails for want of memory, also at the bounds of
+/// `compile_described`.
+pub fn compile_guarded_described(
+    alloc: Global,
+    descriptions: &[Description],
+    kernel: &Kernel,
+    width: u32,
+    more: bool,
+) -> Result<Guarded, AllocError>
+    requires kernel { IsWellFormed (tree_of kernel.now) }
+    requires callable { AllByRecursion IsCallable (map description_of descriptions.now) }
+    ensures { IfOk result (IsGuardedBy (map description_of descriptions.now) (tree_of kernel.now)
+        width more) }
+{
+    let checks = checks_of(alloc, kernel)?;
+    let noalias = all_noalias(alloc, kernel)?;
+    let fast = compile_described(alloc, descriptions, &noalias, width, more)?;
+    let slow = compile_described(alloc, descriptions, kernel, width, more)?;
+    Ok(Guarded {
+        checks: Items::from_vec(checks),
+        fast,
+        slow,
+    })
+}
 
 /// The guarded program of a kernel: its checks, a program that has what `compile` promises for it
 /// with every pointer noalias, and one that has what it promises for the kernel as it is; they may
@@ -41,13 +72,6 @@ pub fn compile_guarded(
         (IsCompiledGuarded (entries_in catalog.now) (bits_in allowed) (tree_of kernel.now) width
         more) }
 {
-    let checks = checks_of(alloc, kernel)?;
-    let noalias = all_noalias(alloc, kernel)?;
-    let fast = compile_by(alloc, catalog, allowed, &noalias, width, more)?;
-    let slow = compile_by(alloc, catalog, allowed, kernel, width, more)?;
-    Ok(Guarded {
-        checks: Items::from_vec(checks),
-        fast,
-        slow,
-    })
+    let descriptions = descriptions_of(alloc, catalog, allowed)?;
+    compile_guarded_described(alloc, descriptions.as_slice(), kernel, width, more)
 }

@@ -20,7 +20,7 @@ mod reading;
 mod span;
 
 pub use check::Check;
-pub use compiling::compile_guarded;
+pub use compiling::{compile_guarded, compile_guarded_described};
 pub use guarded::{Guarded, checks_hold};
 pub use kernel_checks::checks_of;
 pub use laws::{

@@ -1,11 +1,14 @@
 //! The looped text of a loop.
 
-ghost use Rattle.std.specs.Prelude.{◌≡◌, IfOk};
+ghost use Rattle.std.specs.Prelude.{IfOk, map};
+ghost use Rattle.std.specs.List.{AllByRecursion};
 ghost use Rattle.vg_catalog.specs.Catalogs.{entries_in};
 ghost use Rattle.vg_catalog.specs.Extensions.{bits_in};
-ghost use Rattle.vg_loops.specs.CompiledLoop.{IsCompiledLoop};
+ghost use Rattle.vg_emission.specs.Truth.{IsCallable};
+ghost use Rattle.vg_loops.specs.CompiledLoop.{IsCompiledLoop, IsLoopBy};
 ghost use Rattle.vg_loops.specs.Formed.{IsLoop};
 ghost use Rattle.vg_loops.specs.View.{loop_of};
+ghost use Rattle.vg_shapes.specs.Description.{description_of};
 
 use crate::counted::Loop;
 use crate::limits::turns_of;
@@ -13,8 +16,39 @@ use crate::unrolling::unroll;
 use std::alloc::{AllocError, Global};
 use vg_base::Items;
 use vg_catalog::{Catalog, Extensions};
-use vg_compile::compile_by;
+use vg_compile::compile_described;
+use vg_descriptions::descriptions_of;
 use vg_looped::Looped;
+use vg_shapes::Description;
+
+/// What `compile_loop` gives of a catalogue and a set of extensions, by their descriptions, as
+/// `descriptions_of` gives them. Fails for want of memory, also at the bounds of
+/// `compile_described`.
+pub fn compile_loop_described(
+    alloc: Global,
+    descriptions: &[Description],
+    source: &Loop,
+    width: u32,
+    more: bool,
+) -> Result<Looped, AllocError>
+    requires source { IsLoop (loop_of source.now) }
+    requires callable { AllByRecursion IsCallable (map description_of descriptions.now) }
+    ensures { IfOk result (IsLoopBy (map description_of descriptions.now) (loop_of source.now)
+        width more) }
+{
+    let turns = turns_of(source);
+    let kernel = unroll(alloc, source, turns)?;
+    let block = compile_described(alloc, descriptions, &kernel, width, more)?;
+    let rest = compile_described(alloc, descriptions, &source.kernel, width, more)?;
+    let steps = Vec::from_slice(alloc, source.steps.as_slice())?;
+    Ok(Looped {
+        block,
+        rest,
+        times: source.times,
+        steps: Items::from_vec(steps),
+        turns,
+    })
+}
 
 /// The looped text of a loop, whose programs may call the instructions of a catalogue whose
 /// extension is in the set: a block of as many turns as one kernel may have, and a rest of one turn.
@@ -37,16 +71,6 @@ pub fn compile_loop(
     ensures { IfOk result (IsCompiledLoop (entries_in catalog.now) (bits_in allowed) (loop_of
         source.now) width more) }
 {
-    let turns = turns_of(source);
-    let kernel = unroll(alloc, source, turns)?;
-    let block = compile_by(alloc, catalog, allowed, &kernel, width, more)?;
-    let rest = compile_by(alloc, catalog, allowed, &source.kernel, width, more)?;
-    let steps = Vec::from_slice(alloc, source.steps.as_slice())?;
-    Ok(Looped {
-        block,
-        rest,
-        times: source.times,
-        steps: Items::from_vec(steps),
-        turns,
-    })
+    let descriptions = descriptions_of(alloc, catalog, allowed)?;
+    compile_loop_described(alloc, descriptions.as_slice(), source, width, more)
 }

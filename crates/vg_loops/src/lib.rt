@@ -15,7 +15,7 @@ mod running;
 mod turn;
 mod unrolling;
 
-pub use compiling::compile_loop;
+pub use compiling::{compile_loop, compile_loop_described};
 pub use counted::Loop;
 pub use limits::turns_of;
 pub use loop_reading::{loop_place, parse_loop};
