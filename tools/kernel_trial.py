@@ -129,7 +129,7 @@ class Trial:
             if may_meet and others and self.rng.random() < 0.8:
                 place = self.rng.choice(others) + self.rng.randrange(-24, 40) * self.grain
             else:
-                place = end + self.rng.randrange(5) * self.grain - low
+                place = end + self.rng.randrange(5) * self.grain - min(low, 0)
             place += -place % self.grain
             if place + min(0, low) < 0:
                 return None
