@@ -28,6 +28,8 @@ mod outside_cases;
 #[cfg(test)]
 mod run_cases;
 #[cfg(test)]
+mod terms_cases;
+#[cfg(test)]
 mod text_cases;
 #[cfg(test)]
 mod trial_cases;

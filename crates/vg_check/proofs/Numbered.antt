@@ -1,5 +1,5 @@
 -- The first difference of the numbered values of a kernel is that of the kernel.
-use Rattle.std.proofs.Common.{◌≡◌, ◌∙◌, ℕ, List, [], map, Option, Some, None, refl, sym, ap}
+use Rattle.std.proofs.Common.{◌≡◌, ◌∙◌, List, [], Option, None, refl, sym, ap}
 use Rattle.std.specs.Option.{option_map}
 use Rattle.vg_catalog.specs.Called.{called_by}
 use Rattle.vg_catalog.specs.Entries.{Entry}

@@ -1,22 +1,14 @@
 -- What is told of the first difference between a kernel and a program.
-use Rattle.std.specs.Prelude.{ℕ, Bool, true, false, List, [], ◌++◌, map, codes}
+use Rattle.std.specs.Prelude.{ℕ, Bool, true, false, List, ◌++◌, codes}
 use Rattle.std.specs.Fmt.{decimal}
 use Rattle.vg_terms.specs.declared.text.Names.{Names}
 use Rattle.vg_terms.specs.Term.{Tree}
 use Rattle.vg_terms.specs.Text.{text}
 use Rattle.vg_program.specs.declared.param.Param.{Param}
-use Rattle.vg_program.specs.Params.{integers, pointers}
 use Rattle.vg_program.specs.Text.{address_text}
 use Rattle.vg_events.specs.Events.{Label}
 use Rattle.vg_known.specs.Difference as known
-
--- the names of pointers and of integers, by their numbers
-abbrev pub names_of : List Param → Names
-names_of ps = record {
-  params = [];
-  pointers = map (λ p. p.name) (pointers ps);
-  arguments = map (λ p. p.name) (integers ps);
-}
+use Rattle.vg_value_text.specs.Names.{names_of}
 
 -- what a byte event does
 abbrev pub word_of : Bool → List ℕ

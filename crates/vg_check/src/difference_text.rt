@@ -1,58 +1,19 @@
 //! The text of the first difference.
 
-ghost use Rattle.std.specs.Prelude.{◌≡◌, ◌++◌, IfOk, OnOk, map};
-ghost use Rattle.vg_check.specs.Told.{access_text, difference_text, names_of, opaque_text, order_text, value_text, word_of};
+ghost use Rattle.std.specs.Prelude.{◌≡◌, ◌++◌, IfOk, OnOk};
+ghost use Rattle.vg_check.specs.Told.{access_text, difference_text, opaque_text, order_text, value_text, word_of};
 ghost use Rattle.vg_paired.specs.ByteLabels.{label_of};
-ghost use Rattle.vg_program.specs.Params.{integers, pointers};
 ghost use Rattle.vg_program.specs.Text.{address_text};
 ghost use Rattle.vg_verify.specs.Verdicts.{difference_of};
 
 use std::alloc::{AllocError, Global};
-use vg_base::{Items, Name};
 use vg_forms::Form;
 use vg_paired::{ByteLabel, Turned, Uneven};
 use vg_program::Param;
 use vg_program::parts::{pointer_name, put_number};
 use vg_terms::{Names, print_term};
+use vg_value_text::names_of;
 use vg_verify::Difference;
-
-fn pointer_names(alloc: Global, params: &[Param]) -> Result<Vec<Name>, AllocError>
-    ensures { IfOk result (λ names. names.items ≡ map (λ p. p.name) (pointers params.now)) }
-{
-    let mut names = Vec::new(alloc);
-    'params: for param in params {
-        if param.kind.is_pointer() {
-            names.push(param.name.copy(alloc)?)?;
-        }
-    }
-    Ok(names)
-}
-
-fn integer_names(alloc: Global, params: &[Param]) -> Result<Vec<Name>, AllocError>
-    ensures { IfOk result (λ names. names.items ≡ map (λ p. p.name) (integers params.now)) }
-{
-    let mut names = Vec::new(alloc);
-    'params: for param in params {
-        if param.kind.is_integer() {
-            names.push(param.name.copy(alloc)?)?;
-        }
-    }
-    Ok(names)
-}
-
-/// The names by which terms of values are printed: those of the pointers and of the integers, each
-/// in the order of the parameters.
-fn names_of(alloc: Global, params: &[Param]) -> Result<Names, AllocError>
-    ensures { IfOk result (λ names. names ≡ names_of params.now) }
-{
-    let pointers = pointer_names(alloc, params)?;
-    let arguments = integer_names(alloc, params)?;
-    Ok(Names {
-        params: Items::from_vec(Vec::new(alloc)),
-        pointers: Items::from_vec(pointers),
-        arguments: Items::from_vec(arguments),
-    })
-}
 
 fn word_of(writes: bool) -> &'static [u8]
     ensures { result.now ≡ word_of writes }

@@ -30,14 +30,14 @@ asked_of free o = option_and_then (λ parts. option_and_then (λ guard. option_a
 abbrev pub Says : List ℕ → ArgMatches → Bool → Type 0
 Says id m given = (one_text (found_of m) id ≡ Some (codes "true") → given ≡ true) × (one_text (found_of m) id ≡ Some (codes "false") → given ≡ false)
 
-flag_is : (id : List ℕ) (free given : Bool) (gs : List (List ℕ)) (m : ArgMatches) → are_few free gs ≡ true → one_text (found_of m) id ≡ Some (flag_text gs) → Says id m given → flag_of free gs ≡ Some given
+pub flag_is : (id : List ℕ) (free given : Bool) (gs : List (List ℕ)) (m : ArgMatches) → are_few free gs ≡ true → one_text (found_of m) id ≡ Some (flag_text gs) → Says id m given → flag_of free gs ≡ Some given
 flag_is id free given [] m few is says = ap (λ b. Some b) (sym (says.1 is))
 flag_is id true given (g ∷ []) m few is says = ap (λ b. Some b) (sym (says.0 is))
 flag_is id false given (g ∷ gs) m few is says = cc
 flag_is id true given (g ∷ h ∷ gs) m few is says = cc
 
 -- at most one of each, where it may stand
-few_parts : (free : Bool) (ps : List Part) → may_follow (free_first free) (Some ps) ≡ true
+pub few_parts : (free : Bool) (ps : List Part) → may_follow (free_first free) (Some ps) ≡ true
     → (at_most_one (widths_in ps) ≡ true) × (are_few free (flags_in Guard ps) ≡ true) × (at_most_one (flags_in More ps) ≡ true)
 few_parts free ps e =
     let all = and_parts (at_most_one (widths_in ps)) _ e in
@@ -73,7 +73,7 @@ two_widths (v ∷ w ∷ vs) e = refl
 no_width : (ps : List Part) → at_most_one (widths_in ps) ≡ false → choices_of ps ≡ None
 no_width ps e = rw (two_widths (widths_in ps) e) refl
 
-no_flag : (free : Bool) (gs : List (List ℕ)) → are_few free gs ≡ false → flag_of free gs ≡ None
+pub no_flag : (free : Bool) (gs : List (List ℕ)) → are_few free gs ≡ false → flag_of free gs ≡ None
 no_flag true [] e = cc
 no_flag false [] e = cc
 no_flag true (g ∷ []) e = cc

@@ -3,7 +3,7 @@ use Rattle.std.proofs.Common.{◌≡◌, ◌∙◌, ℕ, true, false, List, [], 
 use Rattle.std.specs.Prelude.{slice_get, unwrap_or}
 use Rattle.std.specs.Str.{bytes_eq}
 use Rattle.vg_request.specs.Readable.{are_read, are_options, are_plain}
-use Rattle.vg_request.specs.Request.{request_of, lift_words, explain_words, trial_words, check_words}
+use Rattle.vg_request.specs.Request.{request_of, lift_words, explain_words, trial_words, check_words, terms_words}
 
 begun : (ws : List (List ℕ)) (w : List ℕ) → slice_get ws 0 ≡ Some w → ws ≡ w ∷ drop 1 ws
 begun [] w e = cc
@@ -38,3 +38,9 @@ check_at ws w e h lift explain trial is = ap request_of (begun ws w e) ∙ rw (h
 
 pub check_read : (ws : List (List ℕ)) (w : List ℕ) → slice_get ws 0 ≡ Some w → IsBehindEval w → bytes_eq w (codes "lift") ≡ false → bytes_eq w (codes "explain") ≡ false → bytes_eq w (codes "trial") ≡ false → bytes_eq w (codes "check") ≡ true → are_plain (drop 1 ws) ≡ are_read ws
 check_read ws w e h lift explain trial is = sym (ap are_read (begun ws w e) ∙ rw (h.compile, h.run, h.eval, lift, explain, trial, is) refl)
+
+pub terms_at : (ws : List (List ℕ)) (w : List ℕ) → slice_get ws 0 ≡ Some w → IsBehindEval w → bytes_eq w (codes "lift") ≡ false → bytes_eq w (codes "explain") ≡ false → bytes_eq w (codes "trial") ≡ false → bytes_eq w (codes "check") ≡ false → bytes_eq w (codes "terms") ≡ true → request_of ws ≡ terms_words (drop 1 ws)
+terms_at ws w e h lift explain trial check is = ap request_of (begun ws w e) ∙ rw (h.compile, h.run, h.eval, lift, explain, trial, check, is) refl
+
+pub terms_read : (ws : List (List ℕ)) (w : List ℕ) → slice_get ws 0 ≡ Some w → IsBehindEval w → bytes_eq w (codes "lift") ≡ false → bytes_eq w (codes "explain") ≡ false → bytes_eq w (codes "trial") ≡ false → bytes_eq w (codes "check") ≡ false → bytes_eq w (codes "terms") ≡ true → are_options false (drop 1 ws) ≡ are_read ws
+terms_read ws w e h lift explain trial check is = sym (ap are_read (begun ws w e) ∙ rw (h.compile, h.run, h.eval, lift, explain, trial, check, is) refl)

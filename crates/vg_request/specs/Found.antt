@@ -1,13 +1,14 @@
 -- What `clap` finds in the words after a command, and what is asked for by it.
-use Rattle.std.specs.Prelude.{◌≡◌, ℕ, Bool, List, [], ◌∷◌, Option, Some, None, codes, unwrap_or, if◌then◌else◌}
+use Rattle.std.specs.Prelude.{◌≡◌, ℕ, ◌&&◌, Bool, List, [], ◌∷◌, Option, Some, None, codes, unwrap_or, if◌then◌else◌}
 use Rattle.std.specs.List.{list_all}
 use Rattle.std.specs.Option.{option_and_then, option_map}
 use Rattle.clap.specs.Words.{found_of, matched_of, one_text, raw_values}
 use Rattle.clap.specs.declared.parser.matches.ArgMatches.{ArgMatches}
 use Rattle.vg_request.specs.Binding.{is_binding, bindings_in}
-use Rattle.vg_request.specs.Options.{KernelAsked, width_of, allowed_of, two_files}
+use Rattle.vg_request.specs.Options.{AloneAsked, KernelAsked, width_of, allowed_of, one_file, two_files}
 use Rattle.vg_request.specs.declared.part.Flag.TheVariants.{Guard, More}
 use Rattle.vg_request.specs.Parts.{Part, widths_in, extensions_in, flags_in, words_in}
+use Rattle.vg_request.specs.Readable.{is_nothing}
 use Rattle.vg_request.specs.Request.{Asked, run, eval, lift, trial, check, trial_number}
 
 -- all values of an argument, in their order
@@ -39,6 +40,12 @@ kernel_by guard more widths names files =
 abbrev pub kernel_found : Bool → Bool → ArgMatches → Option KernelAsked
 kernel_found guard more m = kernel_by guard more (values_of (codes "width") m)
     (values_of (codes "with") m) (values_of (codes "files") m)
+
+abbrev pub alone_found : Bool → ArgMatches → Option AloneAsked
+alone_found more m =
+    if is_nothing (values_of (codes "width") m) && is_nothing (values_of (codes "with") m)
+    then one_file more (values_of (codes "files") m)
+    else None
 
 -- what the values ask for after each other command, and the words after its files
 abbrev pub run_found : List (List ℕ) → List (List ℕ) → Option Asked

@@ -4,9 +4,11 @@ use Rattle.std.specs.Option.{option_and_then, option_map}
 use Rattle.vg_text.specs.Number.{decimal_value}
 use Rattle.vg_catalog.specs.Extensions.{all_extensions, extension_place, bits_in}
 use Rattle.vg_request.specs.declared.options.Options.{Options}
+use Rattle.vg_request.specs.declared.reading.KernelAlone.{KernelAlone}
 use Rattle.vg_request.specs.declared.reading.OnKernel.{OnKernel}
 use Rattle.vg_request.specs.declared.part.Flag.TheVariants.{Guard, More}
 use Rattle.vg_request.specs.Parts.{Part, parts_of, widths_in, extensions_in, flags_in, words_in}
+use Rattle.vg_request.specs.Readable.{is_nothing}
 
 -- the width of the search, the extensions whose entries may be called (bit i stands for the extension
 -- at place i of their list), and whether more plans are asked for
@@ -85,6 +87,30 @@ kernel_asked free words =
     option_and_then (λ choices. two_files guard choices (words_in parts))
     (choices_of parts)) (flag_of free (flags_in Guard parts))) (parts_of words)
 
+-- a kernel, and whether `--more` stands beside it
+pub record AloneAsked : Type 0 where
+  pub kernel : List ℕ
+  pub more : Bool
+
+abbrev pub one_file : Bool → List (List ℕ) → Option AloneAsked
+one_file more (kernel ∷ []) = Some (record { kernel = kernel; more = more })
+one_file more _ = None
+
+-- no option stands there, but for `--more`
+abbrev pub more_alone : List Part → Bool
+more_alone parts =
+    is_nothing (widths_in parts)
+    && (is_nothing (extensions_in parts) && is_nothing (flags_in Guard parts))
+
+-- `KERNEL`, with `--more` at most once before or behind it
+abbrev pub alone_asked : List (List ℕ) → Option AloneAsked
+alone_asked words =
+    option_and_then (λ parts.
+    if more_alone parts
+    then option_and_then (λ more. one_file more (words_in parts))
+    (flag_of true (flags_in More parts))
+    else None) (parts_of words)
+
 -- what the code's values stand for
 abbrev pub choices_seen : Options → Choices
 choices_seen o = record { width = o.width; allowed = bits_in o.allowed; more = o.more }
@@ -96,3 +122,6 @@ kernel_seen k = record {
   choices = choices_seen k.options;
   guard = k.guard;
 }
+
+abbrev pub alone_seen : KernelAlone → AloneAsked
+alone_seen k = record { kernel = k.kernel.now; more = k.more }

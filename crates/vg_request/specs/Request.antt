@@ -5,9 +5,9 @@ use Rattle.std.specs.List.{list_all}
 use Rattle.std.specs.Option.{option_and_then, option_map}
 use Rattle.vg_text.specs.Number.{decimal_value}
 use Rattle.vg_request.specs.declared.request.Request.{Request}
-use Rattle.vg_request.specs.declared.request.Request.TheVariants.{Compile, Run, Eval, Lift, Explain, Trial, Check}
+use Rattle.vg_request.specs.declared.request.Request.TheVariants.{Compile, Run, Eval, Lift, Explain, Trial, Check, Terms}
 use Rattle.vg_request.specs.Binding.{Binding, is_binding, bindings_in}
-use Rattle.vg_request.specs.Options.{Choices, kernel_asked, choices_seen}
+use Rattle.vg_request.specs.Options.{Choices, alone_asked, kernel_asked, choices_seen}
 use Rattle.vg_request.specs.Word.{plain_word}
 
 -- what is asked for, each file by its name; `compile` with guards or without
@@ -19,6 +19,7 @@ pub data Asked : Type 0 where
   explain : List ℕ → List ℕ → Choices → Asked
   trial : List ℕ → ℕ → Asked
   check : List ℕ → List ℕ → List ℕ → Asked
+  terms : List ℕ → Bool → Asked
 
 -- the names of its files, in the order in which they are read
 abbrev pub files_of : Asked → List (List ℕ)
@@ -29,6 +30,7 @@ files_of (lift instructions) = instructions ∷ []
 files_of (explain instructions kernel choices) = instructions ∷ kernel ∷ []
 files_of (trial instructions number) = instructions ∷ []
 files_of (check instructions kernel program) = instructions ∷ kernel ∷ program ∷ []
+files_of (terms kernel more) = kernel ∷ []
 
 -- words that are no request name no file
 abbrev pub files_in : Option Asked → List (List ℕ)
@@ -104,6 +106,10 @@ check_words (a ∷ b ∷ c ∷ []) =
     (plain_word c)) (plain_word b)) (plain_word a)
 check_words _ = None
 
+-- the words after `terms KERNEL`, with `--more` anywhere among them
+abbrev pub terms_words : List (List ℕ) → Option Asked
+terms_words words = option_map (λ k. terms k.kernel k.more) (alone_asked words)
+
 -- the command, and what stands after it; all other words are no request
 abbrev pub request_of : List (List ℕ) → Option Asked
 request_of [] = None
@@ -115,6 +121,7 @@ request_of (command ∷ words) =
     else if bytes_eq command (codes "explain") then explain_words words
     else if bytes_eq command (codes "trial") then trial_words words
     else if bytes_eq command (codes "check") then check_words words
+    else if bytes_eq command (codes "terms") then terms_words words
     else None
 
 -- what a request of the code asks for
@@ -126,3 +133,4 @@ asked_of (Lift a) = lift a.now
 asked_of (Explain a b options) = explain a.now b.now (choices_seen options)
 asked_of (Trial a number) = trial a.now number
 asked_of (Check a b c) = check a.now b.now c.now
+asked_of (Terms a more) = terms a.now more

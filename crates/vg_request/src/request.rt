@@ -3,12 +3,12 @@
 ghost use Rattle.std.specs.Prelude.{◌≡◌, true, false, Ok, None, option_map, IfOk, drop, length, ◌≤◌};
 ghost use Rattle.vg_request.specs.Found.{run_found, eval_found, lift_found, trial_found, check_found};
 ghost use Rattle.vg_request.specs.Readable.{are_options, are_plain, are_read};
-ghost use Rattle.vg_request.specs.Request.{run_words, eval_words, lift_words, compile_words, explain_words, trial_number, trial_words, check_words, request_of, files_of, file_name, asked_of};
+ghost use Rattle.vg_request.specs.Request.{run_words, eval_words, lift_words, compile_words, explain_words, trial_number, trial_words, check_words, terms_words, request_of, files_of, file_name, asked_of};
 ghost use Rattle.vg_request.specs.Texts.{texts_of};
 
 use crate::binding::are_bindings;
 use crate::options::Options;
-use crate::reading::{are_plain, on_kernel, positional, values_of};
+use crate::reading::{are_plain, kernel_alone, on_kernel, positional, values_of};
 use std::alloc::{AllocError, Global};
 use vg_outside::{Bytes, Words};
 use vg_text::decimal;
@@ -57,6 +57,12 @@ pub enum Request<'a> {
         kernel: &'a str,
         program: &'a str,
     },
+    /// The lines on the values of a kernel, or of the kernel of a loop's turns; with `more` their cut
+    /// terms too.
+    Terms {
+        kernel: &'a str,
+        more: bool,
+    },
 }
 
 impl<'a> Request<'a> {
@@ -79,6 +85,7 @@ impl<'a> Request<'a> {
             (Request::Check { instructions, .. }, 0..=1) => instructions,
             (Request::Check { kernel, .. }, 2) => kernel,
             (Request::Check { program, .. }, 3) => program,
+            (Request::Terms { kernel, .. }, 0..=1) => kernel,
             _ => "",
         }
     }
@@ -118,6 +125,9 @@ pub fn request_of(alloc: Global, words: &Words) -> Result<Option<Request<'_>>, A
     }
     if command == b"check".as_slice() {
         return check_words(alloc, words);
+    }
+    if command == b"terms".as_slice() {
+        return terms_words(alloc, words);
     }
     Ok(None)
 }
@@ -314,4 +324,18 @@ fn check_words(alloc: Global, words: &Words) -> Result<Option<Request<'_>>, Allo
     }
     let matches = positional(alloc, behind)?;
     Ok(check_found(values_of(&matches, "files")))
+}
+
+fn terms_words(alloc: Global, words: &Words) -> Result<Option<Request<'_>>, AllocError>
+    requires { 1 ≤ length words.now }
+    ensures asked { IfOk result (λ r. option_map asked_of r ≡ terms_words (drop 1 words.now)) }
+    ensures refused { are_options false (drop 1 words.now) ≡ false → result ≡ Ok None }
+{
+    let Some(asked) = kernel_alone(alloc, words.behind(1))? else {
+        return Ok(None);
+    };
+    Ok(Some(Request::Terms {
+        kernel: asked.kernel,
+        more: asked.more,
+    }))
 }

@@ -4,5 +4,6 @@ pub mod Checks
 pub mod Endings
 pub mod Few
 pub mod Fronts
+pub mod Values
 pub mod Works
 mod Steps

@@ -5,7 +5,7 @@ use Rattle.vg_top.specs.declared.ending.Ending.TheVariants.{WriteFault}
 use Rattle.vg_top.specs.declared.status.Status.{Status}
 use Rattle.vg_top.specs.declared.status.Status.TheVariants as status
 use Rattle.vg_top.specs.Ending.{status_of}
-use Rattle.vg_request.specs.Request.{Asked, compile, run, eval, lift, explain, trial, check}
+use Rattle.vg_request.specs.Request.{Asked, compile, run, eval, lift, explain, trial, check, terms}
 
 -- the commands that read a file of instructions
 abbrev pub reads_instructions : Asked → Bool
@@ -16,6 +16,7 @@ reads_instructions (explain instructions kernel choices) = true
 reads_instructions (lift instructions) = true
 reads_instructions (trial instructions number) = true
 reads_instructions (check instructions kernel program) = true
+reads_instructions (terms kernel more) = false
 
 -- the commands that read a kernel
 abbrev pub reads_kernel : Asked → Bool
@@ -26,6 +27,7 @@ reads_kernel (explain instructions kernel choices) = true
 reads_kernel (lift instructions) = false
 reads_kernel (trial instructions number) = false
 reads_kernel (check instructions kernel program) = true
+reads_kernel (terms kernel more) = true
 
 -- the commands that read a program
 abbrev pub reads_program : Asked → Bool
@@ -36,6 +38,7 @@ reads_program (explain instructions kernel choices) = false
 reads_program (lift instructions) = false
 reads_program (trial instructions number) = false
 reads_program (check instructions kernel program) = true
+reads_program (terms kernel more) = false
 
 -- the commands that bind parameters and run something on a memory
 abbrev pub runs : Asked → Bool
@@ -46,6 +49,7 @@ runs (explain instructions kernel choices) = false
 runs (lift instructions) = false
 runs (trial instructions number) = false
 runs (check instructions kernel program) = false
+runs (terms kernel more) = false
 
 -- the command that compares a program with a kernel
 abbrev pub compares : Asked → Bool
@@ -56,6 +60,7 @@ compares (explain instructions kernel choices) = false
 compares (lift instructions) = false
 compares (trial instructions number) = false
 compares (check instructions kernel program) = true
+compares (terms kernel more) = false
 
 -- A request may end so: its instructions, its kernel, its program are refused only where it reads
 -- them, bindings are refused and runs trap only where it binds parameters and runs something, and a

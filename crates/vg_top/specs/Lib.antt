@@ -15,6 +15,7 @@ pub mod Outcome
 pub mod ProgramFile
 pub mod Run
 pub mod Status
+pub mod Terms
 pub mod Trial
 pub mod Verdict
 pub mod Works

@@ -7,7 +7,7 @@ use Rattle.vg_top.specs.declared.ending.Ending.TheVariants.{Usage}
 use Rattle.vg_top.specs.declared.status.Status.{Status}
 use Rattle.vg_top.specs.declared.status.Status.TheVariants as status
 use Rattle.vg_top.specs.Ending.{status_of}
-use Rattle.vg_request.specs.Request.{Asked, compile, run, eval, lift, explain, trial, check, request_of}
+use Rattle.vg_request.specs.Request.{Asked, compile, run, eval, lift, explain, trial, check, terms, request_of}
 use Rattle.vg_top.specs.declared.on_kernel.Task.TheVariants.{Program, Guarded, Plan}
 use Rattle.vg_top.specs.OnKernel.{written_for}
 use Rattle.vg_top.specs.Outcome.{Outcome, memory_left, listing, line_on, IsAnswer, VecAnswers}
@@ -15,6 +15,7 @@ use Rattle.vg_top.specs.Check.{checked}
 use Rattle.vg_top.specs.Eval.{evaluated}
 use Rattle.vg_top.specs.Lift.{listed}
 use Rattle.vg_top.specs.Run.{ran}
+use Rattle.vg_top.specs.Terms.{values_listed}
 use Rattle.vg_top.specs.Trial.{trial_told}
 use Rattle.vg_top.specs.Files.{Tells}
 use Rattle.vg_top.specs.Line.{line_of}
@@ -32,6 +33,7 @@ outcome_of held (lift instructions) = listed held instructions >>= λ lines. Ok 
 outcome_of held (trial instructions number) =
     trial_told held instructions number >>= λ t. Ok (line_on t)
 outcome_of held (check instructions kernel program) = checked held instructions kernel program
+outcome_of held (terms kernel more) = values_listed held kernel more >>= λ lines. Ok (listing lines)
 
 -- what is to be written, or the first refusal: of the words, and then of the files in their order
 abbrev pub asked_outcome : Held → Option Asked → Result Outcome Ending

@@ -15,6 +15,7 @@ mod on_kernel;
 mod program_file;
 mod run;
 mod status;
+mod terms;
 mod top;
 mod trial;
 

@@ -21,6 +21,7 @@ use crate::message::say;
 use crate::on_kernel::{Task, on_kernel};
 use crate::run::run;
 use crate::status::Status;
+use crate::terms::terms;
 use crate::trial::trial;
 use std::alloc::Global;
 use vg_outside::{Shelf, Sink, Words};
@@ -89,6 +90,7 @@ fn answer<S: Shelf>(
                 program,
             },
         ) => check(alloc, shelf, instructions, kernel, program),
+        Some(Request::Terms { kernel, more }) => terms(alloc, shelf, kernel, more),
         None => Err(Ending::Usage),
     }
 }
@@ -118,6 +120,9 @@ fn answer<S: Shelf>(
 /// `check INSTRUCTIONS KERNEL PROGRAM` writes `same` where the program, from anywhere, has no
 /// difference to the kernel: then it means the kernel. Else its status is `Differs`, and the line
 /// tells the first difference; the program may mean the kernel all the same.
+/// `terms KERNEL` writes a line on each value of the kernel as `compile` numbers them: what it is,
+/// and the term of an operation and of what is stored; with `--more` cut terms too; of a loop on the
+/// values of the kernel of its turns.
 ///
 /// The words are read with `clap`, which takes memory; words that it is not given are refused
 /// without. All files are read before the one write. What goes wrong is told by the status and by one

@@ -2,7 +2,7 @@ use Rattle.std.proofs.Common.{rules, ◌≡◌, ◌∙◌, true, false, codes, O
 use Rattle.std.specs.Prelude.{slice_get}
 use Rattle.std.specs.Str.{bytes_eq}
 use Rattle.vg_request.specs.Request.{Asked, asked_of}
-use Rattle.vg_request.proofs.Commands.{IsBehindEval, lift_at, lift_read, explain_at, explain_read, trial_at, trial_read, check_at, check_read}
+use Rattle.vg_request.proofs.Commands.{IsBehindEval, lift_at, lift_read, explain_at, explain_read, trial_at, trial_read, check_at, check_read, terms_at, terms_read}
 use Rattle.vg_request.proofs.request.request_of.Goals as goal
 
 pub returns-then-eq-4-clause-asked : goal.returns-then-eq-4-clause-asked
@@ -80,3 +80,27 @@ returns-then-eq-7-clause-refused c = λ unread.
     let trial : bytes_eq w (codes "trial") ≡ false = search rules in
     let check : bytes_eq w (codes "check") ≡ true = search rules in
     c.check_words.ensures.refused (check_read c.args.words.now w first before lift explain trial check ∙ unread)
+
+pub returns-then-eq-8-clause-asked : goal.returns-then-eq-8-clause-asked
+returns-then-eq-8-clause-asked c =
+    let w = c.get-command.result.now in
+    let first : slice_get c.args.words.now 0 ≡ Some w = search rules in
+    let before : IsBehindEval w = record { compile = search rules; run = search rules; eval = search rules } in
+    let lift : bytes_eq w (codes "lift") ≡ false = search rules in
+    let explain : bytes_eq w (codes "explain") ≡ false = search rules in
+    let trial : bytes_eq w (codes "trial") ≡ false = search rules in
+    let check : bytes_eq w (codes "check") ≡ false = search rules in
+    let terms : bytes_eq w (codes "terms") ≡ true = search rules in
+    subst (λ (a : Option Asked). IfOk c.terms_words.result (λ r. option_map asked_of r ≡ a)) (sym (terms_at c.args.words.now w first before lift explain trial check terms)) c.terms_words.ensures.asked
+
+pub returns-then-eq-8-clause-refused : goal.returns-then-eq-8-clause-refused
+returns-then-eq-8-clause-refused c = λ unread.
+    let w = c.get-command.result.now in
+    let first : slice_get c.args.words.now 0 ≡ Some w = search rules in
+    let before : IsBehindEval w = record { compile = search rules; run = search rules; eval = search rules } in
+    let lift : bytes_eq w (codes "lift") ≡ false = search rules in
+    let explain : bytes_eq w (codes "explain") ≡ false = search rules in
+    let trial : bytes_eq w (codes "trial") ≡ false = search rules in
+    let check : bytes_eq w (codes "check") ≡ false = search rules in
+    let terms : bytes_eq w (codes "terms") ≡ true = search rules in
+    c.terms_words.ensures.refused (terms_read c.args.words.now w first before lift explain trial check terms ∙ unread)

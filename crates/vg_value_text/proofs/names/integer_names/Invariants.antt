@@ -1,0 +1,6 @@
+use Rattle.std.proofs.Common.{◌≡◌, ◌++◌, map, drop}
+use Rattle.vg_program.specs.Params.{integers}
+use Rattle.vg_value_text.proofs.names.integer_names.Given as goal
+
+abbrev pub invariant-params : goal.invariant-params
+invariant-params l = l.names.items ++ map (λ p. p.name) (integers (drop l.param-index l.params)) ≡ map (λ p. p.name) (integers l.params)
