@@ -1,10 +1,11 @@
 """What tools/from-ir and tools/from-c share: their words, and a function of a text of IR as a kernel."""
-import argparse, os, re, sys
+import os, re, sys
 
 import kernel_trial
 import llvm_ir as ir
 from llvm_kernel import Refusal, Translation
 from llvm_loop import LoopTranslation
+from words import Words
 
 sys.setrecursionlimit(20000)
 
@@ -13,17 +14,9 @@ class Fault(Exception):
     """What ends a tool with one line."""
 
 
-class Reader(argparse.ArgumentParser):
-    """A reader of words whose complaint is one line."""
-
-    def error(self, message):
-        self.exit(2, f'{self.prog}: {message}\n')
-
-
-def reader_of(tool, page, file):
+def reader_of(page, file):
     """A reader of the words that both tools take."""
-    reader = Reader(prog=tool, description=page, formatter_class=argparse.RawDescriptionHelpFormatter,
-                                     usage=re.search(r'usage: (.*)', page).group(1))
+    reader = Words(page)
     reader.add_argument('file', metavar=file)
     reader.add_argument('function', metavar='FUNCTION')
     for option in ('--rows', '--loop', '--noalias', '--both'):

@@ -1,4 +1,6 @@
-"""The texts of the kernels of trials, as crates/vg_trial/specs/Trial.antt says them."""
+"""The texts of the kernels of trials, as crates/vg_trial/specs/Trial.antt says them, and of kernels at random."""
+import random
+
 WORDS = {'Sums': 4, 'Products': 4, 'Clamped': 8, 'Averages': 16, 'Pairs': 4}
 
 
@@ -25,3 +27,49 @@ def trial_kernel(n):
         shape = list(WORDS)[(n // 40 + k) % 5]
         lines += [trial_statement(shape, k, i) for i in range(WORDS[shape])]
     return 'kernel trial(d: noalias ptr, p: ptr, q: ptr) {\n' + '\n'.join(lines) + '\n}\n'
+
+
+class Mixed:
+    """A kernel of one statement at random, for each lane of one or two registers."""
+
+    def __init__(self, seed, number):
+        self.rng, self.used = random.Random(f'{seed} mixed {number}'), 0
+        self.width = self.rng.choice([8, 16, 32])
+        self.lanes = 128 // self.width * self.rng.choice([1, 1, 2])
+        made, step = self.value(self.rng.choice([1, 2, 2, 3])), self.width // 8
+        lines = [f'store{self.width}(d + {step * i}, {made(i)});' for i in range(self.lanes)]
+        self.text = f'kernel mixed(d: noalias ptr, p: ptr, q: ptr, k: i{self.width}) {{\n' + '\n'.join(lines) + '\n}\n'
+
+    def load(self, width):
+        """Loads beside each other, of numbers that no other load of the statement reads."""
+        pointer, start, step = self.rng.choice('pq'), self.used, width // 8
+        self.used += self.lanes * step
+        return lambda i: f'load{width}({pointer} + {start + step * i})'
+
+    def value(self, depth):
+        """The text of a value by its lane."""
+        rng, w = self.rng, self.width
+        if depth == 0:
+            return self.load(w) if rng.random() < 0.9 else lambda i: 'k'
+        x, number = self.value(depth - 1), rng.choice([1, 7, 2**(w - 1), 2**w - 1, rng.getrandbits(w)])
+        kind = rng.choice(['two', 'two', 'two', 'turned', 'shift', 'average', 'dot', 'choice', 'wide'])
+        if kind == 'turned':
+            return lambda i: f'({number}i{w} - {x(i)})'
+        if kind == 'shift' and w > 8:
+            name, by = rng.choice(['shl', 'lshr', 'ashr']), rng.randrange(1, w)
+            return lambda i: f'{name}({x(i)}, {by})'
+        if kind == 'dot' and w == 32:
+            factors = [(rng.choice('pq'), self.used + 4 * self.lanes * j) for j in range(2)]
+            self.used += 8 * self.lanes
+            pair = [lambda i, p=p, at=at: [f'sext32(load16({p} + {at + 4 * i + 2 * j}))' for j in range(2)] for p, at in factors]
+            return lambda i: '({0} * {2} + {1} * {3})'.format(*pair[0](i), *pair[1](i))
+        y = self.value(rng.randrange(depth))
+        if kind == 'average' and w < 32:
+            return lambda i: f'trunc{w}(lshr(zext{2 * w}({x(i)}) + zext{2 * w}({y(i)}) + 1i{2 * w}, 1))'
+        if kind == 'choice':
+            test, z = rng.choice(['slt', 'eq']), self.value(0)
+            return lambda i: f'select({test}({x(i)}, {y(i)}), {z(i)}, {number}i{w})'
+        if kind == 'wide' and w > 8:
+            return lambda i, narrow=self.load(w // 2), cast=rng.choice(['sext', 'zext']): f'({x(i)} + {cast}{w}({narrow(i)}))'
+        sign = rng.choice(['+', '-', '&', '|', '^', 'smin', 'smax', 'umin', 'umax'] + ['*'] * (w > 8))
+        return lambda i: f'({x(i)} {sign} {y(i)})' if len(sign) == 1 else f'{sign}({x(i)}, {y(i)})'
