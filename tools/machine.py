@@ -1,9 +1,9 @@
 """Runs a function of machine code on values that are not known, and writes the program that does the same."""
 import re
 
-from machine_bytes import STACK, UNDEFINED, Address, Part, Row, Scalar, Unknown, Writer, numbered, number_of, parts_of, whole
+from machine_bytes import STACK, UNDEFINED, Address, Part, Row, Scalar, Unknown, Writer, number_of, parts_of
 from machine_code import REGISTERS, Refused, Target
-from machine_scalar import NOTHING, Flags, Integers, address_of, bytes_of
+from machine_scalar import NOTHING, Integers, address_of, bytes_of
 from machine_vector import Vectors
 
 PASSED = 'rdi rsi rdx rcx r8 r9'.split()
@@ -77,10 +77,11 @@ class Machine(Integers, Vectors):
         if base == STACK:
             return [self.stack.get(offset + k, UNDEFINED) for k in range(size)]
         at = f'{base}{offset:+d}'
-        if size < 4 or size == 8 and not vector or size == 4 and not vector:
+        if size < 4 or size <= 8 and not vector:
             return bytes_of(self.writer.scalar(8 * size, f'load {at}', again=False), size)
         widths = set().union(*(self.widths.get((base, offset + k), set()) for k in range(size)))
-        row = self.writer.row(256 if size == 32 else 128, f'vload {size} {at}', min(widths or {8}), again=False, zeros=frozenset(range(size, 16)))
+        row = self.writer.row(256 if size == 32 else 128, f'vload {size} {at}', min(widths or {8}), again=False,
+                              zeros=frozenset(range(size, 16)))
         return row.parts()[:size]
 
     def reached(self, place, storing=False):
@@ -161,7 +162,8 @@ class Machine(Integers, Vectors):
         """Where a jump or a call of the object goes."""
         target = i.operands[0] if i.operands else None
         if not isinstance(target, Target) or target.address not in self.code.instructions:
-            raise Refused('call' if i.name == 'call' or isinstance(target, Target) else 'branch on data', target.name if isinstance(target, Target) else '')
+            named = isinstance(target, Target)
+            raise Refused('call' if i.name == 'call' or named else 'branch on data', target.name if named else '')
         if '@plt' in target.name:
             raise Refused('call', target.name)
         return target.address

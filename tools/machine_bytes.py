@@ -96,7 +96,7 @@ class Writer:
     def __init__(self, kernel, library, form=''):
         self.kernel, self.library, self.form = kernel, library, form
         self.lines, self.known, self.cost, self.scalars, self.rows = [], {}, 0, 0, 0
-        self.entries, self.texts, self.compared = {}, {}, {}
+        self.entries, self.texts, self.compared, self.extremes = {}, {}, {}, {}
 
     # Lines
 
@@ -139,7 +139,25 @@ class Writer:
         found = whole(refs)
         if isinstance(found, Scalar):
             return found
+        zeros = next(k for k, ref in enumerate(refs) if ref != 0)
+        inner = refs[zeros].of if isinstance(refs[zeros], Part) else None
+        if zeros and isinstance(inner, Scalar) and inner.width == 8 * len(refs) and refs[zeros:] == parts_of(inner, len(refs) - zeros):
+            return self.shift('shl', inner, 8 * zeros, inner.width)
+        turned = whole(refs[::-1])
+        if isinstance(turned, Scalar) and len(refs) in (4, 8) and self.form != 'bytes':
+            return self.turned(turned, 8 * len(refs))
         return self.joined(pieces(refs), 8 * len(refs))
+
+    def turned(self, value, width):
+        """The number with its bytes in the other order, by shifts and masks."""
+        total = None
+        for at in range(0, width // 2, 8):
+            far = width - 8 - 2 * at
+            for name, mask in (('lshr', 255 << at), ('shl', 255 << width - 8 - at)):
+                one = self.shift(name, value, far, width)
+                one = self.binary('and', one, mask, width) if at else one
+                total = one if total is None else self.binary('or', total, one, width)
+        return total
 
     @staticmethod
     def check(refs):
@@ -155,7 +173,8 @@ class Writer:
         total = None
         for at, run in runs:
             number = number_of(run)
-            one = number << 8 * at if number is not None else self.shift('shl', self.extended('zext', self.piece(run), width), 8 * at, width)
+            one = number << 8 * at if number is not None \
+                else self.shift('shl', self.extended('zext', self.piece(run), width), 8 * at, width)
             total = one if total is None else self.binary('or', total, one, width)
         return total
 
@@ -227,8 +246,21 @@ class Writer:
         if name == 'slt' and y == 0 and x == b and self.are_opposite(a, b, width):
             return self.scalar(width, f'smax {self.word(a, width)} {self.word(b, width)}')
         if name != 'eq' and (a, b) in ((x, y), (y, x)):
-            return self.scalar(width, f'{name[0]}{"min" if a == x else "max"} {self.word(x, width)} {self.word(y, width)}')
+            return self.extreme(name[0], 'min' if a == x else 'max', x, y, width)
         return self.scalar(width, f'select {condition.name} {self.word(a, width)} {self.word(b, width)}')
+
+    def extreme(self, sign, which, x, y, width):
+        """The lesser or the greater of two; a clamp with its greater first, as tools/from-c writes it."""
+        value, number = (y, x) if isinstance(x, int) else (x, y)
+        inner = self.extremes.get(value)
+        if which == 'max' and isinstance(number, int) and inner and inner[0] == sign:
+            end = (lambda one: signed(one, width)) if sign == 's' else lambda one: one
+            if end(number) <= end(inner[2]):
+                return self.extreme(sign, 'min', self.extreme(sign, 'max', inner[1], number, width), inner[2], width)
+        made = self.scalar(width, f'{sign}{which} {self.word(x, width)} {self.word(y, width)}')
+        if which == 'min' and isinstance(number, int):
+            self.extremes[made] = sign, value, number
+        return made
 
     def are_opposite(self, a, b, width):
         """Whether one of two scalars is 0 less the other."""
@@ -246,7 +278,29 @@ class Writer:
         if number is not None:
             zeros = frozenset(k for k, ref in enumerate(refs) if ref == 0)
             return self.row(8 * len(refs), 'const ' + bytes(refs).hex(), 64, zeros=zeros)
-        return self.inserted(refs)
+        products = self.products(refs)
+        return self.register(products) if products != refs else self.inserted(refs)
+
+    def products(self, refs):
+        """The bytes, those of the low and the high halves of products of words beside each other as those of products of 32 bits."""
+        made = list(refs)
+        for k in range(0, len(refs), 4):
+            low, high = refs[k], refs[k + 2]
+            if not all(isinstance(ref, Part) and isinstance(ref.of, Row) and ref.of.made for ref in (low, high)) or low.at % 2:
+                continue
+            one, two = low.of.made, high.of.made
+            if one[0] == 'pmullw' and two[0] in ('pmulhw', 'pmulhuw') and one[1:] == two[1:] \
+                    and refs[k:k + 4] == [low, Part(low.of, low.at + 1), Part(high.of, low.at), Part(high.of, low.at + 1)]:
+                made[k:k + 4] = self.product(one[1], one[2], 'SI16' if two[0] == 'pmulhw' else 'UI16', low.at // 2)
+        return made
+
+    def product(self, a, b, kind, word):
+        """The bytes of the product of 32 bits of word `word` of two registers."""
+        lanes = len(a) // 4
+        first = word // lanes * lanes
+        body = '\n'.join(f' dst.dword[{k}] := a.word[{first + k}] * b.word[{first + k}]' for k in range(lanes))
+        row = self.own('products', [self.register(list(a)), self.register(list(b))], 8 * len(a), 32, body, [kind, kind])
+        return [Part(row, 4 * (word - first) + k) for k in range(4)]
 
     def inserted(self, refs):
         """The register with its scalars put into lanes of their own, the other bytes moved there before."""
@@ -256,7 +310,7 @@ class Writer:
                 source = run[0].of
                 size = source.width // 8
                 if run[0].at or len(run) != size or at % size:
-                    source = self.operand_of_run(run)
+                    source = self.piece(run)
                     size = source.width // 8
                     if at % size or size != len(run):
                         rest[at:at + len(run)] = self.row_of_scalar(source).parts()[:len(run)]
@@ -269,9 +323,6 @@ class Writer:
         for lane, source in scalars:
             made = self.row(made.width, f'insert {made.name} {lane} {source.name}', min(source.width, made.lanes))
         return made
-
-    def operand_of_run(self, run):
-        return self.piece(run)
 
     def row_of_scalar(self, scalar):
         return self.row(128, f'insert {self.register([0] * 16).name} 0 {scalar.name}', scalar.width)
@@ -290,10 +341,24 @@ class Writer:
             early = sources[:MOST_SOURCES]
             made = self.moved([ref if isinstance(ref, Part) and ref.of in early else 0 for ref in refs])
             return self.moved([Part(made, k) if isinstance(ref, Part) and ref.of in early else ref for k, ref in enumerate(refs)])
+        swapped = self.swapped(refs) if len(sources) == 1 and sources[0].width == 8 * len(refs) else 0
+        if swapped:
+            name = f'seq_swap_epi{swapped}' + ('_256' if len(refs) == 32 else '')
+            if self.form == 'bytes':
+                name = f'seq_swap_epi{swapped}_bytes' + ('_256' if len(refs) == 32 else '')
+            return self.call(name, sources, 8 * len(refs), swapped)
         lanes = self.lanes_of(refs)
         body = '\n'.join(self.moves(refs, lanes, dict(zip(sources, 'abcd'))))
         zeros = frozenset(k for k, ref in enumerate(refs) if is_zero(ref))
         return self.own('moves', sources, 8 * len(refs), lanes, body, zeros=zeros)
+
+    @staticmethod
+    def swapped(refs):
+        """The bits of the lanes of which the bytes stand in the other order, or 0."""
+        for size in (2, 4, 8):
+            if all(isinstance(ref, Part) and ref.at == k - k % size + size - 1 - k % size for k, ref in enumerate(refs)):
+                return 8 * size
+        return 0
 
     @staticmethod
     def lanes_of(refs):

@@ -10,8 +10,8 @@ RELOCATABLE, LOADED, WRITABLE = 1, 1, 2
 # Instructions of SSE whose first operand is written alone; all others read it as well.
 NOT_READ = re.compile(r'mov|pshuf[dlh]|pmov|pabs|pextr|extract|lddqu|phminpos|ptest|sqrt|cvt|ucomi|comi')
 MERGING = re.compile(r'mov[lh]p[sd]$|movhlps$|movlhps$|movs[sd]$')
-SSE = re.compile(r'p(?!op|ush|refetch|ause|ext|dep)\w+$|mov(dq[au]|[au]p[sd]|s[sd]|[dq]|[lh]p[sd]|hlps|lhps|ddup|s[hl]dup|ntdqa?|ntp[sd])$'
-                 r'|(add|sub|mul|div|min|max|and|andn|or|xor|shuf|blend|blendv|unpck[lh]|insert|extract)[ps][sd]$|lddqu$|mpsadbw$|(cvt|ucomi|comi|sqrt)\w+$')
+SSE = re.compile(r'p(?!op|ush|refetch|ause|ext|dep)\w+$|lddqu$|mpsadbw$|(and|andn|or|xor|shuf|blend|blendv|unpck[lh]|insert)p[sd]$'
+                 r'|mov(dq[au]|[au]p[sd]|s[sd]|[dq]|[lh]p[sd]|hlps|lhps|ddup|s[hl]dup|ntdqa?|ntp[sd])$')
 
 Register = collections.namedtuple('Register', 'name size at')        # `at`: the first of its bytes in the whole register
 Vector = collections.namedtuple('Vector', 'number size')
@@ -155,7 +155,7 @@ class Object:
     def linked(self):
         with tempfile.TemporaryDirectory() as folder:
             path = os.path.join(folder, 'linked')
-            output(['ld', '--unresolved-symbols=ignore-all', '--no-warn-rwx-segments', '-z', 'noexecstack', '-e', '0', '-o', path, self.path])
+            output(['ld', '--unresolved-symbols=ignore-all', '-z', 'noexecstack', '-e', '0', '-o', path, self.path])
             with open(path, 'rb') as file:
                 return file.read(), output(['objdump', '-d', '-M', 'intel', '--no-show-raw-insn', path])
 

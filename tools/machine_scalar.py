@@ -1,11 +1,12 @@
 """What integer instructions do to the state of a machine: numbers of the program, and addresses."""
 import collections
 
-from machine_bytes import STACK, UNDEFINED, Address, Part, Scalar, Unknown, numbered, number_of, parts_of, signed, whole
+from machine_bytes import STACK, Address, Part, Unknown, numbered, number_of, parts_of, signed, whole
 from machine_code import Memory, Number, Refused, Register, REGISTERS
 
 Flags = collections.namedtuple('Flags', 'kind a b result width')
-ALIKE = {'z': 'e', 'nz': 'ne', 'nae': 'b', 'c': 'b', 'nb': 'ae', 'nc': 'ae', 'na': 'be', 'nbe': 'a', 'nge': 'l', 'nl': 'ge', 'ng': 'le', 'nle': 'g'}
+ALIKE = {'z': 'e', 'nz': 'ne', 'nae': 'b', 'c': 'b', 'nb': 'ae', 'nc': 'ae', 'na': 'be', 'nbe': 'a', 'nge': 'l', 'nl': 'ge', 'ng': 'le',
+         'nle': 'g'}
 OPPOSITE = {'ne': 'e', 'ge': 'l', 'le': 'g', 'ae': 'b', 'be': 'a', 'ns': 's'}
 CONDITIONS = 'e ne l ge g le b ae a be s ns'.split()
 NOTHING = ('nop', 'endbr64', 'vzeroupper', 'vzeroall', 'prefetcht0', 'prefetcht1', 'prefetcht2', 'prefetchnta', 'prefetchw')
@@ -111,7 +112,10 @@ class Integers:
         a, b = self.get(target), self.get(source, size)
         if isinstance(source, Register) and len(b) != size:
             raise Refused('unknown instruction')
-        made = a if a == b and name in ('and', 'or') else self.computed(name, a, b)
+        if name in ('or', 'add') and size > 1 and all(0 in pair for pair in zip(a, b)):
+            made = [x if y == 0 else y for x, y in zip(a, b)]
+        else:
+            made = a if a == b and name in ('and', 'or') else self.computed(name, a, b)
         self.flags = Flags({'add': 'add', 'sub': 'sub'}.get(name, 'logic'), a, b, made, 8 * size)
         return made
 
@@ -185,6 +189,10 @@ class Integers:
             raise Refused('shift by data')
         count &= 63 if size == 8 else 31
         name = {'shl': 'shl', 'sal': 'shl', 'shr': 'lshr', 'sar': 'ashr'}[i.name]
+        refs, many = self.get(target), count // 8
+        if name == 'shl' and count % 8 == 0 and count and refs[size - many:] == [0] * min(many, size):
+            self.flags = None
+            return self.put(target, [0] * many + refs[:size - many])
         made = bytes_of(self.writer.shift(name, self.writer.operand(self.get(target)), count, 8 * size), size)
         if count:
             self.flags = Flags('result', None, None, made, 8 * size)
@@ -250,7 +258,8 @@ class Integers:
     def i_cdq(self, i):
         target, source = {'cdq': ('edx', 'eax'), 'cqo': ('rdx', 'rax')}[i.name]
         size = REGISTERS[source].size
-        self.put(REGISTERS[target], bytes_of(self.writer.shift('ashr', self.writer.operand(self.get(REGISTERS[source])), 8 * size - 1, 8 * size), size))
+        value = self.writer.operand(self.get(REGISTERS[source]))
+        self.put(REGISTERS[target], bytes_of(self.writer.shift('ashr', value, 8 * size - 1, 8 * size), size))
 
     i_cqo = i_cdq
 
@@ -301,9 +310,7 @@ class Integers:
         a, b, width = flags.a, flags.b, flags.width
         if flags.kind == 'sub' and (address_of(a) or address_of(b)):
             return self.addresses_compare(base, address_of(a), address_of(b))
-        if flags.result and (address_of(flags.result) or any(isinstance(r, Part) and isinstance(r.of, (Address, Unknown)) for r in flags.result)):
-            if flags.kind in ('add', 'sub', 'result') and address_of(flags.result) and base == 'e' and address_of(flags.result).base != STACK:
-                raise Refused('branch on pointers')
+        if any(isinstance(ref, Part) and isinstance(ref.of, (Address, Unknown)) for ref in flags.result or []):
             raise Refused('branch on pointers')
         compare, operand = self.writer.compare, self.writer.operand
         if base == 's' or base == 'e' and flags.kind != 'sub':

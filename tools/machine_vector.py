@@ -1,7 +1,7 @@
 """What vector instructions do to the state of a machine: bytes are moved, and lanes are computed by entries of the library."""
 import re
 
-from machine_bytes import ELEMENTS, UNDEFINED, Part, Row, is_zero, number_of, padded, row_with, signed
+from machine_bytes import ELEMENTS, Part, Row, is_zero, number_of, padded, row_with, signed
 from machine_code import Memory, Number, Refused, Register, Vector
 
 BITS = {'b': 8, 'w': 16, 'd': 32, 'q': 64}
@@ -32,9 +32,6 @@ def table():
 
 
 TABLE = table()
-WHOLE = re.compile(r'v?(mov(dq[au]\d*|[au]p[sd]|ntdqa?|ntp[sd])|lddqu)$')
-BITWISE = re.compile(r'vp?(and|andn|or|xor)(p[sd])?$')
-UNPACK = re.compile(r'v(?:punpck|unpck)([lh])(bw|wd|dq|qdq|ps|pd)$')
 BROADCAST = {'vpbroadcastb': 1, 'vpbroadcastw': 2, 'vpbroadcastd': 4, 'vpbroadcastq': 8, 'vbroadcasti128': 16, 'vbroadcastf128': 16,
              'vbroadcastss': 4, 'vbroadcastsd': 8}
 
@@ -101,13 +98,68 @@ class Vectors:
             return [0] * len(a)
         if name in ('packuswb', 'packusdw') and all(self.narrow(refs, lanes // 8) for refs in (a, b)):
             size = lanes // 8
-            return [ref for block in range(0, len(a), 16) for refs in (a, b) for k in range(block, block + 16, 2 * size) for ref in refs[k:k + size]]
+            return [ref for block in range(0, len(a), 16) for refs in (a, b) for k in range(block, block + 16, 2 * size)
+                    for ref in refs[k:k + size]]
+        twice = self.packed_twice(a, b) if name in ('packuswb', 'packsswb') else None
+        if twice:
+            return self.pack_dwords(twice, len(a), name[4])
         if re.match(r'p(add|sub)(u?s)?[bwdq]$', name) and number_of(b) == 0:
             return a
         if re.match(r'padd(u?s)?[bwdq]$', name) and number_of(a) == 0:
             return b
         zeros = frozenset(k for k in range(len(a)) if name == 'psadbw' and k % 8 > 1)
-        return self.entry(word, [a, b], lanes, zeros=zeros)
+        ordered = re.match(r'p(min|max|subus)([su]?)[bwd]$', name)
+        if ordered and ordered[1] == 'max' and (clamp := self.clamp(a, b, lanes, ordered[2]) or self.clamp(b, a, lanes, ordered[2])):
+            value, low, high = clamp
+            return self.entry('min' + word[3:], [self.entry(word, [value, low], lanes), high], lanes)
+        made = ordered and (ordered[1], 's' if ordered[2] == 's' else 'u', tuple(a), tuple(b))
+        if name in ('packssdw', 'pmullw', 'pmulhw', 'pmulhuw'):
+            made = name, tuple(a), tuple(b)
+        return self.entry(word, [a, b], lanes, zeros=zeros, made=made or None)
+
+    @staticmethod
+    def packed_twice(a, b):
+        """Of each lane that is packed the dword that it was packed of before, as (bytes of a register, lane); None where one was not."""
+        found = []
+        for block in range(0, len(a), 16):
+            for refs in (a, b):
+                for k in range(block, block + 16, 2):
+                    low, high = refs[k:k + 2]
+                    row = low.of if isinstance(low, Part) else None
+                    if not isinstance(row, Row) or not row.made or row.made[0] != 'packssdw' or low.at % 2 or high != Part(row, low.at + 1):
+                        return None
+                    word = low.at // 2
+                    found.append((row.made[1 + word % 8 // 4], word // 8 * 4 + word % 4))
+        return found
+
+    def pack_dwords(self, lanes, size, sign):
+        """Bytes that dwords are packed to at once, in the place of two packs."""
+        sources = list(dict.fromkeys(refs for refs, _ in lanes))
+        names = dict(zip(sources, 'abcd'))
+        if len(sources) > 4:
+            half = size // 2
+            both = [self.pack_dwords(part, size, sign) for part in (lanes[:half] * 2, lanes[half:] * 2)]
+            return both[0][:half] + both[1][:half]
+        body = '\n'.join(f' dst.byte[{k}] := Saturate{sign.upper()}8({names[refs]}.dword[{lane}])' for k, (refs, lane) in enumerate(lanes))
+        rows = [self.writer.register(list(refs)) for refs in sources]
+        return self.writer.own('packs', rows, 8 * size, 8, body, ['SI32'] * len(rows)).parts()
+
+    @staticmethod
+    def clamp(a, low, lanes, sign):
+        """The value, the low end and the high end where `max(a, low)` is a clamp whose lesser was taken first; the other order is the one
+        that tools/from-c writes."""
+        row = row_with(a)
+        if number_of(low) is None or not row or not row.made or row.made[:2] != ('min', sign):
+            return None
+        x, y = row.made[2:]
+        value, high = (x, y) if number_of(y) is not None else (y, x)
+        size = lanes // 8
+        if number_of(high) is None:
+            return None
+        ends = [[number_of(refs[k:k + size]) for k in range(0, len(refs), size)] for refs in (low, high)]
+        if sign == 's':
+            ends = [[signed(number, lanes) for number in row] for row in ends]
+        return (list(value), low, list(high)) if all(one <= two for one, two in zip(*ends)) else None
 
     @staticmethod
     def narrow(refs, size):
@@ -121,16 +173,35 @@ class Vectors:
         a, b = self.sources(i)
         if i.operands[1] == i.operands[2]:
             return [255 if kind == 'eq' else 0] * len(a)
-        return self.entry(f'cmp{kind}_epi{BITS[letter]}', [a, b], BITS[letter], made=(kind, BITS[letter], tuple(a), tuple(b), True))
+        lanes = BITS[letter]
+        made = self.order(a, b) or self.order(b, a) if kind == 'eq' else None
+        made = ('gt', made[0] + str(lanes), *made[1:], False) if made else (kind, f'i{lanes}', tuple(a), tuple(b), True)
+        return self.entry(f'cmp{kind}_epi{lanes}', [a, b], lanes, made=made)
+
+    @staticmethod
+    def order(a, b):
+        """Where a is equal to b exactly when x is not greater than y: the sign of that comparison, x and y. So it is where b is the
+        lesser or the greater of a and another, or where a is 0 and b a difference that saturates."""
+        row = row_with(b)
+        if not row or not row.made or row.made[0] not in ('min', 'max', 'subus'):
+            return None
+        kind, sign, x, y = row.made
+        sign = 'u' if sign == 'u' else 'i'
+        if kind == 'subus':
+            return (sign, x, y) if number_of(a) == 0 else None
+        if tuple(a) not in (x, y):
+            return None
+        other = y if tuple(a) == x else x
+        return (sign, tuple(a), other) if kind == 'min' else (sign, other, tuple(a))
 
     def picked(self, made, yes, no):
         """The bytes yes where a comparison holds, else no."""
         kind, lanes, a, b, straight = made
         if not straight:
             yes, no = no, yes
-        name = f'seq_{kind}_blend_epi{lanes}' + ('_256' if len(a) == 32 else '')
+        name = f'seq_{kind}_blend_ep{lanes}' + ('_256' if len(a) == 32 else '')
         rows = [self.writer.register(list(refs)) for refs in (a, b, yes, no)]
-        return self.writer.call(name, rows, 8 * len(a), lanes).parts()
+        return self.writer.call(name, rows, 8 * len(a), int(lanes[1:])).parts()
 
     @staticmethod
     def comparison(refs):
@@ -146,7 +217,7 @@ class Vectors:
         if number is not None:
             top = lambda k: mask[k - k % (lanes // 8) + lanes // 8 - 1]
             return [b[k] if top(k) & 128 else a[k] for k in range(len(a))]
-        if made and made[1] >= lanes:
+        if made and int(made[1][1:]) >= lanes:
             return self.picked(made, b, a)
         word = {'pblendvb': 'blendv_epi8', 'blendvps': 'blendv_ps_e32', 'blendvpd': 'blendv_pd_e64'}[kind]
         return self.entry(word, [a, b, mask], lanes)
@@ -198,7 +269,8 @@ class Vectors:
         nothing = [0] * len(a)
         if name == 'xor' and (one and number_of(b) == (1 << 8 * len(b)) - 1 or two and number_of(a) == (1 << 8 * len(a)) - 1):
             kind, lanes, x, y, straight = one or two
-            return self.entry('xor_si256' if len(a) == 32 else 'xor_si128', [a, b], lanes, made=(kind, lanes, x, y, not straight))
+            word = ('xor_si256' if len(a) == 32 else 'xor_si128') + {'64': ''}.get(lanes[1:], f'_e{lanes[1:]}')
+            return self.entry(word, [a, b], int(lanes[1:]), made=(kind, lanes, x, y, not straight))
         if name == 'or':
             rows = row_with(a), row_with(b)
             both = [row.made for row in rows if row and row.made and row.made[0] == 'picked']
@@ -305,7 +377,8 @@ class Vectors:
         a, b = self.sources(i)
         size = {'bw': 1, 'wd': 2, 'dq': 4, 'qdq': 8, 'ps': 4, 'pd': 8}[kind]
         at = 8 if half == 'h' else 0
-        return [ref for block in range(0, len(a), 16) for k in range(block + at, block + at + 8, size) for ref in a[k:k + size] + b[k:k + size]]
+        return [ref for block in range(0, len(a), 16) for k in range(block + at, block + at + 8, size)
+                for ref in a[k:k + size] + b[k:k + size]]
 
     @staticmethod
     def four(refs, order, size):
@@ -410,13 +483,15 @@ class Vectors:
         return self.entry('mpsadbw_epu8', [a, b], 16, immediate=self.immediate(i) & 7)
 
     PATTERNS = [(re.compile(pattern + '$'), act) for pattern, act in (
-        (r'v(?:mov(dq[au]\d*|[au]p[sd]|ntdqa?|ntp[sd])|lddqu)', whole_move), (r'vmov([dq])', low_move), (r'vmovs([sd])', scalar_move),
+        (r'v(?:mov(?:dq[au]|[au]p[sd]|ntdqa?|ntp[sd])|lddqu)', whole_move), (r'vmov([dq])', low_move), (r'vmovs([sd])', scalar_move),
         (r'vmov([lh])(p[sd])', half_move), (r'vmov(hl|lh)ps', cross_move), (r'vmov(d|sh|sl)dup', twice_move),
         (r'vpabs([bwd])', absolute), (r'vpcmp(eq|gt)([bwdq])', compare), (r'v(pblendvb|blendvps|blendvpd)', blend_by_mask),
         (r'vp?(and|andn|or|xor)(p[sd])?', bitwise), (r'vps(ll|rl|ra)([wdq])', shift), (r'vps(ll|rl|ra)v([dq])', shift_each),
         (r'vpmov([sz])x([bwd])([wdq])', widen), (r'v(?:punpck|unpck)([lh])(bw|wd|dq|qdq|ps|pd)', unpack),
         (r'vpshuf[lh]w', shuffle_words), (r'vpshufd|vpermilps', shuffle_dwords), (r'vpshufb', shuffle_bytes), (r'vpalignr', align),
         (r'vpermq|vpermpd', permute_qwords), (r'vpermd|vpermps', permute_dwords), (r'vperm2[if]128', permute_halves),
-        ('|'.join(BROADCAST), broadcast), (r'vinsert[if]128', insert_half), (r'vextract[if]128', extract_half), (r'vpinsr([bwdq])', insert_lane),
-        (r'vpextr([bwdq])', extract_lane), (r'vinsertps', insert_dword), (r'v(pblendw|pblendd|blendps|blendpd)', blend),
-        (r'vps([lr])ldq', shift_bytes), (r'vshufp([sd])', shuffle_two), (r'vmpsadbw', sums_of_differences))]
+        ('|'.join(BROADCAST), broadcast), (r'vinsert[if]128', insert_half), (r'vextract[if]128', extract_half),
+        (r'vpinsr([bwdq])', insert_lane), (r'vpextr([bwdq])', extract_lane), (r'vinsertps', insert_dword),
+        (r'v(pblendw|pblendd|blendps|blendpd)', blend),
+        (r'vps([lr])ldq', shift_bytes),
+        (r'vshufp([sd])', shuffle_two), (r'vmpsadbw', sums_of_differences))]
