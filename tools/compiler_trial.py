@@ -1,5 +1,5 @@
 """What a compiler made of a function of C, beside the kernel that tools/from-c makes of it: runs of both, and `vegen check`."""
-import argparse, importlib.machinery, importlib.util, os, re, shlex, subprocess
+import argparse, importlib.machinery, importlib.util, os, re, subprocess
 
 import clang_ir
 import kernel_from_ir
@@ -12,13 +12,27 @@ from machine_bytes import library_of
 from words import ROOT
 
 LIBRARY = os.path.join(ROOT, 'library', 'avx2')
-FORMS = ('max', '', 'maxmin', 'if', 'round')
+FORMS = ('max', '', 'maxmin', 'if', 'round', 'bytes')
 SHARED_WORDS = re.compile(r'-(I|D|U|std=|include|isystem|f(un)?signed-char)')
+PLAIN = ('-O0', '-w', '-fwrapv', '-fno-strict-aliasing')
+TRAPPING = ('-O1', '-w', '-fsanitize=undefined', '-fno-sanitize=alignment', '-fsanitize-trap=all')
 FAR, SECONDS = 4000, 120
 
 
 class Fault(Exception):
     """What ends a trial with one line."""
+
+
+class NoKernel(Fault):
+    """A function that is no kernel."""
+
+
+class NoProgram(Fault):
+    """Machine code that is no program; `why` is the cause."""
+
+    def __init__(self, line, why):
+        super().__init__(line)
+        self.why = why
 
 
 def from_c():
@@ -29,8 +43,8 @@ def from_c():
     return module
 
 
-def kernel_words(path, function, passes=None):
-    return argparse.Namespace(file=path, function=function, passes=passes, rows=False, loop=False, noalias=False, both=False)
+def kernel_words(path, function, passes, both):
+    return argparse.Namespace(file=path, function=function, passes=passes, rows=False, loop=False, noalias=False, both=both)
 
 
 def shared_words(words):
@@ -43,18 +57,18 @@ def shared_words(words):
     return found
 
 
-def kernels_of(path, function, flags, passes=None):
+def kernels_of(path, function, flags, passes=None, both=False):
     """The kernels of a function, by few passes and by those of -O2, each with its translation; the cause where there is none."""
     tool, found, refused = from_c(), [], None
     for which in ('few', 'O2') if passes is None else (passes,):
         try:
-            text, made = tool.kernel(kernel_words(path, function, which), flags, {})
+            text, made = tool.kernel(kernel_words(path, function, which, both), flags, {})
             if all(text.split('\n', 1)[1] != other.split('\n', 1)[1] for other, _ in found):
                 found.append((text, made))
         except (kernel_from_ir.Fault, clang_ir.Missing) as fault:
             refused = refused or fault
     if not found:
-        raise Fault(str(refused))
+        raise NoKernel(str(refused))
     return found
 
 
@@ -136,11 +150,11 @@ class Verdict:
 class Trial:
     """A function of C, the command that compiles it, and how many memories are tried."""
 
-    def __init__(self, path, function, command, vegen, folder, memories=100, seed=1, passes=None):
+    def __init__(self, path, function, command, vegen, folder, memories=100, seed=1, passes=None, both=False):
         self.path, self.function, self.command, self.vegen, self.folder = path, function, command, vegen, folder
         self.memories, self.seed, self.library = memories, seed, library_of(LIBRARY)
-        self.kernels = kernels_of(path, function, shared_words(command[1:]), passes)
-        self.program, self.refused = None, None
+        self.kernels = kernels_of(path, function, shared_words(command[1:]), passes, both)
+        self.program, self.form, self.kernel = None, FORMS[0], self.kernels[0][0]
 
     def verdict(self):
         """Compiles, runs and compares."""
@@ -158,16 +172,22 @@ class Trial:
         if wrong:
             return wrong
         shown = f'{len(left) - len(runs.out)} memories are left alike'
-        extended = {made.exact[p.name]: {'signext': 'sext', 'zeroext': 'zext'}[word] for p in made.function.parameters
-                    for word in ('signext', 'zeroext') if word in p.attributes}
         try:
-            code = machine_code.Object(target)
-            return self.compared(code, extended, runs, left, shown)
+            return self.compared(machine_code.Object(target), runs, left, shown)
         except Refused as refused:
-            self.refused = refused
-            raise Fault(f'{self.function}: {refused} ({shown})')
+            raise NoProgram(f'{self.function}: {refused} ({shown})', refused.why)
         except machine_code.Fault as fault:
             raise Fault(str(fault))
+
+    def extended(self):
+        """What the caller puts above narrow integers, as clang has it."""
+        made = self.kernels[0][1]
+        return {made.exact[given.name]: {'signext': 'sext', 'zeroext': 'zext'}[word] for given in made.function.parameters
+                for word in ('signext', 'zeroext') if word in given.attributes}
+
+    def written(self, code, kernel, form):
+        """The writer of the program of the machine code."""
+        return Machine(code, self.function, Kernel(self.function, kernel), self.library, form, self.extended()).run()
 
     # Runs
 
@@ -182,17 +202,16 @@ class Trial:
             if at is None:
                 line = f'WRONG: a byte outside of memory {k} is written {where}'
             else:
-                line = f'WRONG: byte {at} of memory {k} is {left[k][at]} by the machine code, {runs.by_kernel[k][at]} by the kernel {where}'
+                line = (f'WRONG: byte {at} of memory {k} is {left[k][at]} by the machine code, {runs.by_kernel[k][at]} by the kernel '
+                        f'{where}')
             return Verdict('WRONG', line, runs.text, memory=runs.memories[k])
         return None
 
     def is_open(self, runs, k):
         """Whether C says nothing of what is left of a memory; complains where it says another thing than the kernel."""
-        clang, _ = clang_ir.both_programs()
-        flags = shared_words(self.command[1:])
-        plain = compiled([clang, '-O0', '-w', '-fwrapv', '-fno-strict-aliasing', *flags], self.path, self.folder, 'plain')[1]
-        checked = compiled([clang, '-O1', '-w', '-fsanitize=undefined', '-fno-sanitize=alignment', '-fsanitize-trap=all', *flags], self.path,
-                           self.folder, 'checked')[1]
+        clang, flags = clang_ir.both_programs()[0], shared_words(self.command[1:])
+        plain = compiled([clang, *PLAIN, *flags], self.path, self.folder, 'plain')[1]
+        checked = compiled([clang, *TRAPPING, *flags], self.path, self.folder, 'checked')[1]
         try:
             runs.left(checked, [k])
         except kernel_trial.Failed:
@@ -210,17 +229,18 @@ class Trial:
             file.write(entries)
         for k in range(len(left)):
             if left[k] is not None and runs.ran(['run', shared], 'program', program, k) != left[k]:
-                raise Fault(f'{self.function}: the program does not do what the machine code does on memory {k} with {" ".join(runs.bound(k))}')
+                raise Fault(f'{self.function}: the program does not do what the machine code does on memory {k} with '
+                            f'{" ".join(runs.bound(k))}')
 
     # The comparison
 
-    def compared(self, code, extended, runs, left, shown):
+    def compared(self, code, runs, left, shown):
         """The verdict of `check`, by the kernels and the forms of entries in turn, as they are and levelled."""
         first, seen = None, set()
         for levelling in (False, True):
             for text, _ in self.kernels:
                 for form in FORMS:
-                    writer = Machine(code, self.function, Kernel(self.function, text), self.library, form, extended).run()
+                    writer = self.written(code, text, form)
                     program, entries = writer.text(), writer.entries_text()
                     if self.program is None:
                         self.program = program
@@ -230,12 +250,21 @@ class Trial:
                     seen.add((levelling, text, program, entries))
                     verdict = self.checked(text, program, entries, levelling, runs, left)
                     if verdict.word != 'differs':
+                        self.form, self.kernel = form, text
                         return verdict
                     first = first or verdict
         first.line += f' ({shown})'
         return first
 
     def checked(self, kernel, program, entries, levelling, runs, left):
+        """The verdict of `check` on one program; one that is called `same` has run as well."""
+        word, line, kernel, program = self.answer_of(kernel, program, entries, levelling)
+        if word != 'differs' and program != self.program:
+            self.tried(runs, left, program, entries)
+        return Verdict(word, line, kernel, program, entries)
+
+    def answer_of(self, kernel, program, entries, levelling):
+        """What `check` says, as a word and a line, and the kernel and the program as they were compared."""
         if levelling:
             levelled = Levelled(kernel, program)
             kernel, program = levelled.kernel, levelled.program
@@ -243,15 +272,14 @@ class Trial:
             with open(os.path.join(self.folder, name), 'w') as file:
                 file.write(text)
         try:
-            ended = subprocess.run([self.vegen, 'check', 'entries', 'kernel', 'program'], cwd=self.folder, capture_output=True, text=True,
-                                   timeout=SECONDS)
+            ended = subprocess.run([self.vegen, 'check', 'entries', 'kernel', 'program'], cwd=self.folder, capture_output=True,
+                                   text=True, timeout=SECONDS)
         except subprocess.TimeoutExpired:
-            return Verdict('differs', f'differs: check took more than {SECONDS} seconds', kernel, program, entries)
+            return 'differs', f'differs: check took more than {SECONDS} seconds', kernel, program
         if ended.returncode == 0:
-            self.tried(runs, left, program, entries)
             word = 'same, levelled' if levelling else 'same'
-            return Verdict(word, word, kernel, program, entries)
+            return word, word, kernel, program
         said = ended.stderr.strip().removeprefix('vegen: ')
         if ended.returncode != 13:
             raise Fault(f'{self.function}: check ends with {ended.returncode}: {said[:200]}')
-        return Verdict('differs', said if len(said) <= FAR else said[:FAR] + ' ..', kernel, program, entries)
+        return 'differs', said if len(said) <= FAR else said[:FAR] + ' ..', kernel, program
