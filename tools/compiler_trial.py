@@ -12,7 +12,7 @@ from machine_bytes import library_of
 from words import ROOT
 
 LIBRARY = os.path.join(ROOT, 'library', 'avx2')
-FORMS = ('max', '', 'maxmin', 'if', 'round', 'bytes')
+FORMS = ('max', '', 'maxmin', 'if', 'round', 'bytes', 'sums')
 SHARED_WORDS = re.compile(r'-(I|D|U|std=|include|isystem|f(un)?signed-char)')
 PLAIN = ('-O0', '-w', '-fwrapv', '-fno-strict-aliasing')
 TRAPPING = ('-O1', '-w', '-fsanitize=undefined', '-fno-sanitize=alignment', '-fsanitize-trap=all')
@@ -252,7 +252,8 @@ class Trial:
                     if verdict.word != 'differs':
                         self.form, self.kernel = form, text
                         return verdict
-                    first = first or verdict
+                    if first is None or 'access load' in first.line and 'access' not in verdict.line:
+                        first = verdict
         first.line += f' ({shown})'
         return first
 

@@ -163,9 +163,9 @@ class Machine(Integers, Vectors):
         target = i.operands[0] if i.operands else None
         if not isinstance(target, Target) or target.address not in self.code.instructions:
             named = isinstance(target, Target)
-            raise Refused('call' if i.name == 'call' or named else 'branch on data', target.name if named else '')
+            raise Refused('call' if i.name == 'call' or named else 'branch on data', self.code.callee(i.address, target) if named else '')
         if '@plt' in target.name:
-            raise Refused('call', target.name)
+            raise Refused('call', self.code.callee(i.address, target))
         return target.address
 
     def act(self, i):

@@ -14,6 +14,8 @@ Unknown = collections.namedtuple('Unknown', 'why what')
 STACK = '*stack'
 UNDEFINED = Part(Unknown('undefined bits used', ''), 0)
 MOST_SOURCES = 4
+# The form in which multiples of a value stay sums of its shifts.
+SUMS = 'sums'
 ENTRY = 'INSTRUCTION {name} {parameters}\nRESULT dst {width} UI{lanes} EXTENSION AVX2 COST 1 OPERATION\n{body}\nEND\n'
 ELEMENTS = {8: 'byte', 16: 'word', 32: 'dword', 64: 'qword'}
 
@@ -96,7 +98,7 @@ class Writer:
     def __init__(self, kernel, library, form=''):
         self.kernel, self.library, self.form = kernel, library, form
         self.lines, self.known, self.cost, self.scalars, self.rows = [], {}, 0, 0, 0
-        self.entries, self.texts, self.compared, self.extremes = {}, {}, {}, {}
+        self.entries, self.texts, self.compared, self.extremes, self.multiples = {}, {}, {}, {}, {}
 
     # Lines
 
@@ -215,7 +217,14 @@ class Writer:
             return a
         if a == b and name == 'add':
             return self.shift('shl', a, 1, width)
-        return self.scalar(width, f'{name} {self.word(a, width)} {self.word(b, width)}')
+        if name in ('add', 'sub') and isinstance(a, Scalar) and isinstance(b, Scalar) and self.form != SUMS:
+            (one, many), (two, more) = self.multiples.get(a, (a, 1)), self.multiples.get(b, (b, 1))
+            if one == two:
+                return self.binary('mul', one, (many + more if name == 'add' else many - more) & mask, width)
+        made = self.scalar(width, f'{name} {self.word(a, width)} {self.word(b, width)}')
+        if name == 'mul' and isinstance(b, int):
+            self.multiples[made] = a, b
+        return made
 
     def shift(self, name, a, count, width):
         if count >= width:
@@ -226,7 +235,11 @@ class Writer:
             return a
         if isinstance(a, int):
             return {'shl': a << count, 'lshr': a >> count, 'ashr': signed(a, width) >> count}[name] & (1 << width) - 1
-        return self.scalar(width, f'{name} {a.name} {count}')
+        made = self.scalar(width, f'{name} {a.name} {count}')
+        if name == 'shl':
+            base, many = self.multiples.get(a, (a, 1))
+            self.multiples[made] = base, many << count & (1 << width) - 1
+        return made
 
     def compare(self, name, a, b, width):
         """A comparison: True, False, or a scalar of one bit."""

@@ -7,6 +7,7 @@ import bisect, collections, os, re, struct, subprocess, tempfile
 SIZES = {'BYTE': 1, 'WORD': 2, 'DWORD': 4, 'QWORD': 8, 'XMMWORD': 16, 'YMMWORD': 32}
 PREFIXES = ('bnd', 'notrack', 'data16', 'cs', 'ds')
 RELOCATABLE, LOADED, WRITABLE = 1, 1, 2
+CALLED = re.compile(r'^\s+([0-9a-f]+):\t(?:call|jmp) .*\n\s+[0-9a-f]+: R_X86_64_\w+\s+([^\s+-]+)', re.M)
 # Instructions of SSE whose first operand is written alone; all others read it as well.
 NOT_READ = re.compile(r'mov|pshuf[dlh]|pmov|pabs|pextr|extract|lddqu|phminpos|ptest|sqrt|cvt|ucomi|comi')
 MERGING = re.compile(r'mov[lh]p[sd]$|movhlps$|movlhps$|movs[sd]$')
@@ -141,10 +142,12 @@ class Object:
             raise Fault(f'{path}: {fault.strerror}')
         if data[:6] != b'\x7fELF\x02\x01' or len(data) < 64 or struct.unpack_from('<H', data, 18)[0] != 62:
             raise Fault(f'{path}: no object of x86-64')
-        self.path, self.shown = path, {}
+        self.path, self.shown, self.called = path, {}, {}
         if struct.unpack_from('<H', data, 16)[0] == RELOCATABLE:
             data, text = self.linked()
-            self.shown = symbols_of(output(['objdump', '-d', '-M', 'intel', '--no-show-raw-insn', path]))
+            listing = output(['objdump', '-dr', '-M', 'intel', '--no-show-raw-insn', path])
+            self.shown = symbols_of(listing)
+            self.called = {int(address, 16): name for address, name in CALLED.findall(listing)}
         else:
             text = output(['objdump', '-d', '-M', 'intel', '--no-show-raw-insn', path])
         self.data, self.symbols, self.instructions = data, symbols_of(text), {}
@@ -178,13 +181,20 @@ class Object:
             raise Fault(f'{self.path}: no function {name}' + (f'; there are {some}' if some else ''))
         return self.symbols[name]
 
-    def address(self, address):
-        """The address as objdump shows it of the object, and that in its function."""
+    def place(self, address):
+        """The address as objdump shows it of the object, the name of its function and the address in it."""
         at = bisect.bisect_right(self.starts, (address, '\xff')) - 1
-        if at < 0:
-            return f'{address:x}'
-        start, name = self.starts[at]
-        return f'{self.shown.get(name, start) + address - start:x} <{name}+0x{address - start:x}>'
+        start, name = self.starts[at] if at >= 0 else (address, '')
+        return self.shown.get(name, start) + address - start, name, address - start
+
+    def address(self, address):
+        """The address as a line has it."""
+        shown, name, within = self.place(address)
+        return f'{shown:x} <{name}+0x{within:x}>' if name else f'{shown:x}'
+
+    def callee(self, address, target):
+        """The name of what an instruction calls or jumps to."""
+        return self.called.get(self.place(address)[0], target.name.removesuffix('@plt'))
 
     def constant(self, address, size):
         """Bytes that cannot be written."""

@@ -1,7 +1,7 @@
 """What vector instructions do to the state of a machine: bytes are moved, and lanes are computed by entries of the library."""
 import re
 
-from machine_bytes import ELEMENTS, Part, Row, is_zero, number_of, padded, row_with, signed
+from machine_bytes import ELEMENTS, SUMS, Part, Row, is_zero, number_of, padded, row_with, signed
 from machine_code import Memory, Number, Refused, Register, Vector
 
 BITS = {'b': 8, 'w': 16, 'd': 32, 'q': 64}
@@ -107,6 +107,9 @@ class Vectors:
             return a
         if re.match(r'padd(u?s)?[bwdq]$', name) and number_of(a) == 0:
             return b
+        times = self.sum_of_multiples(a, b, lanes, name[1:4]) if re.match(r'p(add|sub)[wd]$', name) else None
+        if times:
+            return times
         zeros = frozenset(k for k in range(len(a)) if name == 'psadbw' and k % 8 > 1)
         ordered = re.match(r'p(min|max|subus)([su]?)[bwd]$', name)
         if ordered and ordered[1] == 'max' and (clamp := self.clamp(a, b, lanes, ordered[2]) or self.clamp(b, a, lanes, ordered[2])):
@@ -116,6 +119,25 @@ class Vectors:
         if name in ('packssdw', 'pmullw', 'pmulhw', 'pmulhuw'):
             made = name, tuple(a), tuple(b)
         return self.entry(word, [a, b], lanes, zeros=zeros, made=made or None)
+
+    @staticmethod
+    def multiple(refs, lanes):
+        """What lanes are a multiple of by shifts and sums, and how many times that."""
+        row = row_with(refs)
+        return row.made[2:] if row and row.made and row.made[:2] == ('times', lanes) else (tuple(refs), 1)
+
+    def sum_of_multiples(self, a, b, lanes, word):
+        """The sum or the difference of two multiples of one register as a product with a constant, or None."""
+        (one, many), (two, more) = self.multiple(a, lanes), self.multiple(b, lanes)
+        if one != two or self.writer.form == SUMS or number_of(list(one)) is not None:
+            return None
+        total = (many + more if word == 'add' else many - more) % (1 << lanes)
+        return self.times(list(one), total, lanes)
+
+    def times(self, a, number, lanes):
+        made = 'times', lanes, tuple(a), number
+        constant = [number >> 8 * (k % (lanes // 8)) & 255 for k in range(len(a))]
+        return self.entry(f'mullo_epi{lanes}', [a, constant], lanes, made=made)
 
     @staticmethod
     def packed_twice(a, b):
@@ -305,7 +327,9 @@ class Vectors:
             blocks = [a[k:k + size] for k in range(0, len(a), size)]
             return [ref for block in blocks for ref in
                     ([0] * many + block[:size - many] if name == 'slli' else block[many:] + [0] * many)]
-        return self.entry(f'{name}_epi{lanes}', [a], lanes, immediate=count)
+        base, many = self.multiple(a, lanes)
+        made = ('times', lanes, base, many << count) if name == 'slli' else None
+        return self.entry(f'{name}_epi{lanes}', [a], lanes, immediate=count, made=made)
 
     def shift_each(self, i, kind, letter):
         lanes, (a, b) = BITS[letter], self.sources(i)
