@@ -98,7 +98,8 @@ class Writer:
     def __init__(self, kernel, library, form=''):
         self.kernel, self.library, self.form = kernel, library, form
         self.lines, self.known, self.cost, self.scalars, self.rows = [], {}, 0, 0, 0
-        self.entries, self.texts, self.compared, self.extremes, self.multiples = {}, {}, {}, {}, {}
+        self.entries, self.texts, self.compared = {}, {}, {}
+        self.extremes, self.multiples, self.sums = {}, {}, {}
 
     # Lines
 
@@ -221,7 +222,12 @@ class Writer:
             (one, many), (two, more) = self.multiples.get(a, (a, 1)), self.multiples.get(b, (b, 1))
             if one == two:
                 return self.binary('mul', one, (many + more if name == 'add' else many - more) & mask, width)
+        if name == 'sub' and b in self.sums and self.form != SUMS:
+            word, x, y = self.sums[b]
+            return self.binary('sub' if word == 'add' else 'add', self.binary('sub', a, x, width), y, width)
         made = self.scalar(width, f'{name} {self.word(a, width)} {self.word(b, width)}')
+        if name in ('add', 'sub') and a != 0:
+            self.sums[made] = name, a, b
         if name == 'mul' and isinstance(b, int):
             self.multiples[made] = a, b
         return made

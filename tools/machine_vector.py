@@ -110,6 +110,8 @@ class Vectors:
         times = self.sum_of_multiples(a, b, lanes, name[1:4]) if re.match(r'p(add|sub)[wd]$', name) else None
         if times:
             return times
+        if re.match(r'p(add|sub)[bwdq]$', name):
+            return self.sum(name[1:4], a, b, lanes)
         zeros = frozenset(k for k in range(len(a)) if name == 'psadbw' and k % 8 > 1)
         ordered = re.match(r'p(min|max|subus)([su]?)[bwd]$', name)
         if ordered and ordered[1] == 'max' and (clamp := self.clamp(a, b, lanes, ordered[2]) or self.clamp(b, a, lanes, ordered[2])):
@@ -133,6 +135,14 @@ class Vectors:
             return None
         total = (many + more if word == 'add' else many - more) % (1 << lanes)
         return self.times(list(one), total, lanes)
+
+    def sum(self, word, a, b, lanes):
+        """A sum or a difference; what is less a sum is less each of its parts."""
+        row = row_with(b)
+        if word == 'sub' and row and row.made and row.made[:2] in (('add', lanes), ('sub', lanes)) and self.writer.form != SUMS:
+            first = self.sum('sub', a, list(row.made[2]), lanes)
+            return self.sum('sub' if row.made[0] == 'add' else 'add', first, list(row.made[3]), lanes)
+        return self.entry(f'{word}_epi{lanes}', [a, b], lanes, made=(word, lanes, tuple(a), tuple(b)))
 
     def times(self, a, number, lanes):
         made = 'times', lanes, tuple(a), number
