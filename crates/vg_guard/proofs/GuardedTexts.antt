@@ -97,19 +97,19 @@ then-ends rest = refl
 
 -- ---- what is read
 
-checks-long : (params : List Param) (cs : List Check) → length cs ≤ length (checks_text params cs)
+pub checks-long : (params : List Param) (cs : List Check) → length cs ≤ length (checks_text params cs)
 checks-long params [] = omega arith
 checks-long params (c ∷ cs) =
     let both = length-append (check_text params c) (checks_text params cs) in
     let some : 1 ≤ length (check_text params c) = omega arith in
     omega (arith, both, some, checks-long params cs)
 
-record TakesGuarded (headers : List Header) (text : List ℕ) (g : Guarded) : Type 0 where
-  fast : KeepsRules headers g.fast
-  slow : KeepsRules headers g.slow
-  signature : signature_of g.slow ≡ signature_of g.fast
-  checks : AreChecks (length (pointers g.fast.params)) g.checks
-  spelled : text ≡ guarded_text g
+pub record TakesGuarded (headers : List Header) (text : List ℕ) (g : Guarded) : Type 0 where
+  pub fast : KeepsRules headers g.fast
+  pub slow : KeepsRules headers g.slow
+  pub signature : signature_of g.slow ≡ signature_of g.fast
+  pub checks : AreChecks (length (pointers g.fast.params)) g.checks
+  pub spelled : text ≡ guarded_text g
 
 guarded-takes : (headers : List Header) (text : List ℕ) → length text ≤ 4194304 → Holds (guarded_at headers text) (TakesGuarded headers text)
 unfolding guarded_at
@@ -152,12 +152,12 @@ guarded-takes headers text small =
 -- ---- the sides
 
 -- each side of a text within the bound is within it
-record AreSmall (g : Guarded) : Type 0 where
-  checks : length (checks_text g.fast.params g.checks) ≤ 4194304
-  fast : length (body_text g.fast) ≤ 4194304
-  slow : length (body_text g.slow) ≤ 4194304
-  fast_text : length (text_of g.fast) ≤ 4194304
-  slow_text : length (text_of g.slow) ≤ 4194304
+pub record AreSmall (g : Guarded) : Type 0 where
+  pub checks : length (checks_text g.fast.params g.checks) ≤ 4194304
+  pub fast : length (body_text g.fast) ≤ 4194304
+  pub slow : length (body_text g.slow) ≤ 4194304
+  pub fast_text : length (text_of g.fast) ≤ 4194304
+  pub slow_text : length (text_of g.slow) ≤ 4194304
 
 first-length : (s : Signature) → length (codes "program " ++ signature_text s ++ line_end) ≡ length (guarded_line s)
 first-length s = by (signature_text s)
@@ -169,7 +169,7 @@ whole-length : (p : Program) → length (text_of p) ≡ length (guarded_line (si
 unfolding text_of
 whole-length p = length-append (first_line p) (body_text p) ∙ ap (λ (n : ℕ). n + length (body_text p)) (first-length (signature_of p))
 
-sides-small : (g : Guarded) → signature_of g.slow ≡ signature_of g.fast → length (guarded_text g) ≤ 4194304 → AreSmall g
+pub sides-small : (g : Guarded) → signature_of g.slow ≡ signature_of g.fast → length (guarded_text g) ≤ 4194304 → AreSmall g
 sides-small g same size =
     let line = guarded_line (signature_of g.fast) in
     let long = ap length (text-parts g) ∙ parts-length line (checks_text g.fast.params g.checks) (body_text g.fast) (body_text g.slow) (end_line (length g.checks)) in
@@ -184,7 +184,7 @@ sides-small g same size =
 
 -- ---- both ways
 
-is-guarded : (headers : List Header) (text : List ℕ) (g : Guarded) → length text ≤ 4194304 → TakesGuarded headers text g → IsGuarded headers g
+pub is-guarded : (headers : List Header) (text : List ℕ) (g : Guarded) → length text ≤ 4194304 → TakesGuarded headers text g → IsGuarded headers g
 is-guarded headers text g small t =
     let size : length (guarded_text g) ≤ 4194304 = subst (λ (r : List ℕ). length r ≤ 4194304) t.spelled small in
     let sides = sides-small g t.signature size in

@@ -13,6 +13,7 @@ pub mod guarded;
 mod kernel_checks;
 mod laws;
 mod noalias;
+pub mod parts;
 mod printing;
 mod reach;
 mod reaching;

@@ -62,7 +62,8 @@ fn put_check(
     Ok(())
 }
 
-fn put_checks(
+/// Appends a line for each check. Fails for want of memory alone.
+pub fn put_checks(
     alloc: Global,
     to: &mut Vec<u8>,
     params: &[Param],
@@ -88,7 +89,9 @@ fn put_guarded_line(alloc: Global, to: &mut Vec<u8>, program: &Program) -> Resul
     Ok(())
 }
 
-fn put_end_line(alloc: Global, to: &mut Vec<u8>, checks: &[Check]) -> Result<(), AllocError>
+/// Appends the last line, `end checks 1`, which says how many checks there are. Fails for want of
+/// memory alone.
+pub fn put_end_line(alloc: Global, to: &mut Vec<u8>, checks: &[Check]) -> Result<(), AllocError>
     ensures { OnOk result (to.new.items ≡ to.old.items ++ end_line (length checks.now)) }
 {
     to.extend_from_slice(b"end checks ")?;

@@ -107,7 +107,7 @@ fn check_at<'a>(
 
 /// Checks up to the word `then`.
 #[tactic(auto, using(crate::proofs::CheckLoop::checks_ended, crate::proofs::CheckLoop::checks_full, crate::proofs::CheckLoop::checks_fault, crate::proofs::CheckLoop::checks_more))]
-fn checks_at<'a>(
+pub fn checks_at<'a>(
     alloc: Global,
     params: &[Param],
     text: &'a [u8],
@@ -166,8 +166,9 @@ fn count_from(counted: usize, number: u128) -> Result<usize, Fault>
     }
 }
 
+/// The last line, `end checks 1`, where so many checks were read.
 #[tactic(auto, unfolding(crate::specs::Grammar::end_line_at))]
-fn end_line_at(counted: usize, text: &[u8]) -> Result<&[u8], ReadError>
+pub fn end_line_at(counted: usize, text: &[u8]) -> Result<&[u8], ReadError>
     ensures { Gives (λ rest. rest.now) result (end_line_at counted text.now) }
 {
     let rest = word_at(b"end", text)?;

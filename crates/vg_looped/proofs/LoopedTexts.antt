@@ -31,7 +31,7 @@ use Rattle.vg_looped.specs.Laws.{WhatIsReadIsLooped, LoopedTextsAreRead}
 use Rattle.vg_looped.proofs.Dense.{length-steps, near-steps, pairs-back, steps-back, pairs-are}
 use Rattle.vg_looped.proofs.Turns.{turns-take, turns-again}
 
-word_line-takes : (word text : List ℕ) → Holds (word_line_at word text) (λ rest. text ≡ word ++ (line_end ++ rest))
+pub word_line-takes : (word text : List ℕ) → Holds (word_line_at word text) (λ rest. text ≡ word ++ (line_end ++ rest))
 unfolding word_line_at
 word_line-takes word text =
     and_then _ _ _ _ (word_takes word text) (λ behind a. record { holds = λ rest e. a ∙ ap (λ (r : List ℕ). word ++ r) ((signs_takes line_end behind).holds rest e) })
@@ -123,18 +123,18 @@ opening : (rest : List ℕ) → (word_at (codes "looped") (codes "looped " ++ re
 unfolding word_at is_word signs_at
 opening rest = (refl, refl)
 
-line_ended : (rest : List ℕ) → signs_at line_end (line_end ++ rest) ≡ Ok rest
+pub line_ended : (rest : List ℕ) → signs_at line_end (line_end ++ rest) ≡ Ok rest
 unfolding signs_at
 line_ended rest = refl
 
-rest_line : (rest : List ℕ) → word_line_at (codes "rest") (codes "rest" ++ (line_end ++ rest)) ≡ Ok rest
+pub rest_line : (rest : List ℕ) → word_line_at (codes "rest") (codes "rest" ++ (line_end ++ rest)) ≡ Ok rest
 unfolding word_line_at word_at is_word signs_at
 rest_line rest = refl
 
-abbrev last_text : List ℕ
+abbrev pub last_text : List ℕ
 last_text = codes "end looped" ++ (line_end ++ [])
 
-last_line : (word_at (codes "end") last_text ≡ Ok (codes " looped" ++ (line_end ++ []))) × (signs_at (codes " ") (codes " looped" ++ (line_end ++ [])) ≡ Ok (codes "looped" ++ (line_end ++ []))) × (word_line_at (codes "looped") (codes "looped" ++ (line_end ++ [])) ≡ Ok [])
+pub last_line : (word_at (codes "end") last_text ≡ Ok (codes " looped" ++ (line_end ++ []))) × (signs_at (codes " ") (codes " looped" ++ (line_end ++ [])) ≡ Ok (codes "looped" ++ (line_end ++ []))) × (word_line_at (codes "looped") (codes "looped" ++ (line_end ++ [])) ≡ Ok [])
 unfolding word_line_at word_at is_word signs_at
 last_line = (refl, refl, refl)
 

@@ -7,10 +7,11 @@
 
 mod law;
 pub mod looped;
+pub mod parts;
 mod printing;
 mod reading;
 mod steps;
-mod told;
+pub mod told;
 
 pub use law::{looped_programs_fit, looped_texts_are_read, what_is_read_is_looped};
 pub use looped::Looped;

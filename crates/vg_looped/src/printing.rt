@@ -23,8 +23,9 @@ fn put_pair(
     put_number(alloc, to, pair.1 as u64)
 }
 
+/// Appends pointers with their steps, as `p 4, q 4`. The only error is want of memory.
 #[tactic(auto, unfolding(crate::specs::Looped::pairs_text))]
-fn put_pairs(
+pub fn put_pairs(
     alloc: Global,
     to: &mut Vec<u8>,
     params: &[Param],

@@ -105,9 +105,9 @@ fn pairs_at<'a>(
     Err(ReadError::At(unfit(rest)))
 }
 
-/// What stands after the name and the parameters in the first line.
+/// What stands after the name and the parameters in the first line: ` times n step p 4 block 16`.
 #[tactic(auto, unfolding(crate::specs::Grammar::turns_at))]
-fn turns_at<'a>(
+pub fn turns_at<'a>(
     alloc: Global,
     params: &[Param],
     text: &'a [u8],
@@ -141,7 +141,7 @@ fn turns_at<'a>(
 
 /// A word that stands alone in its line.
 #[tactic(auto, unfolding(crate::specs::Grammar::word_line_at))]
-fn word_line_at<'a>(word: &[u8], text: &'a [u8]) -> Result<&'a [u8], ReadError>
+pub fn word_line_at<'a>(word: &[u8], text: &'a [u8]) -> Result<&'a [u8], ReadError>
     ensures { Gives (λ rest. rest.now) result (word_line_at word.now text.now) }
 {
     let rest = word_at(word, text)?;

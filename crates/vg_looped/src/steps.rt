@@ -8,7 +8,7 @@ use std::alloc::{AllocError, Global};
 use vg_program::{Param, ParamKind};
 
 /// How many of the parameters are pointers.
-pub(crate) fn pointers_in(params: &[Param]) -> u32
+pub fn pointers_in(params: &[Param]) -> u32
     requires { length params.now ≤ 16 }
     ensures { result ≡ length (pointers params.now) }
 {
@@ -26,7 +26,7 @@ pub(crate) fn pointers_in(params: &[Param]) -> u32
 
 /// The pointers that have a step, in their order, each with its step.
 #[tactic(auto, unfolding(crate::specs::Steps::stepped))]
-pub(crate) fn stepped(alloc: Global, steps: &[u32]) -> Result<Vec<(u32, u32)>, AllocError>
+pub fn stepped(alloc: Global, steps: &[u32]) -> Result<Vec<(u32, u32)>, AllocError>
     requires { length steps.now ≤ 16 }
     ensures { IfOk result (λ pairs. pairs.items ≡ stepped 0 steps.now) }
 {
@@ -62,11 +62,7 @@ fn step_for(pointer: u32, pairs: &[(u32, u32)]) -> (u32, &[(u32, u32)])
 }
 
 /// A step for each of so many pointers: 0 where no pair is of it. The pairs rise.
-pub(crate) fn steps_of(
-    alloc: Global,
-    count: u32,
-    pairs: &[(u32, u32)],
-) -> Result<Vec<u32>, AllocError>
+pub fn steps_of(alloc: Global, count: u32, pairs: &[(u32, u32)]) -> Result<Vec<u32>, AllocError>
     ensures { IfOk result (λ steps. steps.items ≡ steps_of 0 count pairs.now) }
 {
     let mut steps = Vec::new(alloc);

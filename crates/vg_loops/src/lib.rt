@@ -20,6 +20,7 @@ pub use counted::Loop;
 pub use limits::turns_of;
 pub use loop_reading::{loop_place, parse_loop};
 pub use near::{stay_near, turns_asked};
-pub use running::{run_loop, run_looped};
+pub use running::{run_both, run_loop, run_looped};
+pub use turn::Turn;
 pub use unrolling::unroll;
 pub use vg_bits::Outcome;

@@ -74,8 +74,10 @@ fn run_turns<T: Turn>(
     Outcome::Done
 }
 
-/// Runs the blocks, and then the turns that are left over of so many.
-fn run_both<B: Turn, R: Turn>(
+/// Runs the blocks, each of so many turns, and then the turns that are left over of a count. The
+/// places are moved on by the steps after each. `Trap` where a run traps; then places and memory may
+/// be any. Takes no memory.
+pub fn run_both<B: Turn, R: Turn>(
     block: &mut B,
     rest: &mut R,
     memory: &mut [u8],

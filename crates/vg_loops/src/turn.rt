@@ -15,8 +15,8 @@ use vg_kernel::Kernel;
 use vg_keval::{KState, run_kernel};
 use vg_machine::Machine;
 
-/// What can be run again and again: a kernel with its room, or a machine.
-pub(crate) trait Turn {
+/// What can be run again and again, as a kernel with its room or a machine.
+pub trait Turn {
     /// What a run leaves.
     ghost means: { Self → Run };
 
