@@ -1,0 +1,3 @@
+pub mod GuardedLoop
+pub mod Grammar
+pub mod Laws
