@@ -1,10 +1,17 @@
 pub mod AtUnits
 pub mod Comparing
+pub mod Counting
 pub mod Extremes
+pub mod ForThemselves
 pub mod FormRows
 pub mod FormsHold
+pub mod LastFirst
+pub mod Marking
+pub mod Meeting
 pub mod Naturals
 pub mod NarrowedRows
 pub mod Reaching
+pub mod OperationForms
 pub mod RepeatedRows
 pub mod Stands
+pub mod Words

@@ -1,6 +1,10 @@
 pub mod Choice
 pub mod Form
 pub mod Laws
+pub mod Making
+pub mod Marks
+pub mod Meetings
 pub mod Narrowed
 pub mod Readable
 pub mod Repeated
+pub mod Repeating

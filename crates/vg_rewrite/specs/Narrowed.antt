@@ -2,12 +2,15 @@
 use Rattle.std.specs.Prelude.{ℕ, ◌+◌, Bool, true, false, List, [], ◌∷◌, ◌++◌, length, replicate, set, Option, Some, None, slice_index_or, if◌then◌else◌}
 use Rattle.vg_base.specs.Bits.{signed_at}
 use Rattle.vg_base.specs.Number.{residue}
+use Rattle.vg_base.specs.declared.address.Address.{Address}
 use Rattle.vg_base.specs.declared.width.Width.{Width}
 use Rattle.vg_base.specs.declared.width.Width.TheVariants.{W8, W16, W32, W64}
 use Rattle.vg_base.specs.Width.{bits_of}
+use Rattle.vg_rewrite.specs.declared.asked.Asked.{Asked}
 use Rattle.vg_rewrite.specs.declared.form.Form.{Form}
 use Rattle.vg_rewrite.specs.declared.form.Form.TheVariants.{Own, Zero, Same, Whole, Cut}
 use Rattle.vg_rewrite.specs.declared.form.Made.{Made}
+use Rattle.vg_rewrite.specs.declared.standing.Standing.{Standing}
 use Rattle.vg_rewrite.specs.Form.{alone, operation_form, value_form}
 use Rattle.vg_rewrite.specs.Laws.{is_choice}
 use Rattle.vg_scalar.specs.declared.resize.Resize.TheVariants.{Trunc}
@@ -19,21 +22,13 @@ use Rattle.vg_shapes.specs.declared.ssa_unit.SsaUnit.{SsaUnit}
 use Rattle.vg_shapes.specs.declared.ssa_unit.SsaUnit.TheVariants.{Load, Store, Operation}
 use Rattle.vg_shapes.specs.declared.wanted.Wanted.{Wanted}
 use Rattle.vg_shapes.specs.declared.wanted.Wanted.TheVariants.{Value, Constant, Nothing}
-use Rattle.vg_shapes.specs.Units.{arguments}
 use Rattle.vg_spans.specs.declared.span.Span.{Span}
 use Rattle.vg_spans.specs.Spans.{spans_of}
 use Rattle.vg_ssa.specs.OfUnits.{widths_of}
 
 -- ---- what is asked for
 
--- the widths at which the form of a value is asked for, and of a comparison whether it is
-pub record Asked : Type 0 where
-  pub bit : Bool
-  pub at_8 : Bool
-  pub at_16 : Bool
-  pub at_32 : Bool
-  pub at_64 : Bool
-
+-- at no width
 abbrev pub unasked : Asked
 unasked = record { bit = false; at_8 = false; at_16 = false; at_32 = false; at_64 = false }
 
@@ -49,6 +44,9 @@ and_asked W16 a = record a { at_16 = true }
 and_asked W32 a = record a { at_32 = true }
 and_asked W64 a = record a { at_64 = true }
 
+abbrev pub with_bit : Asked → Asked
+with_bit a = record a { bit = true }
+
 -- what is asked of the values of all numbers
 abbrev pub asked_at : List Asked → ℕ → Asked
 asked_at all v = slice_index_or all v unasked
@@ -60,16 +58,19 @@ ask w (Constant m n) all = all
 ask w Nothing all = all
 
 abbrev pub ask_bit : Wanted → List Asked → List Asked
-ask_bit (Value v) all = set all v (record (asked_at all v) { bit = true })
+ask_bit (Value v) all = set all v (with_bit (asked_at all v))
 ask_bit (Constant m n) all = all
 ask_bit Nothing all = all
+
+-- a first operand is asked for; the condition of a choice as a bit
+abbrev pub ask_first : Operator → Width → Wanted → List Asked → List Asked
+ask_first op w x all = if is_choice op then ask_bit x all else ask w x all
 
 -- what a form asks for
 abbrev pub ask_made : Made → List Asked → List Asked
 ask_made m all =
-    let others = ask m.asked m.operands.second (ask m.asked m.operands.third all) in
-    if is_choice m.op then ask_bit m.operands.first others
-    else ask m.asked m.operands.first others
+    ask_first m.op m.asked m.operands.first
+    (ask m.asked m.operands.second (ask m.asked m.operands.third all))
 
 abbrev pub ask_form : Width → Form → List Asked → List Asked
 ask_form w Own all = all
@@ -120,23 +121,18 @@ ask_params spans v [] all = all
 ask_params spans v (w ∷ ws) all =
     ask_value spans v None w (ask_params spans (v + 1) ws all)
 
--- what is asked of each value
+-- what is asked of each value, of parameters of these widths and of units, where they have these spans
+abbrev pub asked_over : List Span → List Width → List SsaUnit → List Asked
+asked_over spans ws us =
+    ask_params spans 0 ws
+    (ask_units spans (length ws) us (replicate (length ws + length us) unasked))
+
 abbrev pub asked_of : Ssa → List Asked
-asked_of ssa =
-    ask_params (spans_of ssa) 0 (widths_of ssa.params)
-    (ask_units (spans_of ssa) (arguments ssa) ssa.units
-    (replicate (arguments ssa + length ssa.units) unasked))
+asked_of ssa = asked_over (spans_of ssa) (widths_of ssa.params) ssa.units
 
 -- ---- what is made
 
--- what stands for the form of a value at each width, and for a comparison
-pub record Standing : Type 0 where
-  pub bit : Wanted
-  pub at_8 : Wanted
-  pub at_16 : Wanted
-  pub at_32 : Wanted
-  pub at_64 : Wanted
-
+-- at no width
 abbrev pub nowhere : Standing
 nowhere = record { bit = Nothing; at_8 = Nothing; at_16 = Nothing; at_32 = Nothing; at_64 = Nothing }
 
@@ -151,6 +147,9 @@ and_made W8 x g = record g { at_8 = x }
 and_made W16 x g = record g { at_16 = x }
 and_made W32 x g = record g { at_32 = x }
 and_made W64 x g = record g { at_64 = x }
+
+abbrev pub and_bit_made : Wanted → Standing → Standing
+and_bit_made x g = record g { bit = x }
 
 -- the number of the first unit, the units so far, and for each value what stands for its forms
 pub record Narrowing : Type 0 where
@@ -176,14 +175,16 @@ have_bit g (Value v) = (slice_index_or g.made v nowhere).bit
 have_bit g (Constant m n) = Constant m n
 have_bit g Nothing = Nothing
 
+-- what stands for the first operand of an operation
+abbrev pub have_first : Narrowing → Operator → Width → Wanted → Wanted
+have_first g op w x = if is_choice op then have_bit g x else have g w x
+
 -- the unit of forms
 abbrev pub made_unit : Narrowing → Made → SsaUnit
 made_unit g m =
     Operation m.op m.width m.amount
     (record {
-      first =
-          if is_choice m.op then have_bit g m.operands.first
-          else have g m.asked m.operands.first;
+      first = have_first g m.op m.asked m.operands.first;
       second = have g m.asked m.operands.second;
       third = have g m.asked m.operands.third;
     })
@@ -196,6 +197,10 @@ pub record Formed : Type 0 where
 abbrev pub formed : Narrowing → SsaUnit → Formed
 formed g u = record { after = put u g; value = next_value g }
 
+-- the low bits of a value of a greater width
+abbrev pub cut_unit : Wanted → Width → Width → SsaUnit
+cut_unit x from w = Operation (Resize Trunc from) w 0 (alone x)
+
 -- a form of a value, which is this where it is the value itself
 abbrev pub make_form : Narrowing → Wanted → Width → Form → Formed
 make_form g own w Own = record { after = g; value = own }
@@ -204,7 +209,7 @@ make_form g own w (Same x) = record { after = g; value = have g w x }
 make_form g own w (Whole m) = formed g (made_unit g m)
 make_form g own w (Cut m) =
     let part = formed g (made_unit g m) in
-    formed part.after (Operation (Resize Trunc m.width) w 0 (alone part.value))
+    formed part.after (cut_unit part.value m.width w)
 
 -- the form of the value of a number at a width
 abbrev pub record_form : ℕ → Width → Formed → Narrowing
@@ -227,18 +232,22 @@ make_value spans all v unit value own g =
     (make_at spans all v unit value own W32
     (make_at spans all v unit value own W16 (make_at spans all v unit value own W8 g)))
 
+-- a value more, and what stands for its forms
+abbrev pub with_standing : Standing → Narrowing → Narrowing
+with_standing x g = record g { made = g.made ++ x ∷ [] }
+
 -- a value that stands itself has a place for its forms, and is its own
 abbrev pub stand : Width → Wanted → Narrowing → Narrowing
-stand own value g = record g { made = g.made ++ and_made own value nowhere ∷ [] }
+stand own value g = with_standing (and_made own value nowhere) g
 
 abbrev pub no_value : Narrowing → Narrowing
-no_value g = record g { made = g.made ++ nowhere ∷ [] }
+no_value g = with_standing nowhere g
 
 -- a comparison where it is asked for
 abbrev pub record_bit : ℕ → Formed → Narrowing
 record_bit v f =
     record f.after {
-      made = set f.after.made v (record (slice_index_or f.after.made v nowhere) { bit = f.value });
+      made = set f.after.made v (and_bit_made f.value (slice_index_or f.after.made v nowhere));
     }
 
 abbrev pub make_operation : List Span → List Asked → ℕ → Operator → Width → ℕ → Operands → Narrowing → Narrowing
@@ -256,13 +265,20 @@ make_operation spans all v (Compare op) own k xs g =
 make_operation spans all v Select own k xs g =
     make_value spans all v (Some (Operation Select own k xs)) Nothing own (no_value g)
 
--- A load and a store stand, once, in their order. A load gives itself, then its forms; a store stores the
--- form of its operand.
-abbrev pub make_unit : List Span → List Asked → ℕ → SsaUnit → Narrowing → Narrowing
-make_unit spans all v (Load a w) g =
+-- a load gives itself, then its forms
+abbrev pub make_load : List Span → List Asked → ℕ → Address → Width → Narrowing → Narrowing
+make_load spans all v a w g =
     make_value spans all v (Some (Load a w)) (next_value g) w
     (stand w (next_value g) (put (Load a w) g))
-make_unit spans all v (Store a w x) g = no_value (put (Store a w (have g w x)) g)
+
+-- a store stores the form of its operand
+abbrev pub make_store : Address → Width → Wanted → Narrowing → Narrowing
+make_store a w x g = no_value (put (Store a w (have g w x)) g)
+
+-- a load and a store stand, once, in their order
+abbrev pub make_unit : List Span → List Asked → ℕ → SsaUnit → Narrowing → Narrowing
+make_unit spans all v (Load a w) g = make_load spans all v a w g
+make_unit spans all v (Store a w x) g = make_store a w x g
 make_unit spans all v (Operation op w k xs) g = make_operation spans all v op w k xs g
 
 -- units from this number on
@@ -271,18 +287,22 @@ make_units spans all v [] g = g
 make_units spans all v (u ∷ us) g =
     make_units spans all (v + 1) us (make_unit spans all v u g)
 
--- parameters from this number on: each stands for itself
+-- a parameter stands for itself
+abbrev pub make_param : List Span → List Asked → ℕ → Width → Narrowing → Narrowing
+make_param spans all v w g = make_value spans all v None (Value v) w (stand w (Value v) g)
+
+-- parameters from this number on
 abbrev pub make_params : List Span → List Asked → ℕ → List Width → Narrowing → Narrowing
 make_params spans all v [] g = g
 make_params spans all v (w ∷ ws) g =
-    make_params spans all (v + 1) ws
-    (make_value spans all v None (Value v) w (stand w (Value v) g))
+    make_params spans all (v + 1) ws (make_param spans all v w g)
+
+-- the units that make what is asked of each value, of parameters of these widths and of units
+abbrev pub made_over : List Span → List Asked → List Width → List SsaUnit → List SsaUnit
+made_over spans all ws us =
+    (make_units spans all (length ws) us
+    (make_params spans all 0 ws (record { first = length ws; units = []; made = [] }))).units
 
 -- the units that make what stores ask for, each number in the widths that are asked of it
 abbrev pub narrowed_units : Ssa → List SsaUnit
-narrowed_units ssa =
-    let spans = spans_of ssa in
-    let all = asked_of ssa in
-    (make_units spans all (arguments ssa) ssa.units
-    (make_params spans all 0 (widths_of ssa.params)
-    (record { first = arguments ssa; units = []; made = [] }))).units
+narrowed_units ssa = made_over (spans_of ssa) (asked_of ssa) (widths_of ssa.params) ssa.units

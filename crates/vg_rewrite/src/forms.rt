@@ -25,7 +25,7 @@ fn made(op: Operator, width: Width, amount: u32, operands: Operands, asked: Widt
     }
 }
 
-fn alone(x: Wanted) -> Operands
+pub(crate) fn alone(x: Wanted) -> Operands
     ensures { result ≡ alone x }
 {
     Operands {
@@ -217,7 +217,8 @@ fn comparison_form(xs: Operands, c: Compared) -> Form
     Form::Whole(made(op, c.width, 0, xs, c.width))
 }
 
-fn operation_form(
+/// How the number of an operation is had at a width.
+pub(crate) fn operation_form(
     spans: &[Span],
     op: Operator,
     own: Width,

@@ -8,12 +8,26 @@
 //! its own.
 #![tactic(auto)]
 
+mod asked;
+mod asking;
 mod choice;
 mod form;
 mod forms;
+mod kept;
 mod law;
+mod meetings;
+mod narrowed;
+mod narrowing;
+mod repeated;
+mod repeating;
+mod sources;
+mod standing;
 
+pub use asked::Asked;
 pub use choice::{Compared, Reading, Shifted};
 pub use form::{Form, Made};
 pub use forms::value_form;
 pub use law::forms_hold;
+pub use narrowed::narrowed_units;
+pub use repeated::repeated_units;
+pub use standing::Standing;
