@@ -1,10 +1,9 @@
 -- What the values of parameters are.
-use Rattle.std.proofs.Common.{◌≡◌, ℕ, suc, ◌+◌, ◌-◌, ◌%◌, ◌^◌, ◌<◌, Bool, true, false, cond, List, [], ◌∷◌, ◌++◌, length, get_or, drop, map, Option, Some, None, refl, sym, ◌∙◌, ap, subst, arith, nat_lt, nat_le}
-use Rattle.std.specs.List.{list_all, slice_get, find, count_by, AllZip}
+use Rattle.std.proofs.Common.{◌≡◌, ℕ, suc, ◌-◌, ◌%◌, ◌^◌, ◌<◌, Bool, true, false, cond, List, [], ◌∷◌, ◌++◌, length, get_or, drop, map, Option, Some, None, refl, sym, ◌∙◌, ap, subst, arith, nat_lt, nat_le}
+use Rattle.std.specs.List.{find, count_by, AllZip}
 use Rattle.std.specs.Option.{option_map, option_and_then}
 use Rattle.std.specs.Str.{bytes_eq}
 use Rattle.std.proofs.lemmas.List.{drop_more}
-use Rattle.std.proofs.lemmas.Option.{slice_get_within, get_or_from_slice_get}
 use Rattle.std.proofs.lemmas.Grind.{common_steps}
 use Rattle.std.proofs.lemmas.Nat.{pow_pos}
 use Rattle.vg_base.specs.Width.{bits_of}
@@ -14,7 +13,7 @@ use Rattle.vg_program.specs.declared.param_kind.ParamKind.{ParamKind}
 use Rattle.vg_program.specs.declared.param_kind.ParamKind.TheVariants.{Pointer, Integer}
 use Rattle.vg_program.specs.Params.{pointers, integers, is_integer_kind, kind_bits}
 use Rattle.vg_request.specs.declared.binding.Bound.{Bound}
-use Rattle.vg_request.specs.Binding.{Signed, Binding, binding_of, binding_seen, signed_number, bindings_in}
+use Rattle.vg_request.specs.Binding.{Signed, Binding, binding_seen, signed_number}
 use Rattle.vg_top.specs.Inputs.{FitParams, number_of, integer_of, value_of, param_value, values, is_asked, asked}
 
 -- the first that passes, seen through a function

@@ -1,8 +1,7 @@
 -- What a check answers, step by step.
-use Rattle.std.proofs.Common.{◌≡◌, ℕ, List, Result, Ok, Err, Option, Some, None, refl, sym, subst}
+use Rattle.std.proofs.Common.{◌≡◌, ℕ, List, Result, Ok, Err, Some, None, refl, subst}
 use Rattle.std.specs.Prelude.{Vec}
 use Rattle.std.specs.declared.alloc.Global.{Global}
-use Rattle.vg_base.specs.Bind.{◌>>=◌}
 use Rattle.vg_outside.specs.Shelf.{Held}
 use Rattle.vg_catalog.specs.declared.catalog.Catalog.{Catalog}
 use Rattle.vg_catalog.specs.Called.{called_by, headers_of}

@@ -1,6 +1,6 @@
 -- What `eval` answers, where it is known what the shelf holds: the memory that the kernel or the loop
 -- leaves, or the first refusal. The files are judged one after the other, and after them the bindings.
-use Rattle.std.specs.Prelude.{ℕ, List, map, Option, Result}
+use Rattle.std.specs.Prelude.{ℕ, List, map, Option, Some, Result}
 use Rattle.vg_base.specs.Bind.{◌>>=◌}
 use Rattle.vg_outside.specs.Shelf.{Held}
 use Rattle.vg_kernel.specs.declared.parameter.KParam.{KParam}
@@ -28,6 +28,10 @@ meaning_in (counted l) = loop_meaning l
 abbrev pub inputs_in : KernelFile → Option InputLists → Option InputLists
 inputs_in (plain k) inputs = inputs
 inputs_in (counted l) inputs = loop_inputs l.times l.steps inputs
+
+-- with these values of its parameters
+abbrev pub evaluated_bound : InputLists → KernelFile → List ℕ → Result (List ℕ) Ending
+evaluated_bound i f memory = left_by (meaning_in f) memory (inputs_in f (Some i))
 
 abbrev pub evaluated_on : List Binding → KernelFile → List ℕ → Result (List ℕ) Ending
 evaluated_on bindings f memory =

@@ -6,6 +6,7 @@ pub mod Eval
 pub mod Files
 pub mod Inputs
 pub mod InstructionFile
+pub mod Kept
 pub mod KernelFile
 pub mod Left
 pub mod Lift

@@ -12,8 +12,8 @@ use Rattle.vg_catalog.specs.Files.{file_of as entries_of}
 use Rattle.vg_request.specs.Options.{Choices}
 use Rattle.vg_request.specs.Request.{Asked, compile, explain}
 use Rattle.vg_top.specs.declared.ending.Ending.{Ending}
-use Rattle.vg_top.specs.declared.on_kernel.Task.{Task}
-use Rattle.vg_top.specs.declared.on_kernel.Task.TheVariants.{Program, Guarded, Plan}
+use Rattle.vg_top.specs.declared.task.Task.{Task}
+use Rattle.vg_top.specs.declared.task.Task.TheVariants.{Program, Guarded, Plan}
 use Rattle.vg_top.specs.Answer.{source, loop_source}
 use Rattle.vg_top.specs.Files.{first_file, second_file, instructions_limit, kernel_limit, file_of}
 use Rattle.vg_top.specs.InstructionFile.{entries_or_refusal}

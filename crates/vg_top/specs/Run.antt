@@ -1,6 +1,6 @@
 -- What `run` answers, where it is known what the shelf holds: the memory that the program leaves,
 -- or the first refusal. The files are judged one after the other, and after them the bindings.
-use Rattle.std.specs.Prelude.{ℕ, List, Result}
+use Rattle.std.specs.Prelude.{ℕ, List, Some, Result}
 use Rattle.vg_base.specs.Bind.{◌>>=◌}
 use Rattle.vg_outside.specs.Shelf.{Held}
 use Rattle.vg_catalog.specs.Entries.{Entry}
@@ -10,9 +10,13 @@ use Rattle.vg_request.specs.Binding.{Binding}
 use Rattle.vg_top.specs.declared.ending.Ending.{Ending}
 use Rattle.vg_top.specs.Files.{first_file, second_file, third_file, instructions_limit, program_limit, memory_limit, file_of}
 use Rattle.vg_top.specs.InstructionFile.{entries_or_refusal}
-use Rattle.vg_top.specs.Inputs.{inputs_of}
+use Rattle.vg_top.specs.Inputs.{InputLists, inputs_of}
 use Rattle.vg_top.specs.Left.{left_by}
 use Rattle.vg_top.specs.ProgramFile.{ProgramFile, program_file, program_or_refusal, params_of, meaning_of, inputs_for}
+
+-- with these values of its parameters
+abbrev pub ran_bound : List Entry → InputLists → ProgramFile → List ℕ → Result (List ℕ) Ending
+ran_bound entries i p memory = left_by (meaning_of (called_by entries) p) memory (inputs_for p (Some i))
 
 unfoldable pub ran_on : List Entry → List Binding → ProgramFile → List ℕ → Result (List ℕ) Ending
 ran_on entries bindings p memory =

@@ -1,5 +1,5 @@
 -- What a run has to answer, where it is known what the shelf holds.
-use Rattle.std.specs.Prelude.{◌≡◌, ℕ, List, [], if◌then◌else◌, Option, Some, None, Result, Ok, Err, IsOk}
+use Rattle.std.specs.Prelude.{ℕ, List, [], if◌then◌else◌, Option, Some, None, Result, Ok, Err, IsOk}
 use Rattle.vg_base.specs.Bind.{◌>>=◌}
 use Rattle.vg_outside.specs.Shelf.{Held}
 use Rattle.vg_top.specs.declared.ending.Ending.{Ending}
@@ -8,7 +8,7 @@ use Rattle.vg_top.specs.declared.status.Status.{Status}
 use Rattle.vg_top.specs.declared.status.Status.TheVariants as status
 use Rattle.vg_top.specs.Ending.{status_of}
 use Rattle.vg_request.specs.Request.{Asked, compile, run, eval, lift, explain, trial, check, terms, request_of}
-use Rattle.vg_top.specs.declared.on_kernel.Task.TheVariants.{Program, Guarded, Plan}
+use Rattle.vg_top.specs.declared.task.Task.TheVariants.{Program, Guarded, Plan}
 use Rattle.vg_top.specs.OnKernel.{written_for}
 use Rattle.vg_top.specs.Outcome.{Outcome, memory_left, listing, line_on, IsAnswer, VecAnswers}
 use Rattle.vg_top.specs.Check.{checked}

@@ -33,9 +33,10 @@ fn same_text(alloc: Global) -> Result<Vec<u8>, AllocError>
 }
 
 /// That a program, which may call the instructions of a catalogue, means a kernel. `Differs` (status 13) with
-/// the text of the first difference where it has one.
+/// the text of the first difference where it has one, `Memory` (12) for want of memory, also at the bounds of
+/// `compare`.
 #[tactic(auto, using(crate::proofs::Checks::same_told, crate::proofs::Checks::difference_told))]
-fn compared(
+pub fn compared(
     alloc: Global,
     catalog: &Catalog,
     kernel: &Kernel,

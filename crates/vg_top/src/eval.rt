@@ -8,7 +8,7 @@ ghost use Rattle.vg_loops.specs.Formed.{IsLoop};
 ghost use Rattle.vg_loops.specs.View.{loop_of};
 ghost use Rattle.vg_request.specs.Binding.{bindings_in};
 ghost use Rattle.vg_request.specs.Request.{eval as eval_asked};
-ghost use Rattle.vg_top.specs.Eval.{evaluated, evaluated_on, params_in};
+ghost use Rattle.vg_top.specs.Eval.{evaluated, evaluated_bound, evaluated_on, params_in};
 ghost use Rattle.vg_top.specs.Files.{Tells};
 ghost use Rattle.vg_top.specs.Inputs.{inputs_seen};
 ghost use Rattle.vg_top.specs.KernelFile.{file_seen, IsFormed};
@@ -28,7 +28,7 @@ use vg_outside::{Bytes, Shelf};
 use vg_request::binding::bindings_of;
 
 /// The parameters of a kernel or a loop.
-fn params_in(file: &KernelFile) -> &[KParam]
+pub fn params_in(file: &KernelFile) -> &[KParam]
     ensures { result.now ≡ params_in (file_seen file.now) }
 {
     match file {
@@ -94,6 +94,26 @@ fn evaluate_loop(
     }
 }
 
+/// What a kernel or a loop leaves of a memory, its parameters bound to these values: a missing one is
+/// 0. `Bindings` (status 9) where the turns of a loop move a pointer past 2^64 - 1, `Trap` (10) where it
+/// accesses a byte outside the memory, `Memory` (12) for want of memory alone.
+pub fn evaluate_bound(
+    alloc: Global,
+    file: &KernelFile,
+    inputs: &Inputs,
+    memory: Vec<u8>,
+) -> Result<Vec<u8>, Ending>
+    requires { IsFormed (file_seen file.now) }
+    ensures told { Tells AreLeft result
+        (evaluated_bound (inputs_seen inputs.now) (file_seen file.now) memory.items) }
+    ensures refusal { IfErr result IsOfRun }
+{
+    match file {
+        KernelFile::Plain(kernel) => evaluate_kernel(alloc, kernel, inputs, memory),
+        KernelFile::Counted(source) => evaluate_loop(alloc, source, inputs, memory),
+    }
+}
+
 /// What a kernel or a loop leaves of a memory, its parameters bound by the words.
 fn evaluate_on(
     alloc: Global,
@@ -118,10 +138,7 @@ fn evaluate_on(
     let Some(inputs) = bound else {
         return Err(Ending::Bindings);
     };
-    match file {
-        KernelFile::Plain(kernel) => evaluate_kernel(alloc, kernel, &inputs, memory),
-        KernelFile::Counted(source) => evaluate_loop(alloc, source, &inputs, memory),
-    }
+    evaluate_bound(alloc, file, &inputs, memory)
 }
 
 /// The memory that the kernel or the loop in a file leaves of the memory in another, its parameters

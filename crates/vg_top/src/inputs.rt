@@ -35,7 +35,7 @@ fn place_of(number: SignedNumber) -> Option<u64>
 }
 
 /// How many values a width has.
-fn values_in(width: Width) -> u128
+pub fn values_in(width: Width) -> u128
     ensures value { result ≡ 2 ^ bits_of width }
     ensures fits { result ≤ 2 ^ 64 }
 {

@@ -14,7 +14,7 @@ ghost use Rattle.vg_top.specs.Files.{Tells};
 ghost use Rattle.vg_top.specs.Inputs.{inputs_seen};
 ghost use Rattle.vg_top.specs.Left.{left_by, memory_or_trap, near_inputs, AreLeft};
 ghost use Rattle.vg_top.specs.ProgramFile.{program_seen, KeepsAll};
-ghost use Rattle.vg_top.specs.Run.{ran, ran_on};
+ghost use Rattle.vg_top.specs.Run.{ran, ran_bound, ran_on};
 ghost use Rattle.vg_top.specs.Works.{Works, IsOfRun, ending_of};
 
 use crate::ending::{Ending, FileNumber};
@@ -127,6 +127,29 @@ fn run_turns(
     }
 }
 
+/// What a program leaves of a memory, its parameters bound to these values, a missing one to 0, where it
+/// may call the entries of a catalogue. `Bindings` (status 9) where the turns of a looped text move a
+/// pointer past 2^64 - 1, `Trap` (10) where it accesses a byte outside the memory, `Memory` (12) for want
+/// of memory, also at the bounds of `Machine::new`.
+pub fn run_bound(
+    alloc: Global,
+    catalog: &Catalog,
+    program: &ProgramFile,
+    inputs: &Inputs,
+    memory: Vec<u8>,
+) -> Result<Vec<u8>, Ending>
+    requires rules { KeepsAll (headers_of (entries_in catalog.now)) (program_seen program.now) }
+    ensures told { Tells AreLeft result (ran_bound (entries_in catalog.now)
+        (inputs_seen inputs.now) (program_seen program.now) memory.items) }
+    ensures refusal { IfErr result IsOfRun }
+{
+    match program {
+        ProgramFile::Plain(program) => run_program(alloc, catalog, program, inputs, memory),
+        ProgramFile::Guarded(guarded) => run_guarded(alloc, catalog, guarded, inputs, memory),
+        ProgramFile::Looped(looped) => run_turns(alloc, catalog, looped, inputs, memory),
+    }
+}
+
 /// What a program leaves of a memory, its parameters bound by the words, where it may call these
 /// entries.
 #[tactic(auto, unfolding(crate::specs::Run::ran_on))]
@@ -151,11 +174,7 @@ fn run_on(
     let Some(inputs) = bound else {
         return Err(Ending::Bindings);
     };
-    match program {
-        ProgramFile::Plain(program) => run_program(alloc, catalog, program, &inputs, memory),
-        ProgramFile::Guarded(guarded) => run_guarded(alloc, catalog, guarded, &inputs, memory),
-        ProgramFile::Looped(looped) => run_turns(alloc, catalog, looped, &inputs, memory),
-    }
+    run_bound(alloc, catalog, program, &inputs, memory)
 }
 
 /// The memory that the program in a file leaves of the memory in another, its parameters bound by

@@ -6,9 +6,7 @@ use Rattle.vg_catalog.specs.Files.{file_of as entries_of}
 use Rattle.vg_request.specs.Binding.{bindings_in}
 use Rattle.vg_top.specs.Files.{first_file, second_file, third_file, Tells}
 use Rattle.vg_top.specs.InstructionFile.{AreEntries, entries_or_refusal}
-use Rattle.vg_top.specs.Left.{AreLeft}
-use Rattle.vg_top.specs.ProgramFile.{IsProgram, program_file, program_or_refusal, program_seen}
-use Rattle.vg_top.specs.Run.{ran_on}
+use Rattle.vg_top.specs.ProgramFile.{IsProgram, program_file, program_or_refusal}
 use Rattle.vg_top.proofs.Steps.{ran-told, some-told}
 use Rattle.vg_top.proofs.Works.{begins, reads_on, stops_at, stops_instructions, stops_program, run_last}
 use Rattle.vg_top.proofs.run.run.Goals as goal

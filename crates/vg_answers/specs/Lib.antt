@@ -1,0 +1,4 @@
+pub mod Answered
+pub mod Given
+pub mod Refusals
+pub mod Told
