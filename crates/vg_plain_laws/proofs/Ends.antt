@@ -160,17 +160,25 @@ module _ {P O N : Type 0} (w : World P O N) where
     unfolding walk
     start-plan = plain-plan w 0
 
-    plain-ends : (turns : ℕ) → 2 * n ≤ turns → Ends turns start (flat_map w.operands_of start)
-    plain-ends turns l =
-        ends turns start (flat_map w.operands_of start)
-        (each-open start (flat_map w.operands_of start) (λ o h. from-flat_map w.operands_of o start h)) start-plan
-        (omega (arith, l, total-flat w.operands_of start, plan-two start start-plan))
+    -- the walk from any plan, where the operands of its packs wait
+    own-ends : (turns : ℕ) (plan : List P) → 2 * n ≤ turns → IsPlan (follows w) plan → Ends turns plan (flat_map w.operands_of plan)
+    own-ends turns plan l is =
+        ends turns plan (flat_map w.operands_of plan)
+        (each-open plan (flat_map w.operands_of plan) (λ o h. from-flat_map w.operands_of o plan h)) is
+        (omega (arith, l, total-flat w.operands_of plan, plan-two plan is))
+
+    pub own-walks : (plan : List P) → IsPlan (follows w) plan → WalksTo w plan (flat_map w.operands_of plan) (walk w (2 * n) plan (flat_map w.operands_of plan))
+    own-walks plan is = (own-ends (2 * n) plan (omega arith) is).walked
+
+    pub own-stays : (turns : ℕ) (plan : List P) → 2 * n ≤ turns → IsPlan (follows w) plan
+        → walk w turns plan (flat_map w.operands_of plan) ≡ walk w (2 * n) plan (flat_map w.operands_of plan)
+    own-stays turns plan l is = (own-ends (2 * n) plan (omega arith) is).stays turns l
 
     pub plain-walks : WalksTo w start (flat_map w.operands_of start) (plain_plan w (2 * n))
-    plain-walks = (plain-ends (2 * n) (omega arith)).walked
+    plain-walks = own-walks start start-plan
 
     pub plain-stays : (turns : ℕ) → 2 * n ≤ turns → plain_plan w turns ≡ plain_plan w (2 * n)
-    plain-stays turns l = (plain-ends (2 * n) (omega arith)).stays turns l
+    plain-stays turns l = own-stays turns start l start-plan
 
   -- ---- nothing is left to try
 

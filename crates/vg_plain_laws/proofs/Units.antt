@@ -4,7 +4,7 @@ use Rattle.std.specs.Prelude.{nat_eq}
 use Rattle.std.specs.Cmp.Lexicographic.{pointwise}
 use Rattle.vg_plans.specs.Members.{Has}
 use Rattle.vg_plans.proofs.Disjoint.{unique-length}
-use Rattle.vg_plans.proofs.Members.{has-append, Unique}
+use Rattle.vg_plans.proofs.Members.{from-filter, has-append, Unique}
 use Rattle.vg_shapes.specs.declared.match_table.Bound.{Bound}
 use Rattle.vg_shapes.specs.declared.match_table.Match.{Match}
 use Rattle.vg_shapes.specs.declared.operand.Operand.{Operand}
@@ -18,9 +18,11 @@ use Rattle.vg_shapes.specs.Order.{count_of, one_if}
 use Rattle.vg_shapes.specs.Pack.{bounds_from, units_of}
 use Rattle.vg_shapes.specs.Sound.{IsSound}
 use Rattle.vg_shapes.specs.Units.{is_unit}
-use Rattle.vg_kernel_plans.specs.Fed.{unfed}
+use Rattle.vg_kernel_plans.specs.declared.choice.Choice.{Choice}
+use Rattle.vg_kernel_plans.specs.Fed.{fed_aligned, packing_by, unfed}
 use Rattle.vg_kernel_plans.specs.Held.{lanes_from}
-use Rattle.vg_kernel_plans.specs.Packing.{falling_units, packing}
+use Rattle.vg_kernel_plans.specs.LoadGroups.{feeds as has_fed, load_groups}
+use Rattle.vg_kernel_plans.specs.Packing.{falling_units, packing, sizes_of}
 use Rattle.vg_kernel_plans.specs.Producers.{call_producer, call_producers, can_be_produced, lanes_for, load_producer}
 use Rattle.vg_kernel_plans.specs.SameAs.{same_slot}
 use Rattle.vg_kernel_plans.specs.Taken.{operands_from, operands_of, params_of}
@@ -28,13 +30,15 @@ use Rattle.vg_kernel_plans.specs.Wants.{wanted_slots, wanted_values}
 use Rattle.vg_kernel_plans.proofs.FedPlans.{may-be-fed}
 use Rattle.vg_kernel_plans.proofs.Inside.{units-counted, units-listed}
 use Rattle.vg_kernel_plans.proofs.SameTests.{both-true, eq-itself, list-is, slot-is}
-use Rattle.vg_kernel_plans.proofs.Tried.{if-has, tried-unfed}
+use Rattle.vg_kernel_plans.proofs.LoadPacks.{load-group}
+use Rattle.vg_kernel_plans.proofs.Tried.{IsTried, feeds, group, if-has, is-tried, produces, tried-unfed}
 use Rattle.vg_packs.specs.Laws.{IsGroup}
 use Rattle.vg_packs.proofs.Once.{groups-listed}
 use Rattle.vg_plan_relations.proofs.Exact.{has-two}
 use Rattle.vg_plan_laws.proofs.Packs.{plan-packs}
-use Rattle.vg_plain_laws.specs.Laws.{PlainPlansLeaveNothing, TakeFew}
+use Rattle.vg_plain_laws.specs.Laws.{CompletedPlansEndInTime, PlainPlansLeaveNothing, TakeFew}
 use Rattle.vg_plain_laws.proofs.Ends.{HaveUnits, TakeTwo, plain-stays, plain-tried, plain-walks, total-flat}
+use Rattle.vg_plain_laws.proofs.Stays.{careful-stays, chosen-stays, completed-stays, produced-walks}
 
 -- ---- operands
 
@@ -90,6 +94,20 @@ module _ (ds : List Description) (matches : List Match) (ssa : Ssa) where
             ]
       ]
 
+  load-group-two : (register : ℕ) (p : Pack) → Has p (load_groups ssa register) → TakesTwo p
+  load-group-two register p h = subst TakesTwo (sym (load-group ssa register p h).pack) (omega arith)
+
+  -- so whatever is tried
+  tried-by-two : (c : Choice) (deps : List (ℕ × ℕ)) → TakeFew ds → TakeTwo (packing_by c ds matches ssa deps)
+  tried-by-two c deps few plan p h = elim (is-tried c ds matches ssa deps plan p h) [
+    | group l ↦ group-two p ((groups-listed ssa).right p l)
+    | produces q o in_plan taken l ↦ elim (has-append p (load_producer ssa o) (call_producers ds matches ssa o 0 ds) l) [
+      | inl loaded ↦ load-two o p loaded
+      | inr called ↦ call-two few o p 0 ds called
+    ]
+    | feeds q o in_plan taken l ↦ load-group-two o.register p (from-filter (has_fed o) p (load_groups ssa o.register) l).0
+  ]
+
 -- ---- units
 
 counted-has : (v : ℕ) (vs : List ℕ) → Has v vs → 0 < count_of v vs
@@ -111,11 +129,11 @@ once-unique (u ∷ vs) once = (
   once-unique vs (λ v. let most = once v in omega (arith, most)),
 )
 
-plan-units : (ds : List Description) (matches : List Match) (ssa : Ssa) (deps : List (ℕ × ℕ)) → IsSound ssa
+plan-units : (c : Choice) (ds : List Description) (matches : List Match) (ssa : Ssa) (deps : List (ℕ × ℕ)) → IsSound ssa
     → AreMatches ds ssa matches
-    → HaveUnits (packing ds matches ssa deps) (length ssa.units)
-plan-units ds matches ssa deps sound are plan is =
-    let packs = plan-packs ds matches ssa deps plan sound are (may-be-fed ds matches ssa deps unfed plan is) in
+    → HaveUnits (packing_by c ds matches ssa deps) (length ssa.units)
+plan-units c ds matches ssa deps sound are plan is =
+    let packs = plan-packs ds matches ssa deps plan sound are (may-be-fed ds matches ssa deps c plan is) in
     let unique = once-unique (packed plan) (λ v. let most = packs.once v in omega
     (arith, most, one-most (is_unit ssa v))) in
     let inside = unique-length (packed plan) (falling_units ssa) unique
@@ -137,9 +155,25 @@ pub plain-plans-leave-nothing : PlainPlansLeaveNothing
 plain-plans-leave-nothing ds matches ssa deps sound are few =
     let w = packing ds matches ssa deps in
     let two = tried-two ds matches ssa deps few in
-    let most = plan-units ds matches ssa deps sound are in
+    let most = plan-units unfed ds matches ssa deps sound are in
     record {
       walked = plain-walks w (length ssa.units) two most;
       stays = plain-stays w (length ssa.units) two most;
       tried = plain-tried w (length ssa.units) two most;
+    }
+
+-- ---- plans that are completed
+
+pub completed-plans-end-in-time : CompletedPlansEndInTime
+completed-plans-end-in-time ds matches ssa deps sound are few =
+    let w = packing_by fed_aligned ds matches ssa deps in
+    let two = tried-by-two ds matches ssa fed_aligned deps few in
+    let most = plan-units fed_aligned ds matches ssa deps sound are in
+    let n = length ssa.units in
+    record {
+      plain = λ turns l. plain-stays w n two most turns l;
+      walked = λ plan is. produced-walks w n two most plan is;
+      completed = λ plan turns is l. completed-stays w n two most turns plan l is;
+      careful = λ turns l. careful-stays w n two most turns l;
+      chosen = λ width turns l. chosen-stays w n two most turns width (sizes_of ssa) l;
     }
