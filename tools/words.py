@@ -69,5 +69,10 @@ def program(word):
 
 
 def built_program():
-    """The program that `rt run` or the gate left in crates/vegen/out, or `vegen` of the PATH; None where there is neither."""
-    return BUILT if os.access(BUILT, os.X_OK) else shutil.which('vegen')
+    """The program that `rt run` or the gate left in crates/vegen/out, or `vegen` of the PATH; None where there is neither.
+
+    Below tools/vegen, which sets VEGEN_SCRIPT, the one of the PATH is that script itself, and counts for none.
+    """
+    if os.access(BUILT, os.X_OK):
+        return BUILT
+    return None if 'VEGEN_SCRIPT' in os.environ else shutil.which('vegen')
