@@ -13,7 +13,7 @@ use vg_pool::{Pool, pool_is_shared};
 /// Fails for want of memory, past 4,096 nodes of the term, or past the bound of the pool. Then too
 /// each node keeps its term, and the pool may have some of the form's parts.
 #[tactic(auto, using(crate::proofs::NodeForms::settled_node))]
-pub fn canon_node(pool: &mut Pool, alloc: Global, node: usize) -> Result<usize, AllocError>
+pub fn canon_node(alloc: Global, pool: &mut Pool, node: usize) -> Result<usize, AllocError>
     requires { node < length pool.old }
     ensures node { IfOk result
         (λ form. StandsFor pool.new form (canonical (tree_at pool.old node))) }
@@ -30,7 +30,7 @@ pub fn canon_node(pool: &mut Pool, alloc: Global, node: usize) -> Result<usize, 
 /// The node whose term is the canonical form of a node's term, where the children of that are
 /// canonical. They are not walked again. Fails as `canon_node` does.
 #[tactic(auto, using(crate::proofs::NodeForms::settled_node))]
-pub fn canon_root_node(pool: &mut Pool, alloc: Global, node: usize) -> Result<usize, AllocError>
+pub fn canon_root_node(alloc: Global, pool: &mut Pool, node: usize) -> Result<usize, AllocError>
     requires node { node < length pool.old }
     requires children { HasCanonicalChildren (tree_at pool.old node) }
     ensures node { IfOk result

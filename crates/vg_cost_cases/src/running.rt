@@ -12,7 +12,7 @@ use std::alloc::Global;
 use std::test::Fail;
 use vg_base::Items;
 use vg_cost::Running;
-use vg_packs::compatible;
+use vg_packs::may_follow;
 use vg_shapes::{DepList, MatchTable, Ssa};
 
 /// A plan of loads and stores with a pack after it, which must be one that may follow it.
@@ -34,8 +34,8 @@ fn grown(
     ensures stands { IfOk result (StandsFor [] table.now ssa.now) }
 {
     let pack = pack_of(alloc, two)?;
-    let may_follow = compatible(alloc, plan.packs(), &pack, &[], table, ssa, deps)?;
-    if !may_follow {
+    let is_next = may_follow(alloc, plan.packs(), &pack, &[], table, ssa, deps)?;
+    if !is_next {
         return Err(Fail::new("a pack that may not follow"));
     }
     if !is_short(&pack) {

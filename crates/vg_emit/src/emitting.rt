@@ -28,6 +28,7 @@ use vg_gather::recipes_of;
 use vg_kernel_plans::Recipe;
 use vg_kernel_plans::plan_operands::plan_operands;
 use vg_program::Program;
+use vg_pseudo::Header;
 use vg_shapes::{Description, MatchTable, Operand, Order, Pack, Plan, Ssa};
 
 /// What lines are emitted from, by the operands of packs and their recipes.
@@ -105,7 +106,7 @@ fn planned_program(
 /// Looks at all operands for each operand that a pack takes, else at each line, lane and unit a
 /// fixed number of times. Fails for want of memory, also where the lines define 2^32 scalars or
 /// registers, the cost is 2^32 or more, or an index of a recipe has more than 32 bits.
-pub fn emit(
+pub fn emit_described(
     alloc: Global,
     ssa: &Ssa,
     plan: &Plan,
@@ -146,4 +147,50 @@ pub fn emit(
         CallsDescribed (map description_of descriptions.now) program.lines) }
 {
     planned_program(alloc, ssa, plan, order, descriptions, table)
+}
+
+/// The program of a plan in an order, as `emit_described` gives it, by the headers of the instructions
+/// that may be called: it keeps the rules of programs over these, and calls described instances alone,
+/// where they are fit for what is emitted. Fails as `emit_described` does.
+pub fn emit(
+    alloc: Global,
+    ssa: &Ssa,
+    plan: &Plan,
+    order: &Order,
+    descriptions: &[Description],
+    table: &MatchTable,
+    headers: &[Header],
+) -> Result<Program, AllocError>
+    requires sound { IsSound ssa.now }
+    requires short { AllByRecursion IsShort plan.now }
+    requires near { MatchesNear table.now }
+    ensures program { IfOk result (λ program. program
+        ≡ planned_program (map description_of descriptions.now) table.now ssa.now plan.now
+        order.now) }
+    ensures means { (called : Instructions) →
+        IsPlanned (planned_job (map description_of descriptions.now) table.now ssa.now plan.now) →
+        IsOrder ssa.now table.now plan.now order.now →
+        AlwaysKeep (planned_job (map description_of descriptions.now) table.now ssa.now plan.now)
+        called →
+        IfOk result (λ program. MeansUnits called program ssa.now) }
+    ensures cost { (deps : List (ℕ × ℕ)) →
+        IsPlanned (planned_job (map description_of descriptions.now) table.now ssa.now plan.now) →
+        IsOrder ssa.now table.now plan.now order.now →
+        IfOk result (λ program. cost_of program
+        ≡ plan_cost (packing (map description_of descriptions.now) table.now ssa.now deps)
+        plan.now) }
+    ensures rules { IsPlanned (planned_job (map description_of descriptions.now) table.now ssa.now plan.now) →
+        IsOrder ssa.now table.now plan.now order.now →
+        AreFit (planned_job (map description_of descriptions.now) table.now ssa.now plan.now)
+        headers.now →
+        IfOk result (λ program. KeepsRules headers.now program) }
+    ensures calls { IsPlanned (planned_job (map description_of descriptions.now) table.now ssa.now plan.now) →
+        IsOrder ssa.now table.now plan.now order.now →
+        AreFit (planned_job (map description_of descriptions.now) table.now ssa.now plan.now)
+        headers.now →
+        IfOk result (λ program.
+        CallsDescribed (map description_of descriptions.now) program.lines) }
+{
+    let _headers = headers;
+    emit_described(alloc, ssa, plan, order, descriptions, table)
 }

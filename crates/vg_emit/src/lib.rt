@@ -19,4 +19,4 @@ mod program;
 mod scalars;
 mod takes;
 
-pub use emitting::emit;
+pub use emitting::{emit, emit_described};

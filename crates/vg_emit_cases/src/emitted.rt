@@ -75,7 +75,7 @@ fn printed(
     if !are_short(plan.as_slice()) || !all_near(table.as_slice()) {
         return Err(Fail::new("a wide pack or a far leaf"));
     }
-    let program = emit(alloc, ssa, plan, order, descriptions, table)?;
+    let program = emit(alloc, ssa, plan, order, descriptions, table, &[])?;
     Ok(print_program(alloc, &program)?)
 }
 

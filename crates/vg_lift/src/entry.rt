@@ -80,8 +80,8 @@ pub fn lift_entry(
 /// depends on data. Old nodes keep their terms. Who asks for more than one lane of an instance calls
 /// [`lift_entry`] once. Fails for want of memory, also at the bounds of [`lift_entry`].
 pub fn lane_node(
-    pool: &mut Pool,
     alloc: Global,
+    pool: &mut Pool,
     checked: &Checked,
     imm: u8,
     lane: u32,

@@ -136,7 +136,7 @@ fn node_size(alloc: Global, entry: &Checked) -> Result<u32, Fail>
     let Some(_lifted) = lift_entry(&mut pool, alloc, entry, 0)? else {
         return Err("an instance is dynamic".into());
     };
-    let node = lane_node(&mut pool, alloc, entry, 0, 0)?;
+    let node = lane_node(alloc, &mut pool, entry, 0, 0)?;
     Ok(pool.size(node))
 }
 

@@ -53,7 +53,7 @@ fn case_of(alloc: Global, instructions: &[u8], text: &str) -> Result<Compiled, F
     let catalog = parse_file(alloc, instructions)?;
     let source = read(alloc, text)?;
     let set = Extensions::from_bits_retain(ALL);
-    let looped = compile_loop(alloc, &catalog, set, &source, WIDTH, false)?;
+    let looped = compile_loop(alloc, &catalog, set, &source, WIDTH)?;
     Ok(Compiled {
         catalog,
         source,

@@ -19,7 +19,7 @@ use crate::walk::stays_plan;
 use std::alloc::{AllocError, Global};
 use vg_kernel_plans::same::is_same_pack;
 use vg_kernel_plans::{Choice, LoadGroups};
-use vg_shapes::{DepList, Description, MatchTable, Operand, Pack, Ssa};
+use vg_shapes::{DepList, Description, MatchTable, Operand, Pack, Plan, Ssa};
 
 /// Appends the packs that are tried for an operand: those that produce it, then load groups that feed it.
 fn push_for(
@@ -155,10 +155,11 @@ fn is_among(pack: &Pack, packs: &[Pack]) -> bool
     packs.iter().any(|other| is_same_pack(pack, other))
 }
 
-/// Whether a pack may follow a plan that has no cycle: it is one of those that are tried after the plan,
-/// and the plan stays one with it. Any pack may be asked. The dependences name units alone. Where a pack
-/// of the plan has more than 64 loads or stores, or more than some 2^24 lanes, there is no memory.
-pub fn compatible(
+/// Whether a pack may follow the packs of a plan that has no cycle: it is one of those that are tried
+/// after the plan, and the plan stays one with it. Any pack may be asked. The dependences name units
+/// alone. Where a pack of the plan has more than 64 loads or stores, or more than some 2^24 lanes, there
+/// is no memory.
+pub fn may_follow(
     alloc: Global,
     plan: &[Pack],
     pack: &Pack,
@@ -181,4 +182,26 @@ pub fn compatible(
         return Ok(false);
     }
     stays_plan(alloc, plan, pack, table, ssa, deps)
+}
+
+/// Whether a pack may follow a plan, as `may_follow` tells it of the plan's packs. Fails as that does.
+pub fn compatible(
+    alloc: Global,
+    plan: &Plan,
+    pack: &Pack,
+    descriptions: &[Description],
+    table: &MatchTable,
+    ssa: &Ssa,
+    deps: &DepList,
+) -> Result<bool, AllocError>
+    requires near { MatchesNear table.now }
+    requires names { NameUnits ssa.now deps.now }
+    requires free { IsFree table.now ssa.now deps.now plan.now }
+    ensures same { IfOk result (λ b. b ≡ has_pack (packing (map description_of descriptions.now)
+        table.now ssa.now deps.now) (follows (packing (map description_of descriptions.now)
+        table.now ssa.now deps.now) plan.now) pack.now) }
+    ensures member { IfOk result (λ b. IsTrue b ↔ Has pack.now (follows (packing (map description_of
+        descriptions.now) table.now ssa.now deps.now) plan.now)) }
+{
+    may_follow(alloc, plan.as_slice(), pack, descriptions, table, ssa, deps)
 }

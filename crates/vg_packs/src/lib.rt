@@ -26,7 +26,7 @@ mod walk;
 
 pub use aligned::{aligned_groups, groups_by};
 pub use completing::{completed_plan, completed_with};
-pub use follows::{compatible, tried, tried_by};
+pub use follows::{compatible, may_follow, tried, tried_by};
 pub use groups::store_groups;
 pub use law::{dependences_are_earlier, store_groups_are_listed};
 pub use plain::{plain_plan, plain_plan_by};

@@ -5,7 +5,7 @@ use std::alloc::Global;
 use std::test::Fail;
 use vg_deps::depends;
 use vg_packs::{compatible, dependences_are_earlier, plain_plan};
-use vg_shapes::{Lanes, MatchTable, Pack};
+use vg_shapes::{Lanes, MatchTable, Pack, Plan};
 
 // A kernel and its plain plan, where there are no instructions but loads and stores.
 #[derive(Drop)]
@@ -70,7 +70,8 @@ fn may_begin(alloc: Global, text: &str, pack: &Pack) -> Result<bool, Fail> {
     let ssa = numbered(alloc, text)?;
     let deps = depends(alloc, &ssa)?;
     let table = MatchTable::from_vec(Vec::new(alloc));
-    Ok(compatible(alloc, &[], pack, &[], &table, &ssa, &deps)?)
+    let plan = Plan::from_vec(Vec::new(alloc));
+    Ok(compatible(alloc, &plan, pack, &[], &table, &ssa, &deps)?)
 }
 
 fn has_plan(alloc: Global, case: &Case) -> Result<bool, Fail> {

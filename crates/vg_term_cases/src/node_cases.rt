@@ -24,8 +24,8 @@ fn form_of_node(
     requires { WellFormed (tree t.now) }
 {
     let node = pool.intern(t)?;
-    let form = canon_node(pool, alloc, node)?;
-    assert!(rt; canon_node(pool, alloc, form)? == form);
+    let form = canon_node(alloc, pool, node)?;
+    assert!(rt; canon_node(alloc, pool, form)? == form);
     pool.tree_of(alloc, form)
 }
 
@@ -84,7 +84,7 @@ fn nodes_of_canonical_forms(rt: HostRuntime) -> Result<(), Fail> {
 fn node_of(rt: &impl Abort, alloc: Global, pool: &mut Pool, text: &str) -> Result<usize, Fail> {
     let t = read_formed(rt, alloc, text)?;
     let node = pool.intern(&t)?;
-    Ok(canon_node(pool, alloc, node)?)
+    Ok(canon_node(alloc, pool, node)?)
 }
 
 // The canonical form of each of these terms is the first 8 bits of the first parameter.
@@ -113,7 +113,7 @@ fn is_leaf_at_root(alloc: Global, pool: &mut Pool, t: &Term) -> Result<bool, All
     requires children { HasCanonicalChildren (tree t.now) }
 {
     let node = pool.intern(t)?;
-    let form = canon_root_node(pool, alloc, node)?;
+    let form = canon_root_node(alloc, pool, node)?;
     let wanted = pool.intern(&make_leaf(8, key(0)))?;
     Ok(form == wanted)
 }
@@ -155,7 +155,7 @@ fn assert_too_large(rt: &impl Abort, alloc: Global, pool: &mut Pool, node: usize
     requires { node < length pool.old }
 {
     assert!(rt; pool.size(node) == 1025 && pool.tree_of(alloc, node).is_err());
-    assert!(rt; canon_node(pool, alloc, node).is_err());
+    assert!(rt; canon_node(alloc, pool, node).is_err());
     assert!(rt; pool.size(node) == 1025);
 }
 

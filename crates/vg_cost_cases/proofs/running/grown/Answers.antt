@@ -13,9 +13,9 @@ use Rattle.vg_cost_cases.proofs.running.grown.Goals as goal
 pub with-requires-clause-plan : goal.with-requires-clause-plan
 with-requires-clause-plan c =
     let w = packing [] c.args.table.now c.args.ssa.now c.args.deps.now in
-    let is : IsTrue c.in_ok-may_follow.may_follow = c.if-not-may_follow.false in
+    let is : IsTrue c.in_ok-is_next.is_next = c.if-not-is_next.false in
     let has : Has c.in_ok-pack.pack (follows w c.args.plan.now.packs.items) =
-    subst (λ q. Has c.in_ok-pack.pack (follows w q)) c.packs.ensures (c.in_ok-may_follow.ensures.member.0 is)
+    subst (λ q. Has c.in_ok-pack.pack (follows w q)) c.packs.ensures (c.in_ok-is_next.ensures.member.0 is)
     in (
       c.args.deps.now,
       may-be-fed [] c.args.table.now c.args.ssa.now c.args.deps.now unfed _
@@ -25,9 +25,9 @@ with-requires-clause-plan c =
 pub returns-clause-free : goal.returns-clause-free
 returns-clause-free c =
     let w = packing [] c.args.table.now c.args.ssa.now c.args.deps.now in
-    let is : IsTrue c.in_ok-may_follow.may_follow = c.if-not-may_follow.false in
+    let is : IsTrue c.in_ok-is_next.is_next = c.if-not-is_next.false in
     let has : Has c.in_ok-pack.pack (follows w c.args.plan.now.packs.items) =
-    subst (λ q. Has c.in_ok-pack.pack (follows w q)) c.packs.ensures (c.in_ok-may_follow.ensures.member.0 is)
+    subst (λ q. Has c.in_ok-pack.pack (follows w q)) c.packs.ensures (c.in_ok-is_next.ensures.member.0 is)
     in
     subst (IsFree c.args.table.now c.args.ssa.now c.args.deps.now) (sym c.in_ok-longer.ensures.packs)
     (free-more c.args.table.now c.args.ssa.now c.args.deps.now c.args.plan.now.packs.items c.in_ok-pack.pack has)
@@ -35,13 +35,13 @@ returns-clause-free c =
 pub returns-clause-plan : goal.returns-clause-plan
 returns-clause-plan c =
     let w = packing [] c.args.table.now c.args.ssa.now c.args.deps.now in
-    let is : IsTrue c.in_ok-may_follow.may_follow = c.if-not-may_follow.false in
+    let is : IsTrue c.in_ok-is_next.is_next = c.if-not-is_next.false in
     let has : Has c.in_ok-pack.pack (follows w c.args.plan.now.packs.items) =
-    subst (λ q. Has c.in_ok-pack.pack (follows w q)) c.packs.ensures (c.in_ok-may_follow.ensures.member.0 is)
+    subst (λ q. Has c.in_ok-pack.pack (follows w q)) c.packs.ensures (c.in_ok-is_next.ensures.member.0 is)
     in
     subst (IsPlanFor [] c.args.table.now c.args.ssa.now c.args.deps.now) (sym c.in_ok-longer.ensures.packs)
     (plan-more c.args.table.now c.args.ssa.now c.args.deps.now c.args.plan.now.packs.items c.in_ok-pack.pack has c.requires.plan)
 
-pub compatible-requires-clause-free : goal.compatible-requires-clause-free
-compatible-requires-clause-free c =
+pub may_follow-requires-clause-free : goal.may_follow-requires-clause-free
+may_follow-requires-clause-free c =
     subst (IsFree c.args.table.now c.args.ssa.now c.args.deps.now) (sym c.packs.ensures) c.requires.free
