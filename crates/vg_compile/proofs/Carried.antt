@@ -168,15 +168,15 @@ is-program ds matches ssa packs order known plan most is =
 pub emitted-is : (ds : List Description) (matches : List Match) (ssa : Ssa) (packs : List Pack) (p : Program)
     → AreKnown ds matches ssa → IsFedPlanFor ds matches ssa (dependences ssa) packs → plans.cost_of ds matches ssa (dependences ssa) packs ≤ length ssa.units
     → IsEmitted ds matches ssa packs p → IsProgramOver ds ssa p
-emitted-is ds matches ssa packs p known plan most (order, is, e) =
+emitted-is ds matches ssa packs p known plan most (order, is, put, e) =
     subst (IsProgramOver ds ssa) (sym e) (is-program ds matches ssa packs order known plan most is)
 
 -- what it costs
 pub emitted-costs : (ds : List Description) (matches : List Match) (ssa : Ssa) (packs : List Pack) (p : Program)
     → AreKnown ds matches ssa → IsFedPlanFor ds matches ssa (dependences ssa) packs → IsEmitted ds matches ssa packs p
     → IsProgramOf ds (record { ssa = ssa; matches = matches; packs = packs }) p
-emitted-costs ds matches ssa packs p known plan (order, is, e) = record {
-  emitted = (order, is, e);
+emitted-costs ds matches ssa packs p known plan (order, is, put, e) = record {
+  emitted = (order, is, put, e);
   cost = ap program.cost_of e ∙ programs-cost ds matches ssa (dependences ssa) packs order known plan is;
 }
 

@@ -6,5 +6,7 @@ pub mod Joined
 pub mod More
 pub mod MorePrograms
 pub mod OnePlan
+pub mod OneProgram
+pub mod OneText
 pub mod Ordered
 pub mod Whole

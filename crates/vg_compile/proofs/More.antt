@@ -17,8 +17,10 @@ use Rattle.vg_ssa.proofs.Counts.{units-are_the_cost}
 use Rattle.vg_descriptions.specs.Descriptions.{descriptions}
 use Rattle.vg_compile.specs.declared.more_plans.FedPlan.{FedPlan}
 use Rattle.vg_compile.specs.declared.more_plans.PlannedValues.{PlannedValues}
-use Rattle.vg_compile.specs.Chosen.{IsChosenPlan, IsChosenFedPlan, KernelPlan, cost_of, price_of, AreWhole, AreWide, IsChosenOver, IsChosenMore, cheaper}
-use Rattle.vg_compile.specs.Laws.{MorePlansCostNoMore}
+use Rattle.vg_compile.specs.Chosen.{IsChosenPlan, IsChosenFedPlan, KernelPlan, cost_of, price_of, AreWhole, AreWide, IsChosenFed, IsChosenOver, IsChosenMore, cheaper}
+use Rattle.vg_kernel_plans.specs.Completed.{completed_of}
+use Rattle.vg_kernel_plans.proofs.FedPlans.{fed-fits}
+use Rattle.vg_compile.specs.Laws.{IsKeptFed, MorePlansCostNoMore}
 use Rattle.vg_compile.specs.Planned.{IsPlanned, IsPlannedFor, IsPlannedMore, PlainCosts, plan_seen, with_plan}
 
 -- ---- the cheapest of three
@@ -258,6 +260,13 @@ whole-is ds k width ssa matches packs cost plain values planned =
 
 -- ---- the law
 
+-- the chosen fed plan costs at most what each kept plan costs when it is completed
+completed-below : (ds : List Description) (k : Tree) (width : ℕ) (fed : KernelPlan) → IsChosenFed ds k width fed → (packs : List Pack) → IsKeptFed ds fed width packs
+    → price_of ds fed ≤ cost_of ds fed.matches fed.ssa (completed_of ds fed.matches fed.ssa (dependences fed.ssa) packs)
+completed-below ds k width fed chosen packs kept =
+    subst (λ x. cost_of ds fed.matches fed.ssa x ≤ cost_of ds fed.matches fed.ssa (completed_of ds fed.matches fed.ssa (dependences fed.ssa) packs))
+    (sym chosen.chosen.is) ((fed-fits ds fed.matches fed.ssa (dependences fed.ssa) width).below_completed packs kept)
+
 pub more-plans-cost-no-more : MorePlansCostNoMore
 more-plans-cost-no-more entries set k width p compiled =
     let ds = descriptions set entries in
@@ -284,6 +293,7 @@ more-plans-cost-no-more entries set k width p compiled =
       below_empty = omega (arith, below_whole, empty);
       below_plain = omega (arith, below_whole, plain);
       below_careful = omega (arith, below_fed, careful);
+      below_completed = λ packs kept. (let completed = completed-below ds k width more.fed more.fed_chosen packs kept in omega (arith, below_fed, completed));
       optimal = λ few packs is uncrowded. (let best = more.whole_chosen.chosen.optimal few packs is uncrowded in omega (arith, below_whole, best));
       optimal_wide = λ few packs is uncrowded. (let best = more.wide_chosen.chosen.optimal few packs is uncrowded in omega (arith, below_wide, best));
       optimal_fed = λ few packs is uncrowded. (let best = more.fed_chosen.chosen.optimal few packs is uncrowded in omega (arith, below_fed, best));

@@ -26,7 +26,7 @@ use Rattle.vg_compile.proofs.More.{cheaper-below}
 
 -- ---- the values of a kernel
 
-whole-values : (k : Tree) (a b : Ssa) → AreWhole k a → AreWhole k b → HaveSameValues a b
+pub whole-values : (k : Tree) (a b : Ssa) → AreWhole k a → AreWhole k b → HaveSameValues a b
 whole-values k a b x y = record {
   params = x.0.params ∙ sym y.0.params;
   units = x.0.units ∙ sym y.0.units;
@@ -34,7 +34,7 @@ whole-values k a b x y = record {
   cuts = ap (λ (ts : List Term). map tree ts) (x.1 ∙ sym y.1);
 }
 
-wide-values : (k : Tree) (a b : Ssa) → AreWide k a → AreWide k b → HaveSameValues a b
+pub wide-values : (k : Tree) (a b : Ssa) → AreWide k a → AreWide k b → HaveSameValues a b
 wide-values k a b x y = record {
   params = x.0.params ∙ sym y.0.params;
   units = x.0.units ∙ sym y.0.units;
@@ -61,7 +61,7 @@ module _ (ds : List Description) (a b : Ssa) (same : HaveSameValues a b) where
 
 -- ---- one plan
 
-in-order : (ds : List Description) (ssa : Ssa) (matches : List Match) → IsTableOf ds ssa matches → IsOrderedTable ds ssa matches
+pub in-order : (ds : List Description) (ssa : Ssa) (matches : List Match) → IsTableOf ds ssa matches → IsOrderedTable ds ssa matches
 in-order ds ssa matches t = record { matched = t.matched; ordered = t.ordered; bindings = t.bindings }
 
 one-plan : (ds : List Description) (width : ℕ) (a b : KernelPlan) → HaveSameValues a.ssa b.ssa → IsChosenPlan ds a.matches a.ssa width a.packs
@@ -92,13 +92,13 @@ one-fed-plan ds width a b same x y =
       price = cost-same ds a.ssa b.ssa same a.matches a.packs ∙ ap₂ (λ (ms : List Match) (ps : List Pack). cost_of ds ms b.ssa ps) matches packs;
     }
 
-one-whole : (ds : List Description) (k : Tree) (width : ℕ) (a b : KernelPlan) → IsChosenWhole ds k width a → IsChosenWhole ds k width b → AreOnePlan ds a b
+pub one-whole : (ds : List Description) (k : Tree) (width : ℕ) (a b : KernelPlan) → IsChosenWhole ds k width a → IsChosenWhole ds k width b → AreOnePlan ds a b
 one-whole ds k width a b x y = one-plan ds width a b (whole-values k a.ssa b.ssa x.values y.values) x.chosen y.chosen
 
-one-wide : (ds : List Description) (k : Tree) (width : ℕ) (a b : KernelPlan) → IsChosenWide ds k width a → IsChosenWide ds k width b → AreOnePlan ds a b
+pub one-wide : (ds : List Description) (k : Tree) (width : ℕ) (a b : KernelPlan) → IsChosenWide ds k width a → IsChosenWide ds k width b → AreOnePlan ds a b
 one-wide ds k width a b x y = one-plan ds width a b (wide-values k a.ssa b.ssa x.values y.values) x.chosen y.chosen
 
-one-fed : (ds : List Description) (k : Tree) (width : ℕ) (a b : KernelPlan) → IsChosenFed ds k width a → IsChosenFed ds k width b → AreOnePlan ds a b
+pub one-fed : (ds : List Description) (k : Tree) (width : ℕ) (a b : KernelPlan) → IsChosenFed ds k width a → IsChosenFed ds k width b → AreOnePlan ds a b
 one-fed ds k width a b x y = one-fed-plan ds width a b (wide-values k a.ssa b.ssa x.values y.values) x.chosen y.chosen
 
 pub one-chosen-plan : OneChosenPlan

@@ -20,6 +20,7 @@ use Rattle.vg_kernel_plans.specs.Taken.{IsShort}
 use Rattle.vg_packs.specs.Walk.{NameEarlierUnits}
 use Rattle.vg_beam.specs.Chosen.{HaveShortPacks, HaveShortPacksBy}
 use Rattle.vg_order.specs.ByList.{IsOrderBy, NameLesser, NameUnits, NamesCycle}
+use Rattle.vg_order.specs.Scheduled.{IsScheduled}
 use Rattle.vg_order.proofs.AllDependences.{dependences-give_orders, dependences-name_units}
 use Rattle.vg_emission.specs.Truth.{IsCallable}
 use Rattle.vg_gather.specs.Recipes.{planned_program}
@@ -54,8 +55,8 @@ pub are_packs : (ds : List Description) (matches : List Match) (ssa : Ssa) (deps
 are_packs ds matches ssa deps plan known is = (packs-are-right ds matches ssa deps plan known is).0
 
 pub is_emitted : (ds : List Description) (matches : List Match) (ssa : Ssa) (plan : List Pack) (order : List Node) (p : Program)
-    → IsOrder ssa matches plan order → p ≡ planned_program ds matches ssa plan order → IsEmitted ds matches ssa plan p
-is_emitted ds matches ssa plan order p is e = (order, is, e)
+    → IsOrder ssa matches plan order → IsScheduled (dependences ssa) ssa matches plan order → p ≡ planned_program ds matches ssa plan order → IsEmitted ds matches ssa plan p
+is_emitted ds matches ssa plan order p is put e = (order, is, put, e)
 
 pub known : (ds : List Description) (matches : List Match) (ssa : Ssa) → IsSound ssa → AllByRecursion IsCallable ds → AreMatches ds ssa matches → AreKnown ds matches ssa
 known ds matches ssa sound callable matched = record { sound = sound; described = callable; matched = matched }

@@ -16,8 +16,8 @@ use Rattle.vg_compile.specs.Means.{Means}
 -- A valid program that means a kernel, where a call gives what the text of its entry means. It calls
 -- instances of the entries in a set of extensions alone, states the scalar cost of the kernel, costs at most
 -- that, and is the program of the plan that is chosen by the descriptions of those instances, with more plans
--- or without, where the search keeps so many plans of each size: the plan that is told of the kernel, in a
--- legal order.
+-- or without, where the search keeps so many plans of each size: the plan that is told of the kernel, in the
+-- order in which its packs and units are put. There is one such program.
 pub record IsCompiled
     (entries : List Entry) (set : ℕ) (k : Tree) (width : ℕ) (more : Bool) (p : Program)
     : Type 0 where

@@ -10,8 +10,10 @@ use Rattle.vg_shapes.specs.declared.match_table.Match.{Match}
 use Rattle.vg_shapes.specs.declared.order.Node.{Node}
 use Rattle.vg_shapes.specs.declared.pack.Pack.{Pack}
 use Rattle.vg_shapes.specs.declared.ssa.Ssa.{Ssa}
+use Rattle.vg_shapes.specs.Depends.{dependences}
 use Rattle.vg_shapes.specs.Description.{Description}
 use Rattle.vg_shapes.specs.Nodes.{IsOrder}
+use Rattle.vg_order.specs.Scheduled.{IsScheduled}
 use Rattle.vg_emission.specs.Fit.{CallsDescribed, HasHeader}
 use Rattle.vg_emission.specs.Laws.{MeansUnits}
 use Rattle.vg_emission.specs.Program.{param_of}
@@ -20,19 +22,20 @@ use Rattle.vg_plan_laws.specs.Laws.{AreTrue}
 use Rattle.vg_compile.specs.Chosen as plans
 use Rattle.vg_compile.specs.Chosen.{IsChosenPlan, KernelPlan, price_of}
 
--- the program of a plan in one of its legal orders
+-- The program of a plan in the order in which its packs and the units outside them are put by all
+-- dependences of its kernel. That order is legal, and there is one.
 abbrev pub IsEmitted : List Description → List Match → Ssa → List Pack → Program → Type 0
 IsEmitted ds matches ssa packs p =
     (order : List Node) × IsOrder ssa matches packs order
+    × IsScheduled (dependences ssa) ssa matches packs order
     × (p ≡ planned_program ds matches ssa packs order)
 
--- the program of a plan of a kernel, in one of its legal orders, and what it costs
+-- the program of a plan of a kernel, in its order, and what it costs
 pub record IsProgramOf (ds : List Description) (plan : KernelPlan) (p : Program) : Type 0 where
   pub emitted : IsEmitted ds plan.matches plan.ssa plan.packs p
   pub cost : cost_of p ≡ price_of ds plan
 
--- The program of the chosen plan, which is the one that is told of a kernel, in one of its legal orders; and
--- what it costs.
+-- The program of the chosen plan, which is the one that is told of a kernel, in its order; and what it costs.
 pub record IsChosenProgram (ds : List Description) (ssa : Ssa) (width : ℕ) (p : Program) : Type 0 where
   pub matches : List Match
   pub packs : List Pack

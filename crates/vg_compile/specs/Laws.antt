@@ -6,9 +6,16 @@ use Rattle.vg_kernel.specs.Tree.{Tree}
 use Rattle.vg_program.specs.declared.program.Program.{Program}
 use Rattle.vg_program.specs.Cost.{cost_of}
 use Rattle.vg_program.specs.Meaning.{Instructions}
+use Rattle.vg_shapes.specs.declared.pack.Pack.{Pack}
 use Rattle.vg_shapes.specs.declared.ssa.Ssa.{Ssa}
 use Rattle.vg_shapes.specs.Depends.{dependences}
-use Rattle.vg_kernel_plans.specs.Completed.{careful_of}
+use Rattle.vg_shapes.specs.Description.{Description}
+use Rattle.vg_plans.specs.Levels.{kept_within}
+use Rattle.vg_plans.specs.Members.{Has}
+use Rattle.vg_plans.specs.World.{follows, plan_cost, same_packs}
+use Rattle.vg_kernel_plans.specs.Completed.{careful_of, completed_of}
+use Rattle.vg_kernel_plans.specs.Fed.{fed_aligned, packing_by}
+use Rattle.vg_kernel_plans.specs.Packing.{sizes_of}
 use Rattle.vg_ssa.specs.Numbering.{IsNumbering}
 use Rattle.vg_ssa.specs.StandsFor.{StandsFor}
 use Rattle.vg_emission.specs.Laws.{MeansUnits}
@@ -27,9 +34,15 @@ UnitsMeanKernels =
     p.name ≡ ssa.name → p.params ≡ map param_of ssa.params → MeansUnits called p ssa →
     Means called p k
 
+-- the plans that the fed search of aligned store groups keeps, so many of each size
+abbrev pub IsKeptFed : List Description → KernelPlan → ℕ → List Pack → Type 0
+IsKeptFed ds plan width packs =
+    let world = packing_by fed_aligned ds plan.matches plan.ssa (dependences plan.ssa) in
+    Has packs (kept_within (follows world) (same_packs world) (plan_cost world) width (sizes_of plan.ssa))
+
 -- What a program of more plans costs, beside a chosen plan, a chosen wide plan and a chosen fed plan of its
--- kernel: at most what each costs, what the empty plan costs, what the plain plan costs, and what the careful
--- plain plan costs. In a kernel of at most 256 units no plan, no wide plan and no fed plan of aligned store
+-- kernel: at most what each costs, what the empty plan costs, what the plain plan costs, what the careful
+-- plain plan costs, and what each plan that the fed search keeps costs when it is completed. In a kernel of at most 256 units no plan, no wide plan and no fed plan of aligned store
 -- groups costs less where no lesser size is crowded.
 pub record CostsNoMore
     (entries : List Entry) (set : ℕ) (k : Tree) (width : ℕ) (p : Program)
@@ -52,6 +65,11 @@ pub record CostsNoMore
       cost_of p
       ≤ plans.cost_of (descriptions set entries) fed.matches fed.ssa
       (careful_of (descriptions set entries) fed.matches fed.ssa (dependences fed.ssa))
+  pub below_completed :
+      (packs : List Pack) → IsKeptFed (descriptions set entries) fed width packs →
+      cost_of p
+      ≤ plans.cost_of (descriptions set entries) fed.matches fed.ssa
+      (completed_of (descriptions set entries) fed.matches fed.ssa (dependences fed.ssa) packs)
   pub optimal : IsOptimalCost (descriptions set entries) whole.matches whole.ssa width (cost_of p)
   pub optimal_wide : IsOptimalCost (descriptions set entries) wide.matches wide.ssa width (cost_of p)
   pub optimal_fed : IsOptimalFedCost (descriptions set entries) fed.matches fed.ssa width (cost_of p)

@@ -1,4 +1,4 @@
--- The chosen plan of a kernel is one, and so is what the programs of a kernel cost.
+-- The chosen plan of a kernel is one, and so are the program that is compiled of it and what it costs.
 use Rattle.std.specs.Prelude.{◌≡◌, ◌≤◌, ℕ, Bool, true, false, List}
 use Rattle.vg_catalog.specs.Entries.{Entry}
 use Rattle.vg_kernel.specs.Tree.{Tree}
@@ -7,6 +7,7 @@ use Rattle.vg_program.specs.Cost.{cost_of}
 use Rattle.vg_shapes.specs.Description.{Description}
 use Rattle.vg_compile.specs.Chosen.{KernelPlan, IsChosenWhole, IsChosenWide, IsChosenFed, price_of}
 use Rattle.vg_compile.specs.Compiled.{IsCompiled}
+use Rattle.vg_compile.specs.Planned.{IsExplained}
 
 -- two plans of a kernel have the same matches and the same packs, and cost the same
 pub record AreOnePlan (ds : List Description) (a b : KernelPlan) : Type 0 where
@@ -32,3 +33,18 @@ pub record CompileMoreCostsNoMore : Type 0 where
   pub no_more : (entries : List Entry) (set : ℕ) (k : Tree) (width : ℕ) (p q : Program) →
       IsCompiled entries set k width true p → IsCompiled entries set k width false q →
       cost_of p ≤ cost_of q
+
+-- there is one program that is compiled of a kernel by entries, a set of extensions and a width, with more
+-- plans or without
+abbrev pub OneProgramIsCompiled : Type 0
+OneProgramIsCompiled =
+    (entries : List Entry) (set : ℕ) (k : Tree) (width : ℕ) (more : Bool) (p q : Program) →
+    IsCompiled entries set k width more p → IsCompiled entries set k width more q →
+    p ≡ q
+
+-- there is one text that tells of the plan of a kernel
+abbrev pub OneTextIsExplained : Type 0
+OneTextIsExplained =
+    (entries : List Entry) (set : ℕ) (k : Tree) (width : ℕ) (more : Bool) (one other : List ℕ) →
+    IsExplained entries set k width more one → IsExplained entries set k width more other →
+    one ≡ other

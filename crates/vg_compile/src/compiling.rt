@@ -92,8 +92,9 @@ pub fn compile_described(
 /// It leaves the memory that the kernel leaves and traps where the kernel traps, in each layout that
 /// respects noalias, each call giving what the text of its entry means. It states the kernel's
 /// scalar cost, costs at most that and at most what the plain plan costs, and is the program of the
-/// chosen plan, which `explain` tells of, in a legal order, where the search keeps `width` plans of
-/// each size: 1 to 4,096 on the command line, any number here.
+/// chosen plan, which `explain` tells of, in its one order, where the search keeps `width` plans of
+/// each size: 1 to 4,096 on the command line, any number here. So it is the same program for the
+/// same catalogue, set, kernel and width.
 ///
 /// Fails for want of memory, also at the bounds of the code (docs/limits.md): those of `descriptions_of`, and
 /// past 2^24 matches and leaves that they bind, together, or 2^24 packs that the search meets.

@@ -3,18 +3,19 @@
 ghost use Rattle.std.specs.Prelude.{◌≡◌, IfOk, map};
 ghost use Rattle.vg_compile.specs.Emitted.{IsEmitted};
 ghost use Rattle.vg_kernel_plans.specs.Fed.{IsFedPlanFor};
+ghost use Rattle.vg_order.specs.Scheduled.{IsScheduled};
 ghost use Rattle.vg_plan_laws.specs.Laws.{AreKnown};
 ghost use Rattle.vg_shapes.specs.Depends.{dependences};
 ghost use Rattle.vg_shapes.specs.Description.{description_of};
 ghost use Rattle.vg_shapes.specs.Nodes.{IsOrder};
 
 use std::alloc::{AllocError, Global};
-use vg_emit::emit;
+use vg_emit::emit_described;
 use vg_order::{OrderFault, schedule};
 use vg_program::Program;
 use vg_shapes::{DepList, Description, MatchTable, Order, Plan, Ssa};
 
-// A legal order of a plan, which has one.
+// The order of a plan, which has one.
 fn order_of(
     alloc: Global,
     descriptions: &[Description],
@@ -27,7 +28,8 @@ fn order_of(
     requires deps { deps.now ≡ dependences ssa.now }
     requires plan { IsFedPlanFor (map description_of descriptions.now) table.now ssa.now deps.now
         plan.now }
-    ensures { IfOk result (IsOrder ssa.now table.now plan.now) }
+    ensures legal { IfOk result (IsOrder ssa.now table.now plan.now) }
+    ensures scheduled { IfOk result (IsScheduled (dependences ssa.now) ssa.now table.now plan.now) }
 {
     let _descriptions = descriptions;
     match schedule(alloc, plan, table, ssa, deps) {
@@ -37,7 +39,7 @@ fn order_of(
     }
 }
 
-/// The program of a plan in one of its legal orders, with the recipes that its operands take.
+/// The program of a plan in its order, with the recipes that its operands take.
 pub(crate) fn emit_plan(
     alloc: Global,
     descriptions: &[Description],
@@ -54,5 +56,5 @@ pub(crate) fn emit_plan(
         (IsEmitted (map description_of descriptions.now) table.now ssa.now plan.now) }
 {
     let order = order_of(alloc, descriptions, plan, table, ssa, deps)?;
-    emit(alloc, ssa, plan, &order, descriptions, table)
+    emit_described(alloc, ssa, plan, &order, descriptions, table)
 }

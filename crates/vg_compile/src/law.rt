@@ -1,7 +1,7 @@
 //! Laws on programs of kernels.
 
 ghost use Rattle.vg_compile.specs.Laws.{MorePlansCostNoMore, UnitsMeanKernels};
-ghost use Rattle.vg_compile.specs.OnePlan.{CompileMoreCostsNoMore, OneChosenPlan};
+ghost use Rattle.vg_compile.specs.OnePlan.{CompileMoreCostsNoMore, OneChosenPlan, OneProgramIsCompiled, OneTextIsExplained};
 
 /// A law that costs nothing to call: a program that means the units of the numbered values of a kernel,
 /// and has their name and parameters, means the kernel.
@@ -10,9 +10,9 @@ pub fn units_mean_kernels()
 {}
 
 /// A law: what is compiled with more plans costs at most what the chosen plan, the chosen wide plan, the
-/// chosen fed plan, the empty plan, the plain plan and the careful plain plan cost, and in a kernel of at
-/// most 256 units at most what any plan, wide plan or fed plan of aligned store groups costs where no lesser
-/// size is crowded.
+/// chosen fed plan, the empty plan, the plain plan and the careful plain plan cost, and what each plan that
+/// the fed search keeps costs when it is completed; and in a kernel of at most 256 units at most what any
+/// plan, wide plan or fed plan of aligned store groups costs where no lesser size is crowded.
 pub fn more_plans_cost_no_more()
     ensures { MorePlansCostNoMore }
 {}
@@ -28,4 +28,15 @@ pub fn there_is_one_plan()
 /// most what one without costs.
 pub fn compile_more_costs_no_more()
     ensures { CompileMoreCostsNoMore }
+{}
+
+/// A law: two programs that are compiled of a kernel by the same entries, set of extensions and
+/// width, both with more plans or both without, are the same program, and so have one text.
+pub fn one_program_is_compiled()
+    ensures { OneProgramIsCompiled }
+{}
+
+/// A law: the lines on the plan of a kernel, with more plans or without, are one text.
+pub fn one_text_is_explained()
+    ensures { OneTextIsExplained }
 {}

@@ -10,3 +10,4 @@ pub mod CheckTexts
 pub mod GuardedTexts
 pub mod GuardedSizes
 pub mod Whole
+pub mod OneGuarded

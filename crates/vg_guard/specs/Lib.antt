@@ -6,3 +6,4 @@ pub mod Guarded
 pub mod Grammar
 pub mod Compiled
 pub mod Laws
+pub mod OneGuarded

@@ -1,6 +1,6 @@
 //! The guarded program of a kernel.
 
-ghost use Rattle.std.specs.Prelude.{IfOk, map};
+ghost use Rattle.std.specs.Prelude.{false, true, IfOk, map};
 ghost use Rattle.std.specs.List.{AllByRecursion};
 ghost use Rattle.vg_catalog.specs.Catalogs.{entries_in};
 ghost use Rattle.vg_catalog.specs.Extensions.{bits_in};
@@ -47,19 +47,8 @@ pub fn compile_guarded_described(
     })
 }
 
-/// The guarded program of a kernel: its checks, a program that has what `compile` promises for it
-/// with every pointer noalias, and one that has what it promises for the kernel as it is; they may
-/// call the instructions of a catalogue whose extension is in the set. With `more` each has what
-/// `compile_more` promises.
-///
-/// It leaves the memory that the kernel leaves and traps where the kernel traps, in each layout
-/// that respects the kernel's own noalias, each call giving what the text of its entry means. Each
-/// side costs at most the kernel's scalar cost, and is the program of the plan that is chosen of
-/// its kernel, where the search keeps `width` plans of each size: 1 to 4,096 on the command line,
-/// any number here.
-///
-/// Fails for want of memory, also at the bounds of `compile`.
-pub fn compile_guarded(
+// The guarded program of a kernel, with more plans or without.
+fn compile_by(
     alloc: Global,
     catalog: &Catalog,
     allowed: Extensions,
@@ -74,4 +63,47 @@ pub fn compile_guarded(
 {
     let descriptions = descriptions_of(alloc, catalog, allowed)?;
     compile_guarded_described(alloc, descriptions.as_slice(), kernel, width, more)
+}
+
+/// The guarded program of a kernel: its checks, a program that has what `compile` promises for it
+/// with every pointer noalias, and one that has what it promises for the kernel as it is; they may
+/// call the instructions of a catalogue whose extension is in the set.
+///
+/// It leaves the memory that the kernel leaves and traps where the kernel traps, in each layout
+/// that respects the kernel's own noalias, each call giving what the text of its entry means. Each
+/// side costs at most the kernel's scalar cost, and is the program of the plan that is chosen of
+/// its kernel, where the search keeps `width` plans of each size: 1 to 4,096 on the command line,
+/// any number here.
+///
+/// Fails for want of memory, also at the bounds of `compile`.
+pub fn compile_guarded(
+    alloc: Global,
+    catalog: &Catalog,
+    allowed: Extensions,
+    kernel: &Kernel,
+    width: u32,
+) -> Result<Guarded, AllocError>
+    requires kernel { IsWellFormed (tree_of kernel.now) }
+    ensures { IfOk result
+        (IsCompiledGuarded (entries_in catalog.now) (bits_in allowed) (tree_of kernel.now) width
+        false) }
+{
+    compile_by(alloc, catalog, allowed, kernel, width, false)
+}
+
+/// The same with more plans: each side has what `compile_more` promises. Fails as `compile_guarded`
+/// does.
+pub fn compile_guarded_more(
+    alloc: Global,
+    catalog: &Catalog,
+    allowed: Extensions,
+    kernel: &Kernel,
+    width: u32,
+) -> Result<Guarded, AllocError>
+    requires kernel { IsWellFormed (tree_of kernel.now) }
+    ensures { IfOk result
+        (IsCompiledGuarded (entries_in catalog.now) (bits_in allowed) (tree_of kernel.now) width
+        true) }
+{
+    compile_by(alloc, catalog, allowed, kernel, width, true)
 }

@@ -1,6 +1,7 @@
 //! Laws of guards.
 
 ghost use Rattle.vg_guard.specs.Laws.{ChecksKeepApart, ChecksKeepRules, GuardedProgramsFit, NoaliasIsWellFormed};
+ghost use Rattle.vg_guard.specs.OneGuarded.{OneGuardedIsCompiled};
 
 /// A law: where the checks of a well-formed kernel hold, a layout that respects the kernel's own
 /// noalias respects noalias on every pointer.
@@ -24,4 +25,10 @@ pub fn checks_keep_rules()
 /// registers.
 pub fn guarded_programs_fit()
     ensures { GuardedProgramsFit }
+{}
+
+/// A law: two guarded programs that are compiled of a kernel by the same entries, set of extensions
+/// and width, both with more plans or both without, are the same, and so have one text.
+pub fn one_guarded_is_compiled()
+    ensures { OneGuardedIsCompiled }
 {}

@@ -6,8 +6,10 @@
 
 mod compiling;
 mod guarded_turn;
+mod law;
 mod running;
 
 pub use compiling::{compile_guarded_loop, compile_guarded_loop_described};
+pub use law::one_guarded_loop_is_compiled;
 pub use running::run_guarded_loop;
 pub use vg_bits::Outcome;

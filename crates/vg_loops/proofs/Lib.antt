@@ -5,3 +5,4 @@ pub mod Found
 pub mod Meant
 pub mod Nearness
 pub mod Whole
+pub mod OneLooped

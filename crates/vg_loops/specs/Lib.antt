@@ -7,3 +7,4 @@ pub mod Inputs
 pub mod Kept
 pub mod Near
 pub mod CompiledLoop
+pub mod OneLooped

@@ -1,6 +1,6 @@
 //! The looped text of a loop.
 
-ghost use Rattle.std.specs.Prelude.{IfOk, map};
+ghost use Rattle.std.specs.Prelude.{false, true, IfOk, map};
 ghost use Rattle.std.specs.List.{AllByRecursion};
 ghost use Rattle.vg_catalog.specs.Catalogs.{entries_in};
 ghost use Rattle.vg_catalog.specs.Extensions.{bits_in};
@@ -50,16 +50,8 @@ pub fn compile_loop_described(
     })
 }
 
-/// The looped text of a loop, whose programs may call the instructions of a catalogue whose
-/// extension is in the set: a block of as many turns as one kernel may have, and a rest of one turn.
-///
-/// It leaves the memory that the loop leaves and traps where a turn of the loop traps, in each layout
-/// in which the accesses of all turns respect noalias and each pointer stays below 2^64 after all
-/// turns. Each of its programs has what `compile` promises of the program of its kernel, or with
-/// `more` what `compile_more` promises.
-///
-/// Fails for want of memory, also at the bounds of `compile`.
-pub fn compile_loop(
+// The looped text of a loop, with more plans or without.
+fn compile_by(
     alloc: Global,
     catalog: &Catalog,
     allowed: Extensions,
@@ -73,4 +65,42 @@ pub fn compile_loop(
 {
     let descriptions = descriptions_of(alloc, catalog, allowed)?;
     compile_loop_described(alloc, descriptions.as_slice(), source, width, more)
+}
+
+/// The looped text of a loop, whose programs may call the instructions of a catalogue whose
+/// extension is in the set: a block of as many turns as one kernel may have, and a rest of one turn.
+///
+/// It leaves the memory that the loop leaves and traps where a turn of the loop traps, in each layout
+/// in which the accesses of all turns respect noalias and each pointer stays below 2^64 after all
+/// turns. Each of its programs has what `compile` promises of the program of its kernel.
+///
+/// Fails for want of memory, also at the bounds of `compile`.
+pub fn compile_loop(
+    alloc: Global,
+    catalog: &Catalog,
+    allowed: Extensions,
+    source: &Loop,
+    width: u32,
+) -> Result<Looped, AllocError>
+    requires source { IsLoop (loop_of source.now) }
+    ensures { IfOk result (IsCompiledLoop (entries_in catalog.now) (bits_in allowed) (loop_of
+        source.now) width false) }
+{
+    compile_by(alloc, catalog, allowed, source, width, false)
+}
+
+/// The same with more plans: each of its programs has what `compile_more` promises. Fails as
+/// `compile_loop` does.
+pub fn compile_loop_more(
+    alloc: Global,
+    catalog: &Catalog,
+    allowed: Extensions,
+    source: &Loop,
+    width: u32,
+) -> Result<Looped, AllocError>
+    requires source { IsLoop (loop_of source.now) }
+    ensures { IfOk result (IsCompiledLoop (entries_in catalog.now) (bits_in allowed) (loop_of
+        source.now) width true) }
+{
+    compile_by(alloc, catalog, allowed, source, width, true)
 }

@@ -7,6 +7,7 @@
 mod compiling;
 mod copying;
 pub mod counted;
+mod law;
 mod limits;
 mod loop_reading;
 mod moving;
@@ -15,8 +16,9 @@ mod running;
 mod turn;
 mod unrolling;
 
-pub use compiling::{compile_loop, compile_loop_described};
+pub use compiling::{compile_loop, compile_loop_described, compile_loop_more};
 pub use counted::Loop;
+pub use law::one_looped_is_compiled;
 pub use limits::turns_of;
 pub use loop_reading::{loop_place, parse_loop};
 pub use near::{stay_near, turns_asked};
@@ -24,3 +26,4 @@ pub use running::{run_both, run_loop, run_looped};
 pub use turn::Turn;
 pub use unrolling::unroll;
 pub use vg_bits::Outcome;
+pub use vg_looped::{Looped, parse_looped, print_looped};

@@ -1,7 +1,7 @@
 -- By the list of all dependences of a kernel, orders and cycles are those of the kernel.
-use Rattle.std.proofs.Common.{◌≡◌, ◌↔◌, ℕ, zero, suc, ◌+◌, ◌-◌, ◌<◌, ◌≤◌, Bool, true, false, List, [], ◌∷◌, ◌++◌, length, map, Option, Some, None, refl, sym, ap, subst, ◌∙◌, arith}
-use Rattle.std.specs.Prelude.{Contains, nat_lt, slice_get, ◌&&◌, ◌||◌}
-use Rattle.std.specs.List.{AllByRecursion, list_any}
+use Rattle.std.proofs.Common.{◌≡◌, ℕ, zero, suc, ◌+◌, ◌-◌, ◌≤◌, Bool, false, List, [], ◌∷◌, ◌++◌, length, map, Option, Some, None, refl, sym, ap, subst, ◌∙◌, arith}
+use Rattle.std.specs.Prelude.{nat_lt, slice_get, ◌||◌}
+use Rattle.std.specs.List.{list_any}
 use Rattle.std.specs.List.Sorted.{IsPermutation}
 use Rattle.std.specs.Option.{option_map_or}
 use Rattle.std.proofs.lemmas.Bool.{and_parts, ltb-true}
@@ -15,11 +15,11 @@ use Rattle.vg_shapes.specs.declared.pack.Pack.TheVariants.{Stores, Loads, Call}
 use Rattle.vg_shapes.specs.declared.ssa.Ssa.{Ssa}
 use Rattle.vg_shapes.specs.DepList.{is_listed}
 use Rattle.vg_shapes.specs.Depends.{dependences, depends_on}
-use Rattle.vg_shapes.specs.Nodes.{IsCycle, IsOrder, LeadsTo, node_depends, nodes, pack_depends, units_at}
-use Rattle.vg_shapes.specs.Order.{all_units, count_of, Follows, numbers_from, Stands}
+use Rattle.vg_shapes.specs.Nodes.{IsCycle, LeadsTo, node_depends, pack_depends, units_at}
+use Rattle.vg_shapes.specs.Order.{all_units, count_of, Follows, numbers_from}
 use Rattle.vg_shapes.specs.Units.{arguments, is_unit}
 use Rattle.vg_deps.proofs.Pairs.{lists-dependences}
-use Rattle.vg_order.specs.ByList.{IsCycleBy, IsOrderBy, LeadsToBy, NameLesser, NameUnits, node_depends_by, pack_depends_by}
+use Rattle.vg_order.specs.ByList.{IsCycleBy, LeadsToBy, NameLesser, NameUnits, node_depends_by, pack_depends_by}
 use Rattle.vg_order.specs.Laws.{DependencesGiveOrders, DependencesNameUnits, NumbersAreAnOrder}
 use Rattle.vg_order.proofs.Building.{numbers_from-more}
 use Rattle.vg_order.proofs.Graphs.{unit-inside}

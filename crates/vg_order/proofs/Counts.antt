@@ -1,5 +1,5 @@
 -- How often numbers stand in lists.
-use Rattle.std.proofs.Common.{◌≡◌, ◌≢◌, ℕ, zero, suc, ◌+◌, ◌<◌, ◌≤◌, Bool, true, false, List, [], ◌∷◌, ◌++◌, length, drop, map, refl, sym, ap, ◌∙◌, ◌⊎◌, inl, inr, arith, get_or}
+use Rattle.std.proofs.Common.{◌≡◌, ◌≢◌, ℕ, zero, suc, ◌+◌, ◌<◌, ◌≤◌, Bool, true, false, List, [], ◌∷◌, ◌++◌, length, drop, map, refl, sym, ap, ◌⊎◌, inl, inr, arith, get_or}
 use Rattle.std.specs.Prelude.{slice_index, ◌==◌}
 use Rattle.std.specs.List.{concat}
 use Rattle.std.proofs.lemmas.Bool.{cases_Bool, cases_eq, eq-eqb, eqb-true, ne_eqb}
@@ -28,7 +28,7 @@ same-behind f x y = elim (cases_eq x y) [
   | inr e ↦ (let none : one_if (x == y) ≡ 0 = ap one_if (ne_eqb x y e) in omega (arith, none))
 ]
 
-fewer-behind : (f : ℕ → ℕ) (x : ℕ) (xs : List ℕ) → count_of x xs ≤ count_of (f x) (map f xs)
+pub fewer-behind : (f : ℕ → ℕ) (x : ℕ) (xs : List ℕ) → count_of x xs ≤ count_of (f x) (map f xs)
 fewer-behind f x [] = omega arith
 fewer-behind f x (y ∷ ys) = omega (arith, fewer-behind f x ys, same-behind f x y)
 

@@ -1,7 +1,8 @@
 -- Nodes that have an order have no cycle.
-use Rattle.std.proofs.Common.{◌≡◌, ℕ, zero, suc, ◌+◌, ◌<◌, ◌≤◌, Bool, true, List, [], ◌∷◌, ◌++◌, length, take, refl, sym, ap, subst, ◌∙◌, inl, inr, arith, append-nil, append_assoc, get_or}
+use Rattle.std.proofs.Common.{◌≡◌, ℕ, zero, suc, ◌+◌, ◌<◌, ◌≤◌, Bool, true, List, [], ◌∷◌, ◌++◌, length, take, sym, subst, ◌∙◌, inl, inr, arith, append-nil, append_assoc}
 use Rattle.std.specs.Prelude.{Contains, slice_index_or}
 use Rattle.std.specs.List.{AllByRecursion}
+use Rattle.std.specs.List.Sorted.{IsPermutation}
 use Rattle.std.proofs.lemmas.Bool.{cases_lt}
 use Rattle.std.proofs.lemmas.List.{get_or_default, get_or-take, length-take}
 use Rattle.std.proofs.lemmas.List.Sorted.{Contains-permutation}
@@ -16,40 +17,12 @@ use Rattle.vg_shapes.specs.Units.{arguments}
 use Rattle.vg_order_laws.proofs.Plans.{nodes-have_units}
 use Rattle.vg_order.specs.ByList.{IsCycleBy, IsOrderBy, LeadsToBy, node_depends_by, NodeDependsBy}
 use Rattle.vg_order.specs.Laws.{OrdersHaveNoCycle}
-use Rattle.vg_order.proofs.Counts.{count_of-append, stands-append}
+use Rattle.vg_order.proofs.Places.{found-at, one-place}
 use Rattle.vg_order.proofs.Rising.{count_of-before, count_of-past, count_of-within}
 
 -- the node at a place
 abbrev at : List Node → ℕ → Node
 at ns k = slice_index_or ns k (UnitAt 0)
-
--- where a unit stands
-found-at : (units : Node → List ℕ) (x : ℕ) (ns : List Node) → Stands x (all_units units ns) → (k : ℕ) × (k < length ns) × Stands x (units (at ns k))
-found-at units x [] s = absurd (omega arith)
-found-at units x (n ∷ ns) s = elim (stands-append x (units n) (all_units units ns) s) [
-  | inl here ↦ (0, omega arith, here)
-  | inr rest ↦ (let found = found-at units x ns rest in (suc found.0, (let b = found.1 in omega arith), found.2))
-]
-
-at-found : (units : Node → List ℕ) (x : ℕ) (ns : List Node) (k : ℕ) → k < length ns → Stands x (units (at ns k)) → Stands x (all_units units ns)
-at-found units x [] k h s = absurd (omega arith)
-at-found units x (n ∷ ns) zero h s = let sum = count_of-append x (units n) (all_units units ns) in omega arith
-at-found units x (n ∷ ns) (suc k) h s =
-    let sum = count_of-append x (units n) (all_units units ns) in
-    let rest = at-found units x ns k (omega arith) s in
-    omega arith
-
--- there is one place
-one-place : (units : Node → List ℕ) (x : ℕ) (ns : List Node) (j k : ℕ) → count_of x (all_units units ns) < 2 → j < length ns → k < length ns → Stands x (units (at ns j)) → Stands x (units (at ns k)) → j ≡ k
-one-place units x [] j k few h g s t = absurd (omega arith)
-one-place units x (n ∷ ns) zero zero few h g s t = refl
-one-place units x (n ∷ ns) zero (suc k) few h g s t =
-    absurd (let sum = count_of-append x (units n) (all_units units ns) in let rest = at-found units x ns k (omega arith) t in omega arith)
-one-place units x (n ∷ ns) (suc j) zero few h g s t =
-    absurd (let sum = count_of-append x (units n) (all_units units ns) in let rest = at-found units x ns j (omega arith) s in omega arith)
-one-place units x (n ∷ ns) (suc j) (suc k) few h g s t =
-    let sum = count_of-append x (units n) (all_units units ns) in
-    ap suc (one-place units x ns j k (omega arith) (omega arith) (omega arith) s t)
 
 -- a unit on which a node depends stands before it
 follows-at : (depends : Node → ℕ → Bool) (units : Node → List ℕ) (done ns : List Node) (k x : ℕ) → Follows depends units done ns → k < length ns → depends (at ns k) x ≡ true → Stands x (all_units units (done ++ take k ns))
@@ -60,9 +33,9 @@ follows-at depends units done (n ∷ ns) (suc k) x follows h d =
     (follows-at depends units (done ++ n ∷ []) ns k x follows.1 (omega arith) d)
 
 -- each unit stands once
-few-units : (deps : List (ℕ × ℕ)) (ssa : Ssa) (matches : List Match) (packs : List Pack) (order : List Node) (x : ℕ) → ArePacks ssa packs → IsOrderBy deps ssa matches packs order → count_of x (all_units (units_at packs) order) < 2
-few-units deps ssa matches packs order x good is =
-    let same = nodes-have_units ssa packs order good is.once x in
+pub units-once : (ssa : Ssa) (packs : List Pack) (order : List Node) (x : ℕ) → ArePacks ssa packs → IsPermutation (nodes ssa packs) order → count_of x (all_units (units_at packs) order) < 2
+units-once ssa packs order x good p =
+    let same = nodes-have_units ssa packs order good p x in
     let most = at-most x (arguments ssa) (length ssa.units) in
     omega arith
   where
@@ -85,12 +58,12 @@ earlier deps ssa matches packs order k n m good is h e d c =
     let p = there.0 in
     let node : at order p ≡ m = get_or_default order p (UnitAt 0) m there.1 ∙ there.2 in
     let before = follows-at (node_depends_by deps ssa matches packs) units [] order k x is.follows h (subst (λ q. node_depends_by deps ssa matches packs q x ≡ true) (sym e) d.2) in
-    let found = found-at units x (take k order) before in
+    let found = found-at units (UnitAt 0) x (take k order) before in
     let j = found.0 in
     let less : j < k = (let b = found.1 in let l = length-take k order in omega arith) in
     let inside : j < length order = omega arith in
     let here : Stands x (units (at order j)) = subst (λ q. Stands x (units q)) (get_or-take k order j (UnitAt 0) less) found.2 in
-    let same : j ≡ p = one-place units x order j p (few-units deps ssa matches packs order x good is) inside there.1 here (subst (λ q. Stands x (units q)) (sym node) d.1) in
+    let same : j ≡ p = one-place units (UnitAt 0) x order j p (units-once ssa packs order x good is.once) inside there.1 here (subst (λ q. Stands x (units q)) (sym node) d.1) in
     (p, omega arith, node)
 
 -- along a chain to its end

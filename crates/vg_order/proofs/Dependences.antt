@@ -1,6 +1,6 @@
 -- On what the nodes of the graph of a plan depend.
-use Rattle.std.proofs.Common.{◌≡◌, ℕ, zero, suc, ◌+◌, ◌-◌, ◌<◌, ◌≤◌, Bool, true, false, List, [], ◌∷◌, ◌++◌, length, map, Option, Some, None, refl, sym, ap, subst, ◌∙◌, ◌⊎◌, inl, inr, arith, append-nil, get_or}
-use Rattle.std.specs.Prelude.{nat_eq, nat_le, nat_lt, slice_get, slice_index, slice_index_or, ◌==◌, ◌||◌, ◌&&◌, if◌then◌else◌}
+use Rattle.std.proofs.Common.{◌≡◌, ℕ, zero, suc, ◌+◌, ◌-◌, ◌<◌, ◌≤◌, true, false, List, [], ◌∷◌, ◌++◌, length, map, Option, Some, None, refl, sym, ap, subst, ◌∙◌, ◌⊎◌, inl, inr, arith, append-nil}
+use Rattle.std.specs.Prelude.{nat_le, nat_lt, slice_get, slice_index_or, ◌==◌, ◌&&◌}
 use Rattle.std.specs.List.{concat, cons_option, list_any}
 use Rattle.std.specs.Option.{is_some, option_map_or}
 use Rattle.std.proofs.lemmas.Bool.{and_from, and_parts, cases_Bool, cases_lt, cond-false, cond-true, eq-eqb, eqb-true, le-leb, le-ltb, leb-true, lt-ltb, ltb-true, or_cases, or_left, or_right}
@@ -17,14 +17,14 @@ use Rattle.vg_shapes.specs.declared.wanted.Wanted.TheVariants.{Value, Constant, 
 use Rattle.vg_shapes.specs.DepList.{is_listed, row_of}
 use Rattle.vg_shapes.specs.Order.{count_of, one_if, Stands}
 use Rattle.vg_shapes.specs.Pack.{bounds_from}
-use Rattle.vg_shapes.specs.Units.{arguments, is_unit, is_value, unit_at}
+use Rattle.vg_shapes.specs.Units.{arguments, is_unit, is_value}
 use Rattle.vg_order.specs.declared.graph.Graph.{Graph}
 use Rattle.vg_order.specs.declared.needs.Needs.{Needs}
-use Rattle.vg_order.specs.declared.needs.Needs.TheVariants.{RowsOf, Those}
+use Rattle.vg_order.specs.declared.needs.Needs.TheVariants.{Those}
 use Rattle.vg_order.specs.ByList.{NameUnits, node_depends_by, pack_depends_by}
 use Rattle.vg_order.specs.Graphs.{IsGraphOf, node_at, node_needs, pack_needs, unit_in, units_among}
 use Rattle.vg_order.specs.Needs.{rows_of}
-use Rattle.vg_order.specs.Paths.{home_at, IsGraph, IsInside, needs_at}
+use Rattle.vg_order.specs.Paths.{IsGraph, needs_at}
 use Rattle.vg_order.proofs.Counts.{count_of-append, stands-append}
 use Rattle.vg_order.proofs.Graphs.{found-stands, stands-found, unit-inside}
 
@@ -54,7 +54,7 @@ found-rows deps x (u ∷ us) e =
 
 -- ---- bound values
 
-inside-unit : (ssa : Ssa) (x : ℕ) → arguments ssa ≤ x → x < arguments ssa + length ssa.units → is_unit ssa x ≡ true
+pub inside-unit : (ssa : Ssa) (x : ℕ) → arguments ssa ≤ x → x < arguments ssa + length ssa.units → is_unit ssa x ≡ true
 inside-unit ssa x low high = ap is_some (cond-false _ _ _ (le-ltb x (arguments ssa) low)) ∙ there ssa.units (x - arguments ssa) (omega arith)
   where
     there : {A : Type 0} (xs : List A) (k : ℕ) → k < length xs → is_some (slice_get xs k) ≡ true
@@ -113,7 +113,7 @@ found-among first end x (b ∷ bounds) low high e = elim (or_cases _ _ e) [
 
 -- ---- nodes
 
-abbrev end_of : Ssa → ℕ
+abbrev pub end_of : Ssa → ℕ
 end_of ssa = arguments ssa + length ssa.units
 
 pack-found : (deps : List (ℕ × ℕ)) (ssa : Ssa) (matches : List Match) (p : Pack) (x : ℕ) → Stands x (concat (rows_of deps (pack_needs (arguments ssa) (end_of ssa) matches p))) → pack_depends_by deps ssa matches p x ≡ true
@@ -149,7 +149,7 @@ found-node deps ssa matches packs (PackAt k) x e = by (slice_get packs k) e
 
 -- ---- nodes by number
 
-needs-are : (deps : List (ℕ × ℕ)) (ssa : Ssa) (matches : List Match) (packs : List Pack) (g : Graph) (n : ℕ) → IsGraphOf ssa matches packs g → n < length g.nodes
+pub needs-are : (deps : List (ℕ × ℕ)) (ssa : Ssa) (matches : List Match) (packs : List Pack) (g : Graph) (n : ℕ) → IsGraphOf ssa matches packs g → n < length g.nodes
     → needs_at deps g n ≡ concat (rows_of deps (node_needs (arguments ssa) (end_of ssa) matches packs (node_at g n)))
 needs-are deps ssa matches packs g n is h =
     ap (λ q. concat (rows_of deps q)) (ap (λ (l : List Needs). slice_index_or l n (Those [])) is.needs ∙ get_or-map (node_needs (arguments ssa) (end_of ssa) matches packs) g.nodes n (UnitAt 0) (Those []) h)

@@ -1,6 +1,6 @@
 -- What was placed is an order of the plan, and what leads back is a cycle of it.
-use Rattle.std.proofs.Common.{◌≡◌, ℕ, zero, suc, ◌+◌, ◌-◌, ◌<◌, ◌≤◌, Bool, true, false, List, [], ◌∷◌, ◌++◌, length, map, refl, sym, ap, subst, ◌∙◌, inl, inr, arith, get_or}
-use Rattle.std.specs.Prelude.{Contains, filter, not, slice_index, slice_index_or, ◌==◌}
+use Rattle.std.proofs.Common.{◌≡◌, ℕ, ◌+◌, ◌-◌, ◌<◌, true, List, [], ◌∷◌, ◌++◌, length, map, refl, sym, ap, subst, ◌∙◌, inl, inr, arith}
+use Rattle.std.specs.Prelude.{Contains, filter, not, slice_index_or, ◌==◌}
 use Rattle.std.specs.List.{AllByRecursion}
 use Rattle.std.specs.List.Sorted.{IsPermutation}
 use Rattle.std.proofs.lemmas.Bool.{cases_Bool, cases_lt, eq-eqb, eqb-true}
@@ -9,16 +9,16 @@ use Rattle.std.proofs.lemmas.List.Elements.{Contains-get_or}
 use Rattle.std.proofs.lemmas.List.Sorted.{IsPermutation-map}
 use Rattle.vg_shapes.specs.declared.match_table.Match.{Match}
 use Rattle.vg_shapes.specs.declared.order.Node.{Node}
-use Rattle.vg_shapes.specs.declared.order.Node.TheVariants.{PackAt, UnitAt}
+use Rattle.vg_shapes.specs.declared.order.Node.TheVariants.{UnitAt}
 use Rattle.vg_shapes.specs.declared.pack.Pack.{Pack}
 use Rattle.vg_shapes.specs.declared.ssa.Ssa.{Ssa}
 use Rattle.vg_shapes.specs.Nodes.{is_packed, nodes, units_at}
-use Rattle.vg_shapes.specs.Order.{all_units, count_of, Follows, numbers_from, one_if, Stands}
+use Rattle.vg_shapes.specs.Order.{all_units, Follows, numbers_from, one_if, Stands}
 use Rattle.vg_shapes.specs.Units.{arguments}
 use Rattle.vg_order.specs.declared.fault.OrderFault.{OrderFault}
 use Rattle.vg_order.specs.declared.fault.OrderFault.TheVariants.{Cycle, Memory}
 use Rattle.vg_order.specs.declared.graph.Graph.{Graph}
-use Rattle.vg_order.specs.ByList.{AreOnce, AreUnitsOf, IsCycleBy, IsOrderBy, LeadsToBy, NamesCycle, NameLesser, NameUnits, node_depends_by}
+use Rattle.vg_order.specs.ByList.{AreOnce, AreUnitsOf, IsOrderBy, LeadsToBy, NamesCycle, NameLesser, NameUnits, node_depends_by}
 use Rattle.vg_order.specs.Faults.{Closes, Tells}
 use Rattle.vg_order.specs.Graphs.{IsGraphOf, node_at}
 use Rattle.vg_order.specs.Paths.{ClosesBy, FollowsHomes, home_at, IsInside, IsOrdered, IsRising, LeadsBack, needs_at}
@@ -31,7 +31,7 @@ use Rattle.vg_order.proofs.Rising.{count_of-past, count_of-within}
 -- ---- orders
 
 -- a unit of a node that is done stands among the units that are done
-done-units : (packs : List Pack) (node : ℕ → Node) (m x : ℕ) (done : List ℕ) → Stands m done → Stands x (units_at packs (node m)) → Stands x (all_units (units_at packs) (map node done))
+pub done-units : (packs : List Pack) (node : ℕ → Node) (m x : ℕ) (done : List ℕ) → Stands m done → Stands x (units_at packs (node m)) → Stands x (all_units (units_at packs) (map node done))
 done-units packs node m x [] s t = absurd (omega arith)
 done-units packs node m x (n ∷ done) s t =
     let sum = count_of-append x (units_at packs (node n)) (all_units (units_at packs) (map node done)) in
@@ -135,7 +135,7 @@ empty-node ssa matches packs g n e is h =
     ∙ get_or-map UnitAt (numbers_from (arguments ssa) (length ssa.units)) n 0 (UnitAt 0) (omega arith)
     ∙ ap UnitAt (numbers-at (arguments ssa) (length ssa.units) n (omega arith))
 
-only-one : (x y : ℕ) → Stands x (y ∷ []) → x ≡ y
+pub only-one : (x y : ℕ) → Stands x (y ∷ []) → x ≡ y
 only-one x y s = elim (cases_Bool (x == y)) [
   | inl t ↦ eqb-true x y t
   | inr f ↦ absurd (let none : one_if (x == y) ≡ 0 = ap one_if f in omega arith)

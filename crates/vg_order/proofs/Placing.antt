@@ -1,7 +1,6 @@
 -- What a visit of a node keeps.
-use Rattle.std.proofs.Common.{◌≡◌, ◌≢◌, ℕ, zero, suc, ◌+◌, ◌-◌, ◌<◌, ◌≤◌, Bool, true, false, List, [], ◌∷◌, ◌++◌, length, refl, sym, ap, subst, ◌∙◌, ◌⊎◌, inl, inr, arith, append_assoc, Option, Some, None}
+use Rattle.std.proofs.Common.{◌≡◌, ◌≢◌, ℕ, ◌+◌, ◌<◌, Bool, true, false, List, [], ◌∷◌, ◌++◌, length, refl, sym, ap, subst, ◌∙◌, inl, inr, arith, append_assoc, append-nil, Some, None}
 use Rattle.std.specs.Prelude.{slice_index, slice_index_or, slice_set, ◌==◌}
-use Rattle.std.specs.List.{concat}
 use Rattle.std.proofs.lemmas.Bool.{cases_eq, eq-eqb, ne_eqb}
 use Rattle.std.proofs.lemmas.List.{get_or_read, get_or-set_other, get_or-set_same, length-set}
 use Rattle.vg_shapes.specs.Order.{count_of, one_if, Stands}
@@ -9,11 +8,12 @@ use Rattle.vg_order.specs.declared.graph.Graph.{Graph}
 use Rattle.vg_order.specs.declared.needs.Cursor.{Cursor}
 use Rattle.vg_order.specs.declared.needs.Look.{Look}
 use Rattle.vg_order.specs.declared.needs.Needs.{Needs}
-use Rattle.vg_order.specs.declared.needs.Needs.TheVariants.{Those, RowsOf}
+use Rattle.vg_order.specs.declared.needs.Needs.TheVariants.{Those}
 use Rattle.vg_order.specs.declared.progress.Progress.{Progress}
-use Rattle.vg_order.specs.Needs.{flag_at, left_from, Looked, Passes, rows_of, StopsAt}
-use Rattle.vg_order.specs.Paths.{FollowsHomes, home_at, IsPlaced, IsProgress, left_at, needs_at, rows_at, start}
-use Rattle.vg_order.proofs.Counts.{count_of-push}
+use Rattle.vg_order.specs.Needs.{ArePlaced, ComesFirst, flag_at, left_from, Looked, Passes, rows_of, StopsAt}
+use Rattle.vg_order.specs.Paths.{FollowsHomes, home_at, IsPlaced, IsProgress, IsReady, left_at, needs_at, rows_at, start}
+use Rattle.vg_order.proofs.Counts.{count_of-append, count_of-push}
+use Rattle.vg_order.proofs.Looks.{passes-on}
 
 pub flag-still : (flags : List Bool) (m n : ℕ) → m < length flags → flag_at flags n ≡ true → flag_at (slice_set flags m true) n ≡ true
 flag-still flags m n h p = elim (cases_eq n m) [
@@ -51,11 +51,12 @@ follows-push needs home done (n ∷ order) m follows here = (
       (λ x s. subst (Stands (home x)) (sym (append_assoc done (n ∷ []) order)) (here x s)),
 )
 
-passes-more : (homes : List ℕ) (placed : List Bool) (m : ℕ) (xs ys : List ℕ) → m < length placed → Passes homes placed xs ys → Passes homes (slice_set placed m true) xs ys
-passes-more homes placed m xs ys h p x s = elim (p x s) [ inl t ↦ inl (flag-still placed m (slice_index homes x) h t) | inr r ↦ inr r ]
+pub passes-more : (homes : List ℕ) (placed : List Bool) (m : ℕ) (xs ys : List ℕ) → m < length placed → Passes homes placed xs ys → Passes homes (slice_set placed m true) xs ys
+passes-more homes placed m xs ys h p = (p.0, p.1, λ x s. flag-still placed m (slice_index homes x) h (p.2 x s))
 
-passes-on : (homes : List ℕ) (placed : List Bool) (xs ys zs : List ℕ) → Passes homes placed xs ys → Passes homes placed ys zs → Passes homes placed xs zs
-passes-on homes placed xs ys zs p q x s = elim (p x s) [ inl t ↦ inl t | inr r ↦ q x r ]
+-- where nothing is left all were placed
+passed-all : (homes : List ℕ) (placed : List Bool) (xs ys : List ℕ) → Passes homes placed xs ys → ys ≡ [] → ArePlaced homes placed xs
+passed-all homes placed xs ys p none x s = p.2 x (subst (Stands x) (p.1 ∙ ap (λ l. p.0 ++ l) none ∙ append-nil p.0) s)
 
 -- a node was looked at: only for it is less left
 pub placed-looked : (needs left now : ℕ → List ℕ) (homes : List ℕ) (count : ℕ) (order : List ℕ) (placed : List Bool) (m : ℕ) → IsPlaced needs left homes count order placed
@@ -77,10 +78,10 @@ placed-more needs left homes count order placed m p h f none =
     let inside : m < length placed = (let l = p.long in omega arith) in
     record {
       counts = λ n. counts-more order placed m n inside f p.counts;
-      follows = follows-push needs (slice_index homes) [] order m p.follows (λ x s. elim (p.known m h x s) [
-        | inl t ↦ (let c = p.counts (slice_index homes x) in let one = ap one_if t in omega arith)
-        | inr r ↦ absurd (let e = ap (count_of x) none in omega arith)
-      ]);
+      follows = follows-push needs (slice_index homes) [] order m p.follows (λ x s. (
+          let c = p.counts (slice_index homes x) in
+          let one = ap one_if (passed-all homes placed (needs m) (left m) (p.known m h) none x s) in
+          omega arith));
       long = length-set placed m true ∙ p.long;
       known = λ n b. passes-more homes placed m (needs n) (left n) inside (p.known n b);
     }
@@ -129,15 +130,33 @@ visit-placed deps g p m needs from look is read looked waits none =
     let inside : m < length cursors = (let h = read.2 in let e = read.3 in omega arith) in
     let rows = rows-read deps g cursors m needs from read in
     let now = visit-looked deps g p m needs from look is read looked in
-    let end : left_from (rows_of deps needs) look.cursor ≡ [] = subst (StopsAt g.homes p.placed.items (rows_of deps needs) (left_from (rows_of deps needs) look.cursor)) none looked.stops in
+    let end : left_from (rows_of deps needs) look.cursor ≡ [] = subst (StopsAt g.homes p.placed.items (left_from (rows_of deps needs) look.cursor)) none looked.stops in
     let gone : left_at deps g (slice_set cursors m look.cursor) m ≡ [] = left-set deps g cursors look.cursor m inside ∙ ap (λ r. left_from r look.cursor) (sym rows) ∙ end in
     (placed-more (needs_at deps g) (left_at deps g (slice_set cursors m look.cursor)) g.homes (length g.needs) p.order.items p.placed.items m now.0 read.2 waits gone, now.1)
 
+-- it waits for none
+pub visit-ready : (deps : List (ℕ × ℕ)) (g : Graph) (p : Progress) (m : ℕ) (needs : Needs) (from : Cursor) (look : Look)
+    → IsProgress deps g p → Reads g p.cursors.items m needs from → Looked g.homes p.placed.items (rows_of deps needs) from look → look.«open» ≡ None
+    → IsReady deps g p.placed.items m
+visit-ready deps g p m needs from look is read looked none =
+    let cursors = p.cursors.items in
+    let inside : m < length cursors = (let h = read.2 in let e = read.3 in omega arith) in
+    let now = visit-looked deps g p m needs from look is read looked in
+    let end : left_from (rows_of deps needs) look.cursor ≡ [] = subst (StopsAt g.homes p.placed.items (left_from (rows_of deps needs) look.cursor)) none looked.stops in
+    let gone : left_at deps g (slice_set cursors m look.cursor) m ≡ [] = left-set deps g cursors look.cursor m inside ∙ ap (λ r. left_from r look.cursor) (sym (rows-read deps g cursors m needs from read)) ∙ end in
+    passed-all g.homes p.placed.items (needs_at deps g m) (left_at deps g (slice_set cursors m look.cursor) m) (now.0.known m read.2) gone
+
 -- the unit for which it waits
 pub visit-waits : (deps : List (ℕ × ℕ)) (g : Graph) (p : Progress) (m x : ℕ) (needs : Needs) (from : Cursor) (look : Look)
-    → Reads g p.cursors.items m needs from → Looked g.homes p.placed.items (rows_of deps needs) from look → look.«open» ≡ Some x
-    → Stands x (needs_at deps g m) × (flag_at p.placed.items (home_at g x) ≡ false)
-visit-waits deps g p m x needs from look read looked some =
-    let rows = rows-read deps g p.cursors.items m needs from read in
-    let stop = subst (StopsAt g.homes p.placed.items (rows_of deps needs) (left_from (rows_of deps needs) look.cursor)) some looked.stops in
-    (subst (λ r. Stands x (concat r)) rows stop.0, stop.1)
+    → IsProgress deps g p → Reads g p.cursors.items m needs from → Looked g.homes p.placed.items (rows_of deps needs) from look → look.«open» ≡ Some x
+    → Stands x (needs_at deps g m) × (flag_at p.placed.items (home_at g x) ≡ false) × ComesFirst g.homes p.placed.items (needs_at deps g m) x
+visit-waits deps g p m x needs from look is read looked some =
+    let cursors = p.cursors.items in
+    let inside : m < length cursors = (let h = read.2 in let e = read.3 in omega arith) in
+    let now = visit-looked deps g p m needs from look is read looked in
+    let stop = subst (StopsAt g.homes p.placed.items (left_from (rows_of deps needs) look.cursor)) some looked.stops in
+    let left : left_at deps g (slice_set cursors m look.cursor) m ≡ x ∷ stop.0 = left-set deps g cursors look.cursor m inside ∙ ap (λ r. left_from r look.cursor) (sym (rows-read deps g cursors m needs from read)) ∙ stop.1 in
+    let first : ComesFirst g.homes p.placed.items (needs_at deps g m) x = (stop.0, subst (Passes g.homes p.placed.items (needs_at deps g m)) left (now.0.known m read.2)) in
+    let here : Stands x (x ∷ stop.0) = (let one : one_if (x == x) ≡ 1 = ap one_if (eq-eqb x x refl) in omega arith) in
+    let there : Stands x (needs_at deps g m) = subst (Stands x) (sym first.1.1) (let sum = count_of-append x first.1.0 (x ∷ stop.0) in omega arith) in
+    (there, stop.2, first)

@@ -1,9 +1,9 @@
 -- Where the nodes are the units in their order, and depend on lesser ones alone, they are placed in that order.
 use Rattle.std.proofs.Common.{◌≡◌, ℕ, zero, suc, ◌+◌, ◌-◌, ◌<◌, ◌≤◌, Bool, true, false, List, [], ◌∷◌, ◌++◌, length, replicate, refl, sym, ap, subst, ◌∙◌, inl, inr, arith}
 use Rattle.std.specs.Prelude.{slice_index, slice_index_or, ◌==◌}
-use Rattle.std.proofs.lemmas.Bool.{cases_Bool, cases_eq, cases_lt, eq-eqb, ne_eqb, eqb-true, eqb-false}
+use Rattle.std.proofs.lemmas.Bool.{cases_Bool, cases_eq, ne_eqb, eqb-true, eqb-false}
 use Rattle.std.proofs.lemmas.List.{get_or_past, length-replicate}
-use Rattle.vg_shapes.specs.Order.{count_of, numbers_from, one_if, Stands}
+use Rattle.vg_shapes.specs.Order.{count_of, numbers_from, one_if}
 use Rattle.vg_order.specs.declared.graph.Graph.{Graph}
 use Rattle.vg_order.specs.declared.needs.Cursor.{Cursor}
 use Rattle.vg_order.specs.declared.paths.Path.{Path}
@@ -86,8 +86,11 @@ fresh-progress deps g p count n o f c = (
     counts = λ k. ap (count_of k) o ∙ sym (ap one_if (ap (λ (l : List Bool). flag_at l k) f ∙ flags-off count k));
     follows = subst (FollowsHomes (needs_at deps g) (slice_index g.homes) []) (sym o) tt;
     long = ap length f ∙ length-replicate count false ∙ n;
-    known = λ k h x s. inr (subst (Stands x) (sym (
-        ap (left_from (rows_at deps g k)) (ap (λ (l : List Cursor). slice_index_or l k start) c ∙ starts count k) ∙ left-begin (rows_at deps g k) 0)) s);
+    known = λ k h. (
+      [],
+      sym (ap (left_from (rows_at deps g k)) (ap (λ (l : List Cursor). slice_index_or l k start) c ∙ starts count k) ∙ left-begin (rows_at deps g k) 0),
+      λ x s. absurd (omega arith),
+    );
   },
   ap length c ∙ length-replicate count start ∙ n,
 )

@@ -1,5 +1,5 @@
 -- A path of waiting nodes: going up, going back, and closing it to a cycle.
-use Rattle.std.proofs.Common.{◌≡◌, ◌≢◌, ℕ, zero, suc, ◌+◌, ◌-◌, ◌*◌, ◌<◌, ◌≤◌, Bool, true, false, List, [], ◌∷◌, ◌++◌, length, drop, map, Option, Some, None, refl, sym, ap, subst, ◌∙◌, ◌⊎◌, inl, inr, arith, get_or}
+use Rattle.std.proofs.Common.{◌≡◌, ◌≢◌, ℕ, zero, suc, ◌+◌, ◌-◌, ◌*◌, ◌<◌, ◌≤◌, Bool, true, false, List, [], ◌∷◌, ◌++◌, length, drop, map, Option, Some, None, refl, sym, ap, subst, ◌∙◌, inl, inr, arith}
 use Rattle.std.specs.Prelude.{slice_index, slice_set, ◌==◌}
 use Rattle.std.specs.List.{AllByRecursion}
 use Rattle.std.proofs.lemmas.Bool.{cases_eq, cases_lt, eq-eqb, ne_eqb, true≢false}
@@ -8,11 +8,11 @@ use Rattle.vg_shapes.specs.Order.{count_of, one_if, Stands}
 use Rattle.vg_order.specs.declared.graph.Graph.{Graph}
 use Rattle.vg_order.specs.declared.paths.Path.{Path}
 use Rattle.vg_order.specs.declared.progress.Progress.{Progress}
-use Rattle.vg_order.specs.Needs.{flag_at}
-use Rattle.vg_order.specs.Paths.{ClosesBy, count_true, GoesBack, home_at, IsAtRest, IsClosing, IsInside, IsOff, LeadsBack, LeadsUp, needs_at, OnPath, StandsOn, Steps}
+use Rattle.vg_order.specs.Needs.{ComesFirst, flag_at}
+use Rattle.vg_order.specs.Paths.{AreFirst, ClosesBy, count_true, GoesBack, home_at, IsClosing, IsInside, IsOff, LeadsBack, LeadsUp, needs_at, OnPath, StandsOn, Steps}
 use Rattle.vg_order.specs.ByList.{AreOnce}
 use Rattle.vg_order.proofs.Counts.{count_of-drop, count_of-push, stands_where}
-use Rattle.vg_order.proofs.Placing.{counts-more}
+use Rattle.vg_order.proofs.Placing.{counts-more, passes-more}
 
 -- ---- what leads on
 
@@ -37,6 +37,22 @@ back-drop needs home end [] (suc k) h = h
 back-drop needs home end (n ∷ []) (suc zero) h = tt
 back-drop needs home end (n ∷ []) (suc (suc k)) h = tt
 back-drop needs home end (n ∷ (m ∷ ns)) (suc k) h = back-drop needs home end (m ∷ ns) k h.1
+
+-- what comes first as more is placed, and along a path that grows, and that ends one unit before
+first-more : (homes : List ℕ) (placed : List Bool) (m : ℕ) (us : List ℕ) (x : ℕ) → m < length placed → ComesFirst homes placed us x → ComesFirst homes (slice_set placed m true) us x
+first-more homes placed m us x h c = (c.0, passes-more homes placed m us (x ∷ c.0) h c.1)
+
+firsts-push : (needs : ℕ → List ℕ) (homes : List ℕ) (placed : List Bool) (path : List ℕ) (top next : ℕ) → AreFirst needs homes placed (path ++ top ∷ []) → ComesFirst homes placed (needs (slice_index homes top)) next
+    → AreFirst needs homes placed ((path ++ top ∷ []) ++ next ∷ [])
+firsts-push needs homes placed [] top next h c = (c, tt)
+firsts-push needs homes placed (n ∷ []) top next h c = (h.0, (c, tt))
+firsts-push needs homes placed (n ∷ (m ∷ ns)) top next h c = (h.0, firsts-push needs homes placed (m ∷ ns) top next h.1 c)
+
+firsts-back : (needs : ℕ → List ℕ) (homes : List ℕ) (placed : List Bool) (k : ℕ) (path : List ℕ) (top : ℕ) → k < length placed → AreFirst needs homes placed (path ++ top ∷ [])
+    → AreFirst needs homes (slice_set placed k true) path
+firsts-back needs homes placed k [] top h f = tt
+firsts-back needs homes placed k (n ∷ []) top h f = tt
+firsts-back needs homes placed k (n ∷ (m ∷ ns)) top h f = (first-more homes placed k (needs (slice_index homes n)) m h f.0, firsts-back needs homes placed k (m ∷ ns) top h f.1)
 
 -- each of a list
 all-push : (P : ℕ → Type 0) (xs : List ℕ) (x : ℕ) → AllByRecursion P xs → P x → AllByRecursion P (xs ++ x ∷ [])
@@ -141,13 +157,15 @@ top-waits needs homes count placed path on top p = p.waits (slice_index homes to
 
 path-up : (needs : ℕ → List ℕ) (homes : List ℕ) (count : ℕ) (placed : List Bool) (path : List ℕ) (on : List Bool) (top next : ℕ) → OnPath needs homes count placed path on top
     → slice_index homes next < count → Stands next (needs (slice_index homes top)) → flag_at on (slice_index homes next) ≡ false → flag_at placed (slice_index homes next) ≡ false
+    → ComesFirst homes placed (needs (slice_index homes top)) next
     → OnPath needs homes count placed (path ++ top ∷ []) (slice_set on (slice_index homes next) true) next
-path-up needs homes count placed path on top next p h s off waits =
+path-up needs homes count placed path on top next p h s off waits first =
     let home = slice_index homes in
     let node = home next in
     let inside : node < length on = (let l = p.long in omega arith) in
     record {
       leads = up-push needs home path top next p.leads s;
+      firsts = firsts-push needs homes placed path top next p.firsts first;
       counts = λ n. ap (count_of n) (map-append home (path ++ top ∷ []) (next ∷ [])) ∙ counts-more (map home (path ++ top ∷ [])) on node n inside off p.counts;
       waits = λ n t. elim (cases_eq n node) [
         | inl same ↦ ap (flag_at placed) same ∙ waits
@@ -165,14 +183,15 @@ off-one on top n h t = elim (cases_eq n top) [
 ]
 
 -- the top was placed, and the path goes back to the unit below it
-path-back : (needs : ℕ → List ℕ) (homes : List ℕ) (count : ℕ) (placed : List Bool) (front : List ℕ) (on : List Bool) (below top : ℕ) → OnPath needs homes count placed (front ++ below ∷ []) on top
+path-back : (needs : ℕ → List ℕ) (homes : List ℕ) (count : ℕ) (placed : List Bool) (front : List ℕ) (on : List Bool) (below top : ℕ) → length placed ≡ count → OnPath needs homes count placed (front ++ below ∷ []) on top
     → OnPath needs homes count (slice_set placed (slice_index homes top) true) front (slice_set on (slice_index homes top) false) below
-path-back needs homes count placed front on below top p =
+path-back needs homes count placed front on below top so_long p =
     let home = slice_index homes in
     let node = home top in
     let inside : node < length on = (let l = p.long in let n = p.node in omega arith) in
     record {
       leads = up-front needs home (front ++ below ∷ []) top p.leads;
+      firsts = firsts-back needs homes placed node (front ++ below ∷ []) top (let n = p.node in omega arith) p.firsts;
       counts = λ n. (let c = p.counts n in let q = homes-push homes (front ++ below ∷ []) top n in elim (cases_eq n node) [
         | inl same ↦
             let one : one_if (n == node) ≡ 1 = ap one_if (eq-eqb n node same) in
@@ -216,6 +235,7 @@ path-start needs homes count placed path on unit off h w =
     let inside : node < length on = (let l = off.1 in omega arith) in
     let begin : OnPath needs homes count placed [] (slice_set on node true) unit = record {
       leads = tt;
+      firsts = tt;
       counts = λ n. counts-more [] on node n inside (off.2 node) (λ k. ap one_if (sym (off.2 k)));
       waits = λ n t. elim (cases_eq n node) [
         | inl same ↦ ap (flag_at placed) same ∙ w
@@ -228,20 +248,21 @@ path-start needs homes count placed path on unit off h w =
     subst (λ (q : List ℕ). OnPath needs homes count placed q (slice_set on node true) unit) (sym off.0) begin
 
 pub steps-back : (deps : List (ℕ × ℕ)) (g : Graph) (before after : Progress) (was path : Path) (top : ℕ) (to : Option ℕ) → StandsOn deps g before was top
+    → length before.placed.items ≡ length g.needs
     → after.placed.items ≡ slice_set before.placed.items (home_at g top) true → path.on.items ≡ slice_set was.on.items (home_at g top) false
     → GoesBack was.units.items path.units.items to → Steps deps g before after was path top to
-steps-back deps g before after was path top None p e o m =
+steps-back deps g before after was path top None p l e o m =
     let needs = needs_at deps g in
     let count = length g.needs in
     let first : OnPath needs g.homes count before.placed.items [] was.on.items top = subst (λ (q : List ℕ). OnPath needs g.homes count before.placed.items q was.on.items top) m.0 p.0 in
     let off = path-off needs g.homes count before.placed.items was.on.items top first in
     ((m.1, ap length o ∙ off.1, λ n. ap (λ (l : List Bool). flag_at l n) o ∙ off.2 n), m.0, e)
-steps-back deps g before after was path top (Some below) p e o m =
+steps-back deps g before after was path top (Some below) p l e o m =
     let needs = needs_at deps g in
     let count = length g.needs in
     let front = path.units.items in
     let longer : OnPath needs g.homes count before.placed.items (front ++ below ∷ []) was.on.items top = subst (λ (q : List ℕ). OnPath needs g.homes count before.placed.items q was.on.items top) m p.0 in
-    let back = path-back needs g.homes count before.placed.items front was.on.items below top longer in
+    let back = path-back needs g.homes count before.placed.items front was.on.items below top l longer in
     let size : length front + 1 ≡ length was.units.items = sym (ap length m ∙ length_push front below) in
     let same : slice_index (front ++ below ∷ []) 0 ≡ slice_index (was.units.items ++ top ∷ []) 0 =
     ap (λ (l : List ℕ). slice_index l 0) (sym m) ∙ sym (get_or_append_left was.units.items (top ∷ []) 0 0 (omega arith)) in (
@@ -256,12 +277,13 @@ steps-back deps g before after was path top (Some below) p e o m =
 
 pub steps-up : (deps : List (ℕ × ℕ)) (g : Graph) (before after : Progress) (was path : Path) (top next : ℕ) → StandsOn deps g before was top
     → home_at g next < length g.needs → Stands next (needs_at deps g (home_at g top)) → flag_at was.on.items (home_at g next) ≡ false → flag_at before.placed.items (home_at g next) ≡ false
+    → ComesFirst g.homes before.placed.items (needs_at deps g (home_at g top)) next
     → after.placed.items ≡ before.placed.items → path.units.items ≡ was.units.items ++ top ∷ [] → path.on.items ≡ slice_set was.on.items (home_at g next) true → IsInside g next
     → Steps deps g before after was path top (Some next)
-steps-up deps g before after was path top next p h s off waits e u o inside =
+steps-up deps g before after was path top next p h s off waits first e u o inside =
     let needs = needs_at deps g in
     let count = length g.needs in
-    let up = path-up needs g.homes count before.placed.items was.units.items was.on.items top next p.0 h s off waits in
+    let up = path-up needs g.homes count before.placed.items was.units.items was.on.items top next p.0 h s off waits first in
     let size = length_push was.units.items top in
     let same : slice_index (path.units.items ++ next ∷ []) 0 ≡ slice_index (was.units.items ++ top ∷ []) 0 =
     ap (λ (l : List ℕ). slice_index (l ++ next ∷ []) 0) u ∙ get_or_append_left (was.units.items ++ top ∷ []) (next ∷ []) 0 0 (omega arith) in (

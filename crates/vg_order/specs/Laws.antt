@@ -10,6 +10,7 @@ use Rattle.vg_shapes.specs.Nodes.{ArePacks, IsCycle, IsOrder}
 use Rattle.vg_shapes.specs.Order.{numbers_from}
 use Rattle.vg_shapes.specs.Units.{arguments}
 use Rattle.vg_order.specs.ByList.{IsCycleBy, IsOrderBy, NameLesser, NameUnits}
+use Rattle.vg_order.specs.Scheduled.{IsScheduled}
 
 -- nodes that have an order have no cycle
 abbrev pub OrdersHaveNoCycle : Type 0
@@ -36,3 +37,11 @@ NumbersAreAnOrder =
     (deps : List (ℕ × ℕ)) (ssa : Ssa) (matches : List Match) →
     NameUnits ssa deps → NameLesser deps →
     IsOrderBy deps ssa matches [] (map UnitAt (numbers_from (arguments ssa) (length ssa.units)))
+
+-- there is at most one order in which nodes are put
+abbrev pub OneOrderIsScheduled : Type 0
+OneOrderIsScheduled =
+    (deps : List (ℕ × ℕ)) (ssa : Ssa) (matches : List Match) (packs : List Pack)
+    (one other : List Node) →
+    IsScheduled deps ssa matches packs one → IsScheduled deps ssa matches packs other →
+    one ≡ other

@@ -4,11 +4,10 @@ use Rattle.std.specs.List.{AllByRecursion, concat}
 use Rattle.vg_shapes.specs.Order.{count_of, one_if, Stands}
 use Rattle.vg_order.specs.declared.graph.Graph.{Graph}
 use Rattle.vg_order.specs.declared.needs.Cursor.{Cursor}
-use Rattle.vg_order.specs.declared.needs.Needs.{Needs}
-use Rattle.vg_order.specs.declared.needs.Needs.TheVariants.{Those, RowsOf}
+use Rattle.vg_order.specs.declared.needs.Needs.TheVariants.{Those}
 use Rattle.vg_order.specs.declared.paths.Path.{Path}
 use Rattle.vg_order.specs.declared.progress.Progress.{Progress}
-use Rattle.vg_order.specs.Needs.{flag_at, left_from, Passes, rows_of}
+use Rattle.vg_order.specs.Needs.{ComesFirst, flag_at, left_from, Passes, rows_of}
 
 -- ---- nodes by number
 
@@ -74,16 +73,23 @@ IsProgress deps g p =
     IsPlaced (needs_at deps g) (left_at deps g p.cursors.items) g.homes (length g.needs) p.order.items p.placed.items
     × (length p.cursors.items ≡ length g.needs)
 
--- what a visit of a node comes to: it is placed, or waits for this unit
+-- a node of which all units for which it waits are placed
+abbrev pub IsReady : List (ℕ × ℕ) → Graph → List Bool → ℕ → Type 0
+IsReady deps g placed n =
+    (x : ℕ) → Stands x (needs_at deps g n) → flag_at placed (home_at g x) ≡ true
+
+-- what a visit of a node comes to: it is placed, or waits for this unit as the first one
 abbrev pub Visits : List (ℕ × ℕ) → Graph → Progress → Progress → ℕ → Option ℕ → Type 0
 Visits deps g before after n None =
     (after.order.items ≡ before.order.items ++ n ∷ [])
     × (after.placed.items ≡ slice_set before.placed.items n true)
+    × IsReady deps g before.placed.items n
 Visits deps g before after n (Some x) =
     (after.order.items ≡ before.order.items)
     × (after.placed.items ≡ before.placed.items)
     × Stands x (needs_at deps g n)
     × (flag_at before.placed.items (home_at g x) ≡ false)
+    × ComesFirst g.homes before.placed.items (needs_at deps g n) x
 
 -- ---- paths of units
 
@@ -92,6 +98,14 @@ abbrev pub LeadsUp : (ℕ → List ℕ) → (ℕ → ℕ) → List ℕ → Type 
 LeadsUp needs home [] = Unit {0}
 LeadsUp needs home (u ∷ []) = Unit {0}
 LeadsUp needs home (u ∷ (v ∷ vs)) = Stands v (needs (home u)) × LeadsUp needs home (v ∷ vs)
+
+-- each is the first for which the node of the unit before waits
+abbrev pub AreFirst : (ℕ → List ℕ) → List ℕ → List Bool → List ℕ → Type 0
+AreFirst needs homes placed [] = Unit {0}
+AreFirst needs homes placed (u ∷ []) = Unit {0}
+AreFirst needs homes placed (u ∷ (v ∷ vs)) =
+    ComesFirst homes placed (needs (slice_index homes u)) v
+    × AreFirst needs homes placed (v ∷ vs)
 
 -- and the last on a unit of this node
 abbrev pub LeadsBack : (ℕ → List ℕ) → (ℕ → ℕ) → ℕ → List ℕ → Type 0
@@ -111,6 +125,7 @@ pub record OnPath
     (top : ℕ)
     : Type 0 where
   pub leads : LeadsUp needs (slice_index homes) (path ++ top ∷ [])
+  pub firsts : AreFirst needs homes placed (path ++ top ∷ [])
   pub counts : (n : ℕ) → count_of n (map (slice_index homes) (path ++ top ∷ [])) ≡ one_if (flag_at on n)
   pub waits : (n : ℕ) → flag_at on n ≡ true → flag_at placed n ≡ false
   pub long : length on ≡ count
@@ -170,11 +185,6 @@ AreUnitsPlaced g placed unit =
 -- the first so many nodes are
 abbrev pub AreAllPlaced : List Bool → ℕ → Type 0
 AreAllPlaced placed count = (n : ℕ) → n < count → flag_at placed n ≡ true
-
--- a node of which all units for which it waits are placed
-abbrev pub IsReady : List (ℕ × ℕ) → Graph → List Bool → ℕ → Type 0
-IsReady deps g placed n =
-    (x : ℕ) → Stands x (needs_at deps g n) → flag_at placed (home_at g x) ≡ true
 
 -- the nodes are the units in their order, and depend on lesser ones alone
 abbrev pub IsRising : List (ℕ × ℕ) → Graph → Type 0

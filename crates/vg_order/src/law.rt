@@ -1,6 +1,6 @@
 //! Laws on orders and cycles by a list of dependences.
 
-ghost use Rattle.vg_order.specs.Laws.{DependencesGiveOrders, DependencesNameUnits, NumbersAreAnOrder, OrdersHaveNoCycle};
+ghost use Rattle.vg_order.specs.Laws.{DependencesGiveOrders, DependencesNameUnits, NumbersAreAnOrder, OneOrderIsScheduled, OrdersHaveNoCycle};
 
 /// A law that costs nothing to call: the nodes of packs have no cycle by a list by which they have an
 /// order.
@@ -23,4 +23,9 @@ pub fn dependences_name_units()
 /// plan.
 pub fn numbers_are_an_order()
     ensures { NumbersAreAnOrder }
+{}
+
+/// A law: of the orders of packs and units at most one is that in which they are put.
+pub fn one_order_is_scheduled()
+    ensures { OneOrderIsScheduled }
 {}

@@ -100,6 +100,7 @@ impl Needs {
 // The first unit of a row from an index on whose node is not placed, else the length of the row.
 fn first_open(row: &[u32], homes: &[u32], placed: &[bool], from: usize) -> usize
     ensures range { result ≤ length row.now }
+    ensures low { result < length row.now → from ≤ result }
     ensures known { (k : ℕ) → from ≤ k → k < result → flag_at placed.now (slice_index homes.now
         (slice_index row.now k)) ≡ true }
     ensures open { result < length row.now → flag_at placed.now (slice_index homes.now (slice_index

@@ -3,7 +3,8 @@
 ghost use Rattle.std.specs.Prelude.{◌≡◌, ◌<◌, ◌≤◌, ◌≢◌, ◌++◌, ◌∷◌, ℕ, [], drop, false, length, slice_index, slice_set, true, IfErr, IfOk, OnOk};
 ghost use Rattle.vg_order.specs.Faults.{Closes};
 ghost use Rattle.vg_order.specs.Needs.{flag_at};
-ghost use Rattle.vg_order.specs.Paths.{GoesBack, home_at, IsAtRest, IsClosing, IsGraph, IsInside, IsProgress, StandsOn, StaysPlaced, Steps};
+ghost use Rattle.vg_order.specs.NextNumbers.{AreNext};
+ghost use Rattle.vg_order.specs.Paths.{AreUnitsPlaced, GoesBack, home_at, IsAtRest, IsClosing, IsGraph, IsInside, IsProgress, StandsOn, StaysPlaced, Steps};
 
 use crate::fault::OrderFault;
 use crate::graph::Graph;
@@ -96,9 +97,13 @@ fn step(
     requires graph { IsGraph deps.now graph.now }
     requires valid { IsProgress deps.now graph.now progress.old }
     requires on_path { StandsOn deps.now graph.now progress.old path.old top }
+    requires below { AreUnitsPlaced graph.now progress.old.placed.items (slice_index
+        (path.old.units.items ++ top ∷ []) 0) }
+    requires next { AreNext deps.now graph.now [] progress.old.order.items }
     ensures valid { OnOk result (IsProgress deps.now graph.now progress.new) }
     ensures steps { IfOk result (λ next. Steps deps.now graph.now progress.old progress.new path.old
         path.new top next) }
+    ensures next { OnOk result (AreNext deps.now graph.now [] progress.new.order.items) }
     ensures cycle { IfErr result (λ fault. Closes deps.now graph.now fault) }
 {
     let homes = graph.homes.as_slice();
@@ -130,11 +135,14 @@ pub(crate) fn climb(
     requires rest { IsAtRest graph.now path.old }
     requires unit { IsInside graph.now unit }
     requires waits { flag_at progress.old.placed.items (home_at graph.now unit) ≡ false }
+    requires below { AreUnitsPlaced graph.now progress.old.placed.items unit }
+    requires next { AreNext deps.now graph.now [] progress.old.order.items }
     ensures valid { OnOk result (IsProgress deps.now graph.now progress.new) }
     ensures rest { OnOk result (IsAtRest graph.now path.new) }
     ensures stays { OnOk result (StaysPlaced progress.old.placed.items progress.new.placed.items) }
     ensures placed { OnOk result (flag_at progress.new.placed.items (home_at graph.now unit) ≡
         true) }
+    ensures next { OnOk result (AreNext deps.now graph.now [] progress.new.order.items) }
     ensures cycle { IfErr result (λ fault. Closes deps.now graph.now fault) }
 {
     let mut top = unit;

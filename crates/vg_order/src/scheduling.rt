@@ -5,7 +5,9 @@ ghost use Rattle.vg_order.specs.ByList.{IsOrderBy, NameLesser, NameUnits};
 ghost use Rattle.vg_order.specs.Faults.{Closes, Tells};
 ghost use Rattle.vg_order.specs.Graphs.{IsGraphOf, node_at};
 ghost use Rattle.vg_order.specs.Needs.{flag_at};
+ghost use Rattle.vg_order.specs.NextNumbers.{AreNext};
 ghost use Rattle.vg_order.specs.Paths.{AreAllPlaced, AreUnitsPlaced, home_at, IsAtRest, IsGraph, IsInside, IsOrdered, IsProgress, IsReady, IsRising, needs_at, start, StaysPlaced};
+ghost use Rattle.vg_order.specs.Scheduled.{IsScheduled};
 ghost use Rattle.vg_shapes.specs.declared.order.Node.TheVariants.{UnitAt};
 ghost use Rattle.vg_shapes.specs.Nodes.{ArePacks};
 ghost use Rattle.vg_shapes.specs.Order.{numbers_from};
@@ -32,6 +34,8 @@ fn place(
     requires valid { IsProgress deps.now graph.now progress.old }
     requires rest { IsAtRest graph.now path.old }
     requires unit { IsInside graph.now unit }
+    requires below { AreUnitsPlaced graph.now progress.old.placed.items unit }
+    requires next { AreNext deps.now graph.now [] progress.old.order.items }
     ensures valid { OnOk result (IsProgress deps.now graph.now progress.new) }
     ensures rest { OnOk result (IsAtRest graph.now path.new) }
     ensures stays { OnOk result (StaysPlaced progress.old.placed.items progress.new.placed.items) }
@@ -40,6 +44,7 @@ fn place(
     ensures ready { OnOk result (flag_at progress.old.placed.items (home_at graph.now unit) ≡ false
         → IsReady deps.now graph.now progress.old.placed.items (home_at graph.now unit) →
         progress.new.order.items ≡ progress.old.order.items ++ home_at graph.now unit ∷ []) }
+    ensures next { OnOk result (AreNext deps.now graph.now [] progress.new.order.items) }
     ensures cycle { IfErr result (λ fault. Closes deps.now graph.now fault) }
 {
     let node = home_of(graph.homes.as_slice(), unit);
@@ -69,6 +74,7 @@ fn place_units(
         graph.now.homes)) }
     ensures rising { OnOk result (IsRising deps.now graph.now → progress.new.order.items ≡
         numbers_from 0 (length graph.now.needs)) }
+    ensures next { OnOk result (AreNext deps.now graph.now [] progress.new.order.items) }
     ensures cycle { IfErr result (λ fault. Closes deps.now graph.now fault) }
 {
     let end = graph.homes.as_slice().len();
@@ -89,11 +95,14 @@ fn place_last(
     requires valid { IsProgress deps.now graph.now progress.old }
     requires units { AreUnitsPlaced graph.now progress.old.placed.items (length graph.now.homes) }
     requires node { node < length graph.now.needs }
+    requires below { AreAllPlaced progress.old.placed.items node }
+    requires next { AreNext deps.now graph.now [] progress.old.order.items }
     ensures valid { OnOk result (IsProgress deps.now graph.now progress.new) }
     ensures stays { OnOk result (StaysPlaced progress.old.placed.items progress.new.placed.items) }
     ensures placed { OnOk result (flag_at progress.new.placed.items node ≡ true) }
     ensures same { OnOk result (flag_at progress.old.placed.items node ≡ true →
         progress.new.order.items ≡ progress.old.order.items) }
+    ensures next { OnOk result (AreNext deps.now graph.now [] progress.new.order.items) }
 {
     if !flag_at(progress.placed.as_slice(), node) {
         visit(deps, graph, progress, node)?;
@@ -106,10 +115,12 @@ fn place_rest(deps: &DepList, graph: &Graph, progress: &mut Progress) -> Result<
     requires graph { IsGraph deps.now graph.now }
     requires valid { IsProgress deps.now graph.now progress.old }
     requires units { AreUnitsPlaced graph.now progress.old.placed.items (length graph.now.homes) }
+    requires next { AreNext deps.now graph.now [] progress.old.order.items }
     ensures valid { OnOk result (IsProgress deps.now graph.now progress.new) }
     ensures placed { OnOk result (AreAllPlaced progress.new.placed.items (length graph.now.needs)) }
     ensures same { OnOk result (AreAllPlaced progress.old.placed.items (length graph.now.needs) →
         progress.new.order.items ≡ progress.old.order.items) }
+    ensures next { OnOk result (AreNext deps.now graph.now [] progress.new.order.items) }
 {
     let count = graph.needs.as_slice().len();
     'nodes: for node in 0..count {
@@ -149,6 +160,7 @@ fn place_all(alloc: Global, deps: &DepList, graph: &Graph) -> Result<Vec<u32>, O
         graph.now) (length graph.now.needs) order.items) }
     ensures rising { IfOk result (λ order. IsRising deps.now graph.now → order.items ≡ numbers_from
         0 (length graph.now.needs)) }
+    ensures next { IfOk result (λ order. AreNext deps.now graph.now [] order.items) }
     ensures cycle { IfErr result (λ fault. Closes deps.now graph.now fault) }
 {
     let count = graph.needs.as_slice().len();
@@ -183,6 +195,9 @@ fn nodes_at(alloc: Global, nodes: &[Node], numbers: &[u32]) -> Result<Vec<Node>,
 /// on which it depends by a list; else units whose nodes wait for each other in a cycle. A call depends
 /// on the units to which its lanes are bound. Looks at each pair of the list once or twice.
 ///
+/// There is one such order that it gives: units by rising number, and before a unit all for which its
+/// node waits, in the order in which it names them; packs without a unit come last, by rising number.
+///
 /// Under the empty plan, where units depend on lesser ones alone, the units come in their order. More
 /// than 2^24 packs or units are want of memory.
 pub fn schedule(
@@ -198,6 +213,8 @@ pub fn schedule(
     ensures cycle { IfErr result (λ fault. Tells deps.now ssa.now table.now plan.now fault) }
     ensures numbers { IfOk result (λ order. plan.now ≡ [] → NameLesser deps.now → order ≡ map UnitAt
         (numbers_from (arguments ssa.now) (length ssa.now.units))) }
+    ensures scheduled { IfOk result (λ order. IsScheduled deps.now ssa.now table.now plan.now
+        order) }
 {
     let graph = graph_of(alloc, plan.as_slice(), table, ssa)?;
     let numbers = place_all(alloc, deps, &graph)?;

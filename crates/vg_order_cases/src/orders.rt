@@ -84,6 +84,16 @@ fn a_pack_waits_for_all_its_units(rt: HostRuntime) -> Result<(), Fail> {
     Ok(())
 }
 
+// The first pack waits for the third unit, which is named first, and then for the second pack.
+#[test]
+fn what_is_named_first_comes_first(rt: HostRuntime) -> Result<(), Fail> {
+    let rows = rows_of(rt.alloc(), "|||2 1|")?;
+    let came = with_packs(rt.alloc(), 5, &[0, 3], &[1, 4], rows)?;
+    let wanted = [Node::UnitAt(2), Node::PackAt(1), Node::PackAt(0)];
+    assert!(rt; order_of(&came) == wanted.as_slice());
+    Ok(())
+}
+
 /// Rows of which each names the next unit.
 fn chain(alloc: Global) -> Result<Vec<Items<u32>>, AllocError> {
     let mut rows = Vec::new(alloc);

@@ -1,7 +1,5 @@
 use Rattle.std.proofs.Common.{◌++◌, ◌∙◌, None, ap}
 use Rattle.std.proofs.lemmas.List.{get_or_default}
-use Rattle.vg_shapes.specs.Pack.{bounds_from}
-use Rattle.vg_order.specs.Graphs.{units_among}
 use Rattle.vg_order.proofs.Building.{lanes-more}
 use Rattle.vg_order.proofs.graph.call_units.Goals as goal
 

@@ -1,7 +1,6 @@
-use Rattle.std.proofs.Common.{◌≡◌, ◌∙◌, List, ℕ, Some, None, ap, subst, arith}
+use Rattle.std.proofs.Common.{◌∙◌, None, subst, arith}
 use Rattle.std.specs.Prelude.{slice_index_or}
 use Rattle.vg_shapes.specs.Order.{Stands}
-use Rattle.vg_shapes.specs.Pack.{units_of}
 use Rattle.vg_order.proofs.Building.{owner-more, packed-has}
 use Rattle.vg_order.proofs.graph.owners.Goals as goal
 

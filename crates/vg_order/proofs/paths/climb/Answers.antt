@@ -1,7 +1,7 @@
 use Rattle.std.proofs.Common.{◌≡◌, ◌++◌, ◌∷◌, [], ℕ, List, true, length, Option, ap, subst, sym, ◌∙◌}
 use Rattle.std.specs.Prelude.{slice_index, slice_set}
 use Rattle.std.specs.List.{AllByRecursion}
-use Rattle.vg_order.specs.Paths.{home_at, IsInside, needs_at, OnPath, Steps}
+use Rattle.vg_order.specs.Paths.{AreUnitsPlaced, home_at, IsInside, needs_at, OnPath, Steps}
 use Rattle.vg_order.proofs.Walks.{path-shorter, path-start}
 use Rattle.vg_order.proofs.paths.climb.Goals as goal
 
@@ -21,6 +21,7 @@ path-init c =
       );
       stays = λ n t. t;
       starts = ap (λ (l : List ℕ). slice_index (l ++ c.args.unit ∷ []) 0) c.requires.rest.0;
+      next = c.requires.next;
     }
 
 pub path-smaller : goal.path-smaller
@@ -30,3 +31,9 @@ path-smaller c =
     let steps = subst (λ (o : Option ℕ). Steps deps g c.path.progress c.step.new.progress c.path.path c.step.new.path c.path.top o) c.in-Some.is c.in_ok-next.ensures.steps in
     path-shorter deps g c.path.progress c.step.new.progress c.path.path c.step.new.path c.path.top c.in-Some.next c.path.invariant.on_path
     c.path.invariant.valid.0.long c.in_ok-next.ensures.valid.0.long steps
+
+pub step-requires-clause-below : goal.step-requires-clause-below
+step-requires-clause-below c =
+    let g = c.args.graph.now in
+    let so = c.path.invariant in
+    subst (AreUnitsPlaced g c.path.progress.placed.items) (sym so.starts) (λ x low high. so.stays (home_at g x) (c.requires.below x low high))

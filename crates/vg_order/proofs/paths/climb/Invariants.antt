@@ -1,5 +1,6 @@
 use Rattle.std.proofs.Common.{◌≡◌, ◌-◌, ◌*◌, ◌++◌, ◌∷◌, [], length}
 use Rattle.std.specs.Prelude.{slice_index}
+use Rattle.vg_order.specs.NextNumbers.{AreNext}
 use Rattle.vg_order.specs.Paths.{count_true, IsProgress, StandsOn, StaysPlaced}
 use Rattle.vg_order.proofs.paths.climb.Given as goal
 
@@ -9,6 +10,7 @@ invariant-path l = record {
   on_path : StandsOn l.deps l.graph l.progress l.path l.top;
   stays : StaysPlaced l.fn.progress.placed.items l.progress.placed.items;
   starts : slice_index (l.path.units.items ++ l.top ∷ []) 0 ≡ l.fn.unit;
+  next : AreNext l.deps l.graph [] l.progress.order.items;
 }
 
 abbrev pub decreases-path : goal.decreases-path

@@ -1,9 +1,10 @@
-use Rattle.std.proofs.Common.{◌≡◌, ◌++◌, ◌∷◌, [], ℕ, List, true, false, length, Option, Some, ap, subst, sym, ◌∙◌}
+use Rattle.std.proofs.Common.{◌≡◌, ◌++◌, ◌∷◌, [], ℕ, List, true, false, length, Option, ap, subst, sym, ◌∙◌}
 use Rattle.std.specs.Prelude.{slice_index, slice_set}
 use Rattle.std.specs.List.{AllByRecursion}
 use Rattle.vg_shapes.specs.Order.{Stands}
-use Rattle.vg_order.specs.Needs.{flag_at}
-use Rattle.vg_order.specs.Paths.{home_at, IsClosing, IsInside, needs_at, Visits}
+use Rattle.vg_order.specs.Needs.{ComesFirst, flag_at}
+use Rattle.vg_order.specs.Paths.{home_at, IsClosing, IsInside, IsReady, needs_at, Visits}
+use Rattle.vg_order.proofs.NextNumbers.{path-next}
 use Rattle.vg_order.proofs.Walks.{all-drop, closes-once, closes-path, steps-back, steps-up, top-waits}
 use Rattle.vg_order.proofs.paths.step.Goals as goal
 
@@ -22,7 +23,7 @@ returns-in-None-clause-steps c =
     let was = c.args.path.now in
     let node : c.home_of-node.result ≡ home_at g c.args.top = c.home_of-node.ensures ∙ ap (λ (l : List ℕ). slice_index l c.args.top) c.as_slice-homes.ensures in
     let visits = subst (λ (o : Option ℕ). Visits deps g before c.visit.new.progress c.home_of-node.result o) c.in-None.is c.in_ok-next.ensures.visits in
-    steps-back deps g before c.visit.new.progress was c.go_back.new.self c.args.top c.go_back.result c.requires.on_path
+    steps-back deps g before c.visit.new.progress was c.go_back.new.self c.args.top c.go_back.result c.requires.on_path c.requires.valid.0.long
     (visits.1 ∙ ap (λ n. slice_set before.placed.items n true) node)
     (c.go_back.ensures.on ∙ ap (λ n. slice_set was.on.items n false) node) c.go_back.ensures.units
 
@@ -62,5 +63,17 @@ returns-clause-steps c =
     let inside = c.requires.graph.units (home_at g c.args.top) next stands in
     let off : flag_at was.on.items above ≡ false = sym (c.flag_at.ensures ∙ ap (λ l. flag_at l above) c.as_slice.ensures.value) ∙ c.if-flag_at.false in
     steps-up deps g before c.visit.new.progress was c.go_up.new.self c.args.top next c.requires.on_path
-    (c.requires.graph.homes next inside) stands (ap (flag_at was.on.items) (sym up) ∙ off) visits.3 visits.1
+    (c.requires.graph.homes next inside) stands (ap (flag_at was.on.items) (sym up) ∙ off) visits.3
+    (subst (λ n. ComesFirst g.homes before.placed.items (needs_at deps g n) next) node visits.4) visits.1
     c.in_ok-go_up.ensures.units (c.in_ok-go_up.ensures.on ∙ ap (λ n. slice_set was.on.items n true) up) inside
+
+pub returns-in-None-clause-next : goal.returns-in-None-clause-next
+returns-in-None-clause-next c =
+    let deps = c.args.deps.now in
+    let g = c.args.graph.now in
+    let before = c.args.progress.now in
+    let node : c.home_of-node.result ≡ home_at g c.args.top = c.home_of-node.ensures ∙ ap (λ (l : List ℕ). slice_index l c.args.top) c.as_slice-homes.ensures in
+    let visits = subst (λ (o : Option ℕ). Visits deps g before c.visit.new.progress c.home_of-node.result o) c.in-None.is c.in_ok-next.ensures.visits in
+    path-next deps g before c.args.path.now c.args.top c.visit.new.progress.order.items c.requires.valid c.requires.on_path c.requires.below
+    (subst (IsReady deps g before.placed.items) node visits.2) c.requires.next
+    (visits.0 ∙ ap (λ n. before.order.items ++ n ∷ []) node)

@@ -1,4 +1,5 @@
-use Rattle.std.proofs.Common.{◌≡◌, length}
+use Rattle.std.proofs.Common.{◌≡◌, [], length}
+use Rattle.vg_order.specs.NextNumbers.{AreNext}
 use Rattle.vg_order.specs.Paths.{AreAllPlaced, AreUnitsPlaced, IsProgress}
 use Rattle.vg_order.proofs.scheduling.place_rest.Given as goal
 
@@ -8,4 +9,5 @@ invariant-nodes l = record {
   units : AreUnitsPlaced l.graph l.progress.placed.items (length l.graph.homes);
   placed : AreAllPlaced l.progress.placed.items l.node;
   same : AreAllPlaced l.fn.progress.placed.items (length l.graph.needs) → (l.progress.order.items ≡ l.fn.progress.order.items) × AreAllPlaced l.progress.placed.items (length l.graph.needs);
+  next : AreNext l.deps l.graph [] l.progress.order.items;
 }

@@ -1,4 +1,4 @@
-use Rattle.std.proofs.Common.{◌≡◌, ◌<◌, ◌∙◌, ℕ, ap, length, arith}
+use Rattle.std.proofs.Common.{◌∙◌, ap, length, arith}
 use Rattle.vg_shapes.specs.Order.{numbers_from}
 use Rattle.vg_order.specs.Paths.{IsInside}
 use Rattle.vg_order.proofs.Rising.{placed-more, rises}
@@ -19,6 +19,7 @@ units-preserved c =
       rest = e.rest;
       placed = placed-more g c.units.progress.placed.items c.place.new.progress.placed.items c.units.unit so.placed e.stays e.placed;
       rising = rises deps g c.units.progress c.place.new.progress c.units.unit so.valid inside e.ready so.rising;
+      next = e.next;
     }
 
 pub returns-clause-rising : goal.returns-clause-rising

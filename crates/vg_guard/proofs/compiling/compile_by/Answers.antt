@@ -4,7 +4,7 @@ use Rattle.vg_catalog.specs.Catalogs.{entries_in}
 use Rattle.vg_catalog.specs.Extensions.{bits_in}
 use Rattle.vg_shapes.specs.Description.{description_of}
 use Rattle.vg_compile.proofs.Described.{are-described, described-callable}
-use Rattle.vg_guard.proofs.compiling.compile_guarded.Goals as goal
+use Rattle.vg_guard.proofs.compiling.compile_by.Goals as goal
 
 pub compile_guarded_described-requires-clause-callable : goal.compile_guarded_described-requires-clause-callable
 compile_guarded_described-requires-clause-callable c =
