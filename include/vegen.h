@@ -98,7 +98,8 @@ uint32_t vegen_library_read(const uint8_t *text, size_t n, uint32_t extensions, 
  * front of the `room` bytes at `out`: what `vegen compile` writes of the two files, byte for byte. The search
  * keeps `width` plans of each size (`--width`; the program takes 1 to 4,096, usually VEGEN_USUAL_WIDTH). With
  * `more` also wide and fed plans are searched (`--more`), with `guard` the program has two sides and checks
- * that choose between them (`--guard`; not of a loop).
+ * that choose between them (`--guard`; a loop is refused without `more`, and with it each of its blocks has
+ * them).
  * VEGEN_OK, VEGEN_KERNEL_REFUSED, VEGEN_TOO_LARGE, VEGEN_NO_MEMORY, VEGEN_ROOM_TOO_SMALL, VEGEN_NOTHING_KEPT. */
 uint32_t vegen_compile(struct vegen_library *library, const uint8_t *text, size_t n, uint32_t width, bool more,
                        bool guard, uint8_t *out, size_t room, struct vegen_report *report);
@@ -110,8 +111,8 @@ uint32_t vegen_explain(struct vegen_library *library, const uint8_t *text, size_
 
 /* Whether the program of `program_n` bytes at `program` means the kernel of `kernel_n` bytes at `kernel`, as
  * `vegen check`: VEGEN_OK, and `out` begins with `same` and a line feed; VEGEN_DIFFERS, and `out` begins with
- * the text of the first difference (`docs/checking.md`). The kernel is no loop, the program no guarded or
- * looped text.
+ * the text of the first difference (`docs/checking.md`). The kernel is no loop, the program no guarded and
+ * no looped text and no guarded loop.
  * Else VEGEN_KERNEL_REFUSED, VEGEN_PROGRAM_REFUSED, VEGEN_TOO_LARGE, VEGEN_NO_MEMORY, VEGEN_ROOM_TOO_SMALL,
  * VEGEN_NOTHING_KEPT. */
 uint32_t vegen_check(struct vegen_library *library, const uint8_t *kernel, size_t kernel_n,
@@ -127,8 +128,8 @@ uint32_t vegen_eval(const uint8_t *kernel, size_t kernel_n, const uint8_t *memor
                     const uint64_t *places, size_t places_n, const uint64_t *values, size_t values_n,
                     uint8_t *out, size_t room, struct vegen_report *report);
 
-/* Lays what a program, a guarded or a looped text leaves of a memory into `out`: what `vegen run` writes. It
- * may call every entry of the library, whatever its extension. The statuses are those of vegen_eval, but
+/* Lays what a program, a guarded or a looped text or a guarded loop leaves of a memory into `out`: what
+ * `vegen run` writes. It may call every entry of the library, whatever its extension. The statuses are those of vegen_eval, but
  * VEGEN_PROGRAM_REFUSED where the text is refused, and VEGEN_NOTHING_KEPT. */
 uint32_t vegen_run(struct vegen_library *library, const uint8_t *program, size_t program_n,
                    const uint8_t *memory, size_t memory_n, const uint64_t *places, size_t places_n,

@@ -9,6 +9,9 @@ use vg_library::Library;
 
 const COPY: &[u8] = b"kernel copy(d: ptr, s: ptr) { store32(d + 0, load32(s + 0)); }";
 
+const LOOP: &[u8] =
+    b"loop copy(d: ptr, s: ptr, n: i8) times n step d 1, s 1 { store8(d, load8(s)); }";
+
 const COPY_TEXT: &[u8] =
     b"program copy(d: ptr, s: ptr)\n%s0:i32 = load s+0\nstore d+0 %s0\nend cost 2 scalar 2\n";
 
@@ -85,6 +88,22 @@ fn kernels_are_compiled(rt: HostRuntime) -> Result<(), Fail> {
     expect_compiled(&rt, alloc, COPY, size, Told::of(0, size), COPY_TEXT)?;
     expect_compiled(&rt, alloc, COPY, 81, Told::of(20, size), b"...")?;
     expect_compiled(&rt, alloc, b"kern", 82, Told::refused(4, 2, 1, 1), b"...")
+}
+
+/// Guards are made of a loop with more plans alone.
+#[test]
+fn loops_are_guarded(rt: HostRuntime) -> Result<(), Fail> {
+    let alloc = rt.alloc();
+    let library = empty_library(alloc)?;
+    let mut room = Room::new(alloc, 2000)?;
+    for more in [false, true] {
+        let out = room.out.as_mut_slice();
+        let report = &mut room.report;
+        let status = compile(alloc, Task::Guarded, &library, 32, more, LOOP, out, report);
+        assert!(rt; status == if more { 0 } else { 4 });
+        assert!(rt; room.out.as_slice().starts_with(b"guardedloop copy(") == more);
+    }
+    Ok(())
 }
 
 /// Asserts what is told of a kernel and a program.

@@ -151,8 +151,8 @@ fn ran(
 
 /// Lays the memory that the program of a text leaves of a memory into the front of `out`, and gives the
 /// status: 0, or 5 where the text is refused, 9, 10, 11 (a text of more than 4,194,304 bytes), 12 (also at the
-/// bounds of `Machine::new`) and 20 as for `eval`. The program may be a guarded or a looped one, and calls the
-/// instructions of a library, whatever their extensions.
+/// bounds of `Machine::new`) and 20 as for `eval`. The program may be a guarded one, a looped one or a guarded
+/// loop, and calls the instructions of a library, whatever their extensions.
 pub fn run(
     alloc: Global,
     library: &Library,

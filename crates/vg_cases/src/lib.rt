@@ -12,6 +12,8 @@ mod eval_cases;
 #[cfg(test)]
 mod guard_cases;
 #[cfg(test)]
+mod guarded_loop_cases;
+#[cfg(test)]
 mod hostile_cases;
 #[cfg(test)]
 mod instruction_files;

@@ -132,7 +132,7 @@ fn loops_that_are_refused(rt: HostRuntime) -> Result<(), Fail> {
         loops l() { } => 2 Shape at 1:1";
     expect_refusals(&rt, rt.alloc(), "compile i k", rows)?;
     expect_refusals(&rt, rt.alloc(), "explain i k", rows)?;
-    // Guards are for kernels alone: every other fault comes first.
+    // Without more plans guards are for kernels alone: every other fault comes first.
     let guarded = " loop l(p: ptr, n: i8) times n step p 1 { store8(p, 1i8); } => 12 LoopHere at 1:1
         loop l(p: ptr, n: i8) times n step p 0 { store8(p, 1i8); } => 6 LiteralRange at 1:38";
     expect_refusals(&rt, rt.alloc(), "compile --guard i k", guarded)

@@ -1,4 +1,4 @@
--- The readers of the five formats.
+-- The readers of the six formats.
 use Rattle.std.proofs.Common.{◌≡◌, ℕ, List, length, Ok, refl, sym, ap, ◌∙◌}
 use Rattle.std.proofs.lemmas.Bool.{le-ltb}
 use Rattle.vg_pseudo.specs.declared.header.Header.{Header}
@@ -20,7 +20,10 @@ use Rattle.vg_looped.specs.declared.looped.Looped.{Looped}
 use Rattle.vg_looped.specs.Grammar.{read_looped}
 use Rattle.vg_looped.specs.Looped.{looped_text, IsLooped}
 use Rattle.vg_looped.proofs.LoopedTexts as looped
-use Rattle.vg_reading_laws.specs.Laws.{KernelsAreALanguage, InstructionFilesAreALanguage, IsProgramText, ProgramsAreALanguage, IsGuardedText, GuardedTextsAreALanguage, IsLoopedText, LoopedTextsAreALanguage}
+use Rattle.vg_guarded_loop.specs.declared.guarded_loop.GuardedLoop.{GuardedLoop}
+use Rattle.vg_guarded_loop.specs.Grammar.{read_guarded_loop}
+use Rattle.vg_guarded_loop.proofs.Texts as guarded_loop
+use Rattle.vg_reading_laws.specs.Laws.{KernelsAreALanguage, InstructionFilesAreALanguage, IsProgramText, ProgramsAreALanguage, IsGuardedText, GuardedTextsAreALanguage, IsLoopedText, LoopedTextsAreALanguage, IsGuardedLoopText, GuardedLoopsAreALanguage}
 use Rattle.vg_reading_laws.proofs.Languages.{a-language}
 
 pub kernels-are-a-language : KernelsAreALanguage
@@ -66,3 +69,14 @@ looped-texts-are-a-language headers = a-language (read_looped headers) (IsLooped
 
     again : (text : List ℕ) (l : Looped) → IsLoopedText headers text l → read_looped headers text ≡ Ok l
     again text l (rules, same) = ap (read_looped headers) same ∙ looped-again headers l rules
+
+pub guarded-loops-are-a-language : GuardedLoopsAreALanguage
+guarded-loops-are-a-language headers = a-language (read_guarded_loop headers) (IsGuardedLoopText headers) found again
+  where
+    found : (text : List ℕ) (l : GuardedLoop) → read_guarded_loop headers text ≡ Ok l → IsGuardedLoopText headers text l
+    found text l is =
+        let spelled = guarded_loop.read_sound headers text (Ok l) is in
+        (spelled.0, sym spelled.1)
+
+    again : (text : List ℕ) (l : GuardedLoop) → IsGuardedLoopText headers text l → read_guarded_loop headers text ≡ Ok l
+    again text l (rules, same) = ap (read_guarded_loop headers) same ∙ guarded_loop.read_again headers l rules

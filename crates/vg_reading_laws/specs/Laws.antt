@@ -15,6 +15,9 @@ use Rattle.vg_guard.specs.Guarded.{guarded_text, IsGuarded}
 use Rattle.vg_looped.specs.declared.looped.Looped.{Looped}
 use Rattle.vg_looped.specs.Grammar.{read_looped}
 use Rattle.vg_looped.specs.Looped.{looped_text, IsLooped}
+use Rattle.vg_guarded_loop.specs.declared.guarded_loop.GuardedLoop.{GuardedLoop}
+use Rattle.vg_guarded_loop.specs.Grammar.{read_guarded_loop}
+use Rattle.vg_guarded_loop.specs.GuardedLoop.{guarded_loop_text, IsGuardedLoop}
 use Rattle.vg_reading_laws.specs.Language.{IsLanguage}
 
 -- the words of a text spell a kernel
@@ -48,3 +51,11 @@ IsLoopedText headers text l = IsLooped headers l × (text ≡ looped_text l)
 abbrev pub LoopedTextsAreALanguage : Type 0
 LoopedTextsAreALanguage =
     (headers : List Header) → IsLanguage (read_looped headers) (IsLoopedText headers)
+
+-- it is the text of a guarded loop
+abbrev pub IsGuardedLoopText : List Header → List ℕ → GuardedLoop → Type 0
+IsGuardedLoopText headers text l = IsGuardedLoop headers l × (text ≡ guarded_loop_text l)
+
+abbrev pub GuardedLoopsAreALanguage : Type 0
+GuardedLoopsAreALanguage =
+    (headers : List Header) → IsLanguage (read_guarded_loop headers) (IsGuardedLoopText headers)

@@ -6,6 +6,7 @@ ghost use Rattle.vg_reading_laws.specs.Laws.{
   ProgramsAreALanguage,
   GuardedTextsAreALanguage,
   LoopedTextsAreALanguage,
+  GuardedLoopsAreALanguage,
 };
 
 /// A law: a text of the language of kernels is read as the one kernel that it spells, and a text is
@@ -36,4 +37,10 @@ pub fn guarded_texts_are_a_language()
 /// refused exactly where it is that of none.
 pub fn looped_texts_are_a_language()
     ensures { LoopedTextsAreALanguage }
+{}
+
+/// A law: the text of a guarded loop that keeps the rules is read as this one, and a text is
+/// refused exactly where it is that of none.
+pub fn guarded_loops_are_a_language()
+    ensures { GuardedLoopsAreALanguage }
 {}

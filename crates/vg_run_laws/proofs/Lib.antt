@@ -1,3 +1,4 @@
 pub mod Bound
 pub mod Runs
 pub mod Shelves
+pub mod OneAnswer

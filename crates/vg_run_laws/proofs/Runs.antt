@@ -8,6 +8,9 @@ use Rattle.vg_compile.specs.Means.{param_of}
 use Rattle.vg_guard.specs.declared.guarded.Guarded.{Guarded}
 use Rattle.vg_guard.specs.Guarded.{guarded_text, IsGuarded}
 use Rattle.vg_guard.proofs.GuardedTexts as guards
+use Rattle.vg_guarded_loop.specs.declared.guarded_loop.GuardedLoop.{GuardedLoop}
+use Rattle.vg_guarded_loop.specs.GuardedLoop.{guarded_loop_text, IsGuardedLoop}
+use Rattle.vg_guarded_loop.proofs.Texts as loops
 use Rattle.vg_looped.specs.declared.looped.Looped.{Looped}
 use Rattle.vg_looped.specs.Looped.{looped_text, IsLooped}
 use Rattle.vg_loop_laws.specs.Inputs.{AreBytes}
@@ -20,22 +23,22 @@ use Rattle.vg_program.proofs.ProgramLaws as programs
 use Rattle.vg_pseudo.specs.declared.header.Header.{Header}
 use Rattle.vg_reading_laws.proofs.Texts.{looped-again}
 use Rattle.vg_request.specs.Binding.{Binding}
-use Rattle.vg_top.specs.Answer.{Source, LoopSource, Answer, GuardedAnswer, LoopedAnswer}
+use Rattle.vg_top.specs.Answer.{Source, LoopSource, Answer, GuardedAnswer, LoopedAnswer, GuardedLoopAnswer}
 use Rattle.vg_top.specs.Eval.{params_in, meaning_in, inputs_in, evaluated_on}
 use Rattle.vg_top.specs.Files.{program_limit}
 use Rattle.vg_top.specs.Inputs.{InputLists, inputs_of}
 use Rattle.vg_top.specs.KernelFile.{KernelFile, plain as kernel, counted}
 use Rattle.vg_top.specs.Left.{memory_or_trap, left_by}
-use Rattle.vg_top.specs.ProgramFile.{ProgramFile, plain, guarded, looped, program_file, params_of, meaning_of, inputs_for}
+use Rattle.vg_top.specs.ProgramFile.{ProgramFile, plain, guarded, looped, guarded_loop, program_file, params_of, meaning_of, inputs_for}
 use Rattle.vg_top.specs.Run.{ran_on}
-use Rattle.vg_run_laws.specs.Laws.{KeepsNoalias, run_on, RunsAs, ProgramsRunAsKernels, GuardedTextsRunAsKernels, LoopedTextsRunAsLoops}
+use Rattle.vg_run_laws.specs.Laws.{KeepsNoalias, run_on, RunsAs, ProgramsRunAsKernels, GuardedTextsRunAsKernels, LoopedTextsRunAsLoops, GuardedLoopsRunAsLoops}
 use Rattle.vg_run_laws.proofs.Bound.{input, loop-input}
 
 -- ---- texts are read by their first word
 
-program-begins : (p : Program) → (bytes_eq (take 8 (text_of p)) (codes "guarded ") ≡ false) × (bytes_eq (take 7 (text_of p)) (codes "looped ") ≡ false)
+program-begins : (p : Program) → (bytes_eq (take 8 (text_of p)) (codes "guarded ") ≡ false) × (bytes_eq (take 7 (text_of p)) (codes "looped ") ≡ false) × (bytes_eq (take 12 (text_of p)) (codes "guardedloop ") ≡ false)
 unfolding text_of
-program-begins p = (refl, refl)
+program-begins p = (refl, refl, refl)
 
 guarded-begins : (g : Guarded) → bytes_eq (take 8 (guarded_text g)) (codes "guarded ") ≡ true
 unfolding guarded_text
@@ -45,9 +48,13 @@ looped-begins : (l : Looped) → (bytes_eq (take 8 (looped_text l)) (codes "guar
 unfolding looped_text
 looped-begins l = (refl, refl)
 
+guarded-loop-begins : (l : GuardedLoop) → (bytes_eq (take 8 (guarded_loop_text l)) (codes "guarded ") ≡ false) × (bytes_eq (take 7 (guarded_loop_text l)) (codes "looped ") ≡ false) × (bytes_eq (take 12 (guarded_loop_text l)) (codes "guardedloop ") ≡ true)
+unfolding guarded_loop_text
+guarded-loop-begins l = (refl, refl, refl)
+
 pub program-read : (headers : List Header) (p : Program) → IsValid headers p → program_file headers (text_of p) ≡ Ok (plain p)
 unfolding program_file
-program-read headers p valid = let begins = program-begins p in rw (begins.0, begins.1, programs.read_again headers p valid) refl
+program-read headers p valid = let begins = program-begins p in rw (begins.0, begins.1, begins.2, programs.read_again headers p valid) refl
 
 pub guarded-read : (headers : List Header) (g : Guarded) → IsGuarded headers g → program_file headers (guarded_text g) ≡ Ok (guarded g)
 unfolding program_file
@@ -56,6 +63,10 @@ guarded-read headers g rules = rw (guarded-begins g, guards.read_again headers g
 pub looped-read : (headers : List Header) (l : Looped) → IsLooped headers l → program_file headers (looped_text l) ≡ Ok (looped l)
 unfolding program_file
 looped-read headers l rules = let begins = looped-begins l in rw (begins.0, begins.1, looped-again headers l rules) refl
+
+pub guarded-loop-read : (headers : List Header) (l : GuardedLoop) → IsGuardedLoop headers l → program_file headers (guarded_loop_text l) ≡ Ok (guarded_loop l)
+unfolding program_file
+guarded-loop-read headers l rules = let begins = guarded-loop-begins l in rw (begins.0, begins.1, begins.2, loops.read_again headers l rules) refl
 
 -- ---- what is left
 
@@ -132,6 +143,19 @@ looped-stands s text answer =
       means = λ bindings memory i bytes is apart. c.means memory i.places i.args (loop-input s.loop bindings memory i is bytes apart);
     }
 
+pub guarded-loop-stands : (s : LoopSource) (text : List ℕ) → GuardedLoopAnswer s text → Stands s.entries text (counted s.loop)
+guarded-loop-stands s text answer =
+    let c = answer.compiled in
+    let l = answer.guarded in
+    record {
+      file = guarded_loop l;
+      small = short text (guarded_loop_text l) answer.text c.rules.size;
+      reads = read-same s.entries text (guarded_loop_text l) (guarded_loop l) answer.text (guarded-loop-read (headers_of s.entries) l c.rules);
+      params = sym (ap (λ (q : Signature). q.params) c.rules.looped.signature) ∙ c.rest.means.params;
+      inputs = λ o. rw (c.times, c.steps) refl;
+      means = λ bindings memory i bytes is apart. c.means memory i.places i.args (loop-input s.loop bindings memory i is bytes apart);
+    }
+
 pub programs-run-as-kernels : ProgramsRunAsKernels
 programs-run-as-kernels s text answer = runs-as s.entries text (kernel s.kernel) (program-stands s text answer)
 
@@ -140,3 +164,6 @@ guarded-texts-run-as-kernels s text answer = runs-as s.entries text (kernel s.ke
 
 pub looped-texts-run-as-loops : LoopedTextsRunAsLoops
 looped-texts-run-as-loops s text answer = runs-as s.entries text (counted s.loop) (looped-stands s text answer)
+
+pub guarded-loops-run-as-loops : GuardedLoopsRunAsLoops
+guarded-loops-run-as-loops s text answer = runs-as s.entries text (counted s.loop) (guarded-loop-stands s text answer)

@@ -26,14 +26,14 @@ use Rattle.vg_top.specs.Answer.{source, loop_source}
 use Rattle.vg_top.specs.Eval.{evaluated, evaluated_on}
 use Rattle.vg_top.specs.Files.{first_file, second_file, third_file, instructions_limit, kernel_limit, program_limit, memory_limit, judged, file_of}
 use Rattle.vg_top.specs.InstructionFile.{entries_or_refusal}
-use Rattle.vg_top.specs.KernelFile.{KernelFile, plain, counted, file_by, kernel_file, alone_by, kernel_alone, kernel_or_refusal}
+use Rattle.vg_top.specs.KernelFile.{KernelFile, plain, counted, file_by, kernel_file, alone_by, kernel_alone, guardable, kernel_or_refusal}
 use Rattle.vg_top.specs.OnKernel.{compiled_of, guarded_of, told_of}
 use Rattle.vg_top.specs.Outcome.{Outcome, memory_left, IsAnswer}
 use Rattle.vg_top.specs.ProgramFile.{program_file, program_or_refusal}
 use Rattle.vg_top.specs.Run.{ran, ran_on}
 use Rattle.vg_top.specs.Verdict.{IsAnswered, outcome_of}
 use Rattle.vg_run_laws.specs.Laws.{run_on, Lie, ApartIn, CompiledTextsRunAsEvaluated}
-use Rattle.vg_run_laws.proofs.Runs.{Stands, runs-as, program-stands, guarded-stands, looped-stands}
+use Rattle.vg_run_laws.proofs.Runs.{Stands, runs-as, program-stands, guarded-stands, looped-stands, guarded-loop-stands}
 
 -- ---- steps that do not fail
 
@@ -85,6 +85,10 @@ alone-is-file text k e = by (loop_place text) e
         no_loop e = cc
     by None e = step (kernel_of text) _ k e
 
+guardable-is-file : (more : Bool) (text : List ℕ) (f : KernelFile) → guardable more text ≡ Ok f → kernel_file text ≡ Ok f
+guardable-is-file true text f e = e
+guardable-is-file false text f e = let k = bind_ok (kernel_alone text) _ e in alone-is-file text k.0 k.1 ∙ k.2
+
 -- ---- what was written
 
 answered : (r : Result Outcome Ending) (text : List ℕ) → IsAnswered r text → (o : Outcome) × (r ≡ Ok o) × IsAnswer o text
@@ -104,6 +108,10 @@ compiled : (entries : List Entry) (choices : Choices) (text : List ℕ) (f : Ker
 compiled entries choices text (plain k) answer = program-stands (source entries k choices) text answer
 compiled entries choices text (counted l) answer = looped-stands (loop_source entries l choices) text answer
 
+guarded : (entries : List Entry) (choices : Choices) (text : List ℕ) (f : KernelFile) → IsAnswer (guarded_of entries choices f) text → Stands entries text f
+guarded entries choices text (plain k) answer = guarded-stands (source entries k choices) text answer
+guarded entries choices text (counted l) answer = guarded-loop-stands (loop_source entries l choices) text answer
+
 written : (guard : Bool) (entries : List Entry) (choices : Choices) (file text : List ℕ) (o : Outcome) → told_of (cond guard Guarded Program) entries choices file ≡ Ok o → IsAnswer o text → Written entries file text
 written false entries choices file text o e answer =
     let f = bind_ok (kernel_or_refusal second_file (kernel_file file)) _ e in
@@ -113,11 +121,11 @@ written false entries choices file text o e answer =
       stands = compiled entries choices text f.0 (subst (λ q. IsAnswer q text) (sym (ok-is (compiled_of entries choices f.0) o f.2)) answer);
     }
 written true entries choices file text o e answer =
-    let k = bind_ok (kernel_or_refusal second_file (kernel_alone file)) _ e in
+    let f = bind_ok (kernel_or_refusal second_file (guardable choices.more file)) _ e in
     record {
-      kernel = plain k.0;
-      reads = alone-is-file file k.0 (not-refused second_file (kernel_alone file) k.0 k.1);
-      stands = guarded-stands (source entries k.0 choices) text (subst (λ q. IsAnswer q text) (sym (ok-is (guarded_of entries choices k.0) o k.2)) answer);
+      kernel = f.0;
+      reads = guardable-is-file choices.more file f.0 (not-refused second_file (guardable choices.more file) f.0 f.1);
+      stands = guarded entries choices text f.0 (subst (λ q. IsAnswer q text) (sym (ok-is (guarded_of entries choices f.0) o f.2)) answer);
     }
 
 -- ---- on the shelf

@@ -13,7 +13,7 @@ use Rattle.vg_request.specs.Binding.{Binding}
 use Rattle.vg_request.specs.Options.{Choices}
 use Rattle.vg_request.specs.Request.{compile, run, eval}
 use Rattle.vg_top.specs.declared.ending.Ending.{Ending}
-use Rattle.vg_top.specs.Answer.{Source, LoopSource, Answer, GuardedAnswer, LoopedAnswer}
+use Rattle.vg_top.specs.Answer.{Source, LoopSource, Answer, GuardedAnswer, LoopedAnswer, GuardedLoopAnswer}
 use Rattle.vg_top.specs.Eval.{params_in, inputs_in, evaluated_on}
 use Rattle.vg_top.specs.Files.{second_file, memory_limit}
 use Rattle.vg_top.specs.Inputs.{InputLists, inputs_of}
@@ -58,6 +58,11 @@ GuardedTextsRunAsKernels =
 abbrev pub LoopedTextsRunAsLoops : Type 0
 LoopedTextsRunAsLoops =
     (s : LoopSource) (text : List ℕ) → LoopedAnswer s text
+    → RunsAs s.entries text (counted s.loop)
+
+abbrev pub GuardedLoopsRunAsLoops : Type 0
+GuardedLoopsRunAsLoops =
+    (s : LoopSource) (text : List ℕ) → GuardedLoopAnswer s text
     → RunsAs s.entries text (counted s.loop)
 
 -- What lies on a shelf after `compile` wrote a text: the two files that were there before, the text, and

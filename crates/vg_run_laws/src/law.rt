@@ -1,11 +1,13 @@
-//! The laws on running what was compiled.
+//! The laws on running what was compiled, and on answers.
 
 ghost use Rattle.vg_run_laws.specs.Laws.{
   ProgramsRunAsKernels,
   GuardedTextsRunAsKernels,
   LoopedTextsRunAsLoops,
+  GuardedLoopsRunAsLoops,
   CompiledTextsRunAsEvaluated,
 };
+ghost use Rattle.vg_run_laws.specs.OneAnswer.{OneAnswer};
 
 /// A law: the text of a program that is compiled of a kernel is read, and `run` answers on it what
 /// `eval` answers on the kernel, for every memory and all words that bind places which keep what
@@ -24,8 +26,20 @@ pub fn looped_texts_run_as_loops()
     ensures { LoopedTextsRunAsLoops }
 {}
 
+/// A law: the same of the guarded loop that is compiled of a loop.
+pub fn guarded_loops_run_as_loops()
+    ensures { GuardedLoopsRunAsLoops }
+{}
+
 /// A law: where `compile` wrote a text and that text, the files that it was compiled of and a
 /// memory lie on a shelf, the request `run` has the outcome there that `eval` has.
 pub fn compiled_texts_run_as_evaluated()
     ensures { CompiledTextsRunAsEvaluated }
+{}
+
+/// A law: by the files that a shelf holds there is at most one text that answers the words of a
+/// command line, whichever command they name. So `compile` writes the same bytes for the same
+/// files and options.
+pub fn one_answer()
+    ensures { OneAnswer }
 {}

@@ -15,7 +15,7 @@ pub record Accepts (h : Header) (o : Operation) : Type 0 where
   pub is : checked h o ≡ Ok resolved
 
 -- what there is where a result is one
-accepts : (h : Header) (o : Operation) (x : Result Resolved RangeFault) → checked h o ≡ x → is_ok x ≡ true → Accepts h o
+pub accepts : (h : Header) (o : Operation) (x : Result Resolved RangeFault) → checked h o ≡ x → is_ok x ≡ true → Accepts h o
 accepts h o (Ok r) same e = record { resolved = r; is = same }
 accepts h o (Err f) same e = absurd (cc)
 

@@ -57,11 +57,12 @@ is-byte (Some r) (Some k) h = h.0
 
 -- ---- the entry of a name
 
-record Found (e : Entry) (name : List ℕ) : Type 0 where
-  accepts : Accepts e.header e.operation
-  written : IsWritten e.header e.operation
-  lanes : HasLanes e.header
-  named : bytes_eq e.header.name name ≡ true
+-- an accepted entry of a file, that has this name
+pub record Found (e : Entry) (name : List ℕ) : Type 0 where
+  pub accepts : Accepts e.header e.operation
+  pub written : IsWritten e.header e.operation
+  pub lanes : HasLanes e.header
+  pub named : bytes_eq e.header.name name ≡ true
 
 found : (cs : List Checked) (name : List ℕ) (e : Entry) → AllWritten (map entry_of cs) → HaveLanes (map entry_of cs) → entry_named (map entry_of cs) name ≡ Some e → Found e name
 found [] name e written lanes is = absurd (cc)
@@ -79,7 +80,7 @@ found (c ∷ cs) name e written lanes is = elim (cases_Bool (bytes_eq (entry_of 
 
 -- ---- what is told
 
-told : ResolvedAreProper → (entries : List Entry) (e : Entry) (name : List ℕ) (imm : Option ℕ) → Found e name → entry_named entries name ≡ Some e → IsImm e.header.imm imm
+pub told : ResolvedAreProper → (entries : List Entry) (e : Entry) (name : List ℕ) (imm : Option ℕ) → Found e name → entry_named entries name ≡ Some e → IsImm e.header.imm imm
     → list_any is_opaque (lanes_of e imm) ≡ false → IsTold (called_by entries) e imm
 told proper entries e name imm f is at clear =
     let h = e.header in

@@ -5,6 +5,8 @@ use Rattle.vg_kernel.specs.Names.{is_pointer}
 use Rattle.vg_kernel.specs.WellFormed.{pointers}
 use Rattle.vg_loop_laws.specs.Loops.{Loop}
 use Rattle.vg_loops.specs.Formed.{IsLoop}
+use Rattle.vg_guarded_loop.specs.declared.guarded_loop.GuardedLoop.{GuardedLoop}
+use Rattle.vg_guarded_loop.specs.GuardedLoop.{IsGuardedLoop, fast_loop}
 use Rattle.vg_looped.specs.declared.looped.Looped.{Looped}
 use Rattle.vg_looped.specs.Looped.{IsLooped}
 use Rattle.vg_program.specs.Params as program
@@ -29,3 +31,6 @@ looped_few headers l n is e =
     let steps = is.steps in
     let fewer : length (program.pointers l.block.params) ≤ length l.block.params = filter_few (λ p. program.is_pointer_kind p.kind) l.block.params in
     omega (arith, e, few, steps, fewer)
+
+pub guarded_loop_few : (headers : List Header) (l : GuardedLoop) (n : ℕ) → IsGuardedLoop headers l → n ≡ length l.steps → n ≤ 16
+guarded_loop_few headers l n is e = looped_few headers (fast_loop l) n is.looped e

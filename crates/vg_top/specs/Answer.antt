@@ -15,6 +15,9 @@ use Rattle.vg_looped.specs.declared.looped.Looped.{Looped}
 use Rattle.vg_looped.specs.Looped.{looped_text}
 use Rattle.vg_loop_laws.specs.Loops.{Loop}
 use Rattle.vg_loops.specs.CompiledLoop.{IsCompiledLoop}
+use Rattle.vg_guarded_loop.specs.declared.guarded_loop.GuardedLoop.{GuardedLoop}
+use Rattle.vg_guarded_loop.specs.GuardedLoop.{guarded_loop_text}
+use Rattle.vg_loop_guard.specs.CompiledGuardedLoop.{IsCompiledGuardedLoop}
 use Rattle.vg_request.specs.Options.{Choices}
 
 -- a kernel, the entries that there are, and what the options say: how many plans the search keeps of
@@ -70,6 +73,16 @@ pub record LoopedAnswer (s : LoopSource) (bytes : List ℕ) : Type 0 where
   pub looped : Looped
   pub text : bytes ≡ looped_text looped
   pub compiled : IsCompiledLoop s.entries s.choices.allowed s.loop s.choices.width s.choices.more looped
+
+-- The text of a guarded loop: of a block of as many turns as one kernel may have, with the checks of the
+-- kernel of so many turns, and of a rest of one turn. It leaves what the loop leaves in each layout in
+-- which the accesses of all turns keep what the loop itself says of `noalias`, and traps where a turn
+-- traps. The block is what is compiled with guards of the kernel of so many turns, and the rest what is
+-- compiled of the kernel of one.
+pub record GuardedLoopAnswer (s : LoopSource) (bytes : List ℕ) : Type 0 where
+  pub guarded : GuardedLoop
+  pub text : bytes ≡ guarded_loop_text guarded
+  pub compiled : IsCompiledGuardedLoop s.entries s.choices.allowed s.loop s.choices.width s.choices.more guarded
 
 -- the lines on the plan that is chosen of the kernel. `Answer` speaks of a chosen plan too, and of
 -- those there is one: `OneChosenPlan` of vg_compile.

@@ -1,5 +1,5 @@
 -- What a kernel file of a request holds: a kernel, or a counted loop.
-use Rattle.std.specs.Prelude.{◌≡◌, ℕ, List, Option, Some, None, Result, Ok, Err}
+use Rattle.std.specs.Prelude.{◌≡◌, ℕ, Bool, true, false, List, Option, Some, None, Result, Ok, Err}
 use Rattle.vg_base.specs.Bind.{◌>>=◌}
 use Rattle.vg_text.specs.declared.place.Place.{Place}
 use Rattle.vg_kernel.specs.declared.fault.KernelFault.{KernelFault}
@@ -38,6 +38,11 @@ alone_by None text = kernel_of text
 
 unfoldable pub kernel_alone : List ℕ → Result Tree KernelFault
 kernel_alone text = alone_by (loop_place text) text
+
+-- what guards are made of: with more plans a loop as well, without them a kernel alone
+abbrev pub guardable : Bool → List ℕ → Result KernelFile KernelFault
+guardable true text = kernel_file text
+guardable false text = kernel_alone text >>= λ k. Ok (plain k)
 
 -- a fault of the kernel file, which has this number
 abbrev pub kernel_or_refusal : {K : Type 0} → FileNumber → Result K KernelFault → Result K Ending

@@ -62,8 +62,8 @@ pub fn compared(
 ///
 /// The files are read and judged one after the other: the instructions, the kernel, the program. The first
 /// that is refused gives the ending of `fetch`, `Instructions` (status 3), `Kernel` (4) or `Program` (5); a
-/// loop is refused as a kernel, and a guarded or looped text as a program. Then comes `Differs` (13). `Memory`
-/// (12) comes for want of memory, also at the bounds of `compare`.
+/// loop is refused as a kernel, and a guarded text, a looped one or a guarded loop as a program. Then comes
+/// `Differs` (13). `Memory` (12) comes for want of memory, also at the bounds of `compare`.
 pub fn check<S: Shelf>(
     alloc: Global,
     shelf: &mut S,

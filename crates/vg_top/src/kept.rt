@@ -9,22 +9,24 @@ ghost use Rattle.vg_loop_laws.specs.Limits.{turns_of};
 ghost use Rattle.vg_loop_laws.specs.Unrolled.{unrolled};
 ghost use Rattle.vg_loops.specs.Formed.{IsLoop};
 ghost use Rattle.vg_loops.specs.View.{loop_of};
-ghost use Rattle.vg_top.specs.Answer.{source, loop_source, Answer, GuardedAnswer, LoopedAnswer, Explanation};
+ghost use Rattle.vg_top.specs.Answer.{source, loop_source, Answer, GuardedAnswer, LoopedAnswer, GuardedLoopAnswer, Explanation};
 ghost use Rattle.vg_top.specs.Files.{second_file, Tells};
 ghost use Rattle.vg_top.specs.Kept.{choices_kept};
 ghost use Rattle.vg_top.specs.KernelFile.{file_seen, IsFormed};
-ghost use Rattle.vg_top.specs.OnKernel.{compiled_of, planned_of, told_of};
+ghost use Rattle.vg_top.specs.OnKernel.{compiled_of, guarded_of, planned_of, told_of};
 ghost use Rattle.vg_top.specs.Outcome.{IsAnswer, VecAnswers};
 ghost use Rattle.vg_top.specs.Works.{IsOfKernel};
 
 use crate::ending::{Ending, FileNumber};
-use crate::kernel_file::{KernelFile, kernel_alone_of_text, kernel_file_of_text};
+use crate::kernel_file::{KernelFile, guardable_of_text, kernel_file_of_text};
 use crate::task::Task;
 use std::alloc::{AllocError, Global};
 use vg_compile::{compile_described, explain_described};
 use vg_guard::{compile_guarded_described, print_guarded};
+use vg_guarded_loop::print_guarded_loop;
 use vg_kernel::Kernel;
 use vg_library::Library;
+use vg_loop_guard::compile_guarded_loop_described;
 use vg_looped::print_looped;
 use vg_loops::{Loop, compile_loop_described, turns_of, unroll};
 use vg_program::print_program;
@@ -80,6 +82,23 @@ fn looped_text(
     print_looped(alloc, &looped)
 }
 
+/// The text of the guarded loop of a loop.
+fn guarded_loop_text(
+    alloc: Global,
+    library: &Library,
+    counted: &Loop,
+    width: u32,
+    more: bool,
+) -> Result<Vec<u8>, AllocError>
+    requires counted { IsLoop (loop_of counted.now) }
+    ensures { IfOk result (λ bytes. GuardedLoopAnswer (loop_source (entries_kept library.now)
+        (loop_of counted.now) (choices_kept library.now width more)) bytes.items) }
+{
+    let descriptions = library.descriptions();
+    let guarded = compile_guarded_loop_described(alloc, descriptions, counted, width, more)?;
+    print_guarded_loop(alloc, &guarded)
+}
+
 /// The lines on the plan of a kernel.
 fn plan_lines(
     alloc: Global,
@@ -128,6 +147,24 @@ fn compiled(
     match file {
         KernelFile::Plain(kernel) => program_text(alloc, library, kernel, width, more),
         KernelFile::Counted(counted) => looped_text(alloc, library, counted, width, more),
+    }
+}
+
+/// The guarded text of a kernel, or the guarded loop of a loop.
+fn guarded(
+    alloc: Global,
+    library: &Library,
+    file: &KernelFile,
+    width: u32,
+    more: bool,
+) -> Result<Vec<u8>, AllocError>
+    requires file { IsFormed (file_seen file.now) }
+    ensures { IfOk result (λ bytes. IsAnswer (guarded_of (entries_kept library.now)
+        (choices_kept library.now width more) (file_seen file.now)) bytes.items) }
+{
+    match file {
+        KernelFile::Plain(kernel) => guarded_text(alloc, library, kernel, width, more),
+        KernelFile::Counted(counted) => guarded_loop_text(alloc, library, counted, width, more),
     }
 }
 
@@ -185,11 +222,11 @@ fn guarded_of_text(
         (choices_kept library.now width more) text.now) }
     ensures refusal { IfErr result (IsOfKernel second_file) }
 {
-    let file = match kernel_alone_of_text(alloc, FileNumber(2), text) {
+    let file = match guardable_of_text(alloc, FileNumber(2), more, text) {
         Ok(file) => file,
         Err(ending) => return Err(ending),
     };
-    match guarded_text(alloc, library, &file, width, more) {
+    match guarded(alloc, library, &file, width, more) {
         Ok(bytes) => Ok(bytes),
         Err(_) => Err(Ending::Memory),
     }
@@ -223,8 +260,8 @@ fn planned_of_text(
 /// `explain` writes of a file with this text, where the search keeps `width` plans of each size, with
 /// more plans or without.
 ///
-/// `Kernel` (status 4) with the first fault of the text. `Memory` (12) comes for want of memory, also
-/// at the bounds of `compile_described`.
+/// `Kernel` (status 4) with the first fault of the text; guards are made of a loop only with more plans.
+/// `Memory` (12) comes for want of memory, also at the bounds of `compile_described`.
 pub fn written_of_text(
     alloc: Global,
     task: Task,

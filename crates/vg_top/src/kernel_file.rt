@@ -8,7 +8,7 @@ ghost use Rattle.vg_loops.specs.Formed.{IsLoop};
 ghost use Rattle.vg_loops.specs.Reader.{loop_from};
 ghost use Rattle.vg_loops.specs.View.{loop_of};
 ghost use Rattle.vg_top.specs.Files.{Tells};
-ghost use Rattle.vg_top.specs.KernelFile.{kernel_file, kernel_alone, kernel_or_refusal, file_seen, IsFormed, IsTree, IsLoopOf, IsFile};
+ghost use Rattle.vg_top.specs.KernelFile.{kernel_file, kernel_alone, guardable, kernel_or_refusal, file_seen, IsFormed, IsTree, IsLoopOf, IsFile};
 ghost use Rattle.vg_top.specs.Works.{IsOfKernel};
 
 use crate::ending::{Ending, FileNumber};
@@ -105,6 +105,28 @@ pub fn kernel_alone_of_text(
     };
     match loop_of_text(alloc, number, text) {
         Ok(_) => Err(Ending::Kernel(number, KernelFault::LoopHere { place })),
+        Err(ending) => Err(ending),
+    }
+}
+
+/// What guards are made of, of the text of the request's file of this number: with more plans a kernel
+/// or a loop, as of `kernel_file_of_text`, without them a kernel, as of `kernel_alone_of_text`.
+pub fn guardable_of_text(
+    alloc: Global,
+    number: FileNumber,
+    more: bool,
+    text: &[u8],
+) -> Result<KernelFile, Ending>
+    requires { length text.now ≤ 262144 }
+    ensures told { Tells IsFile result (kernel_or_refusal number (guardable more text.now)) }
+    ensures formed { IfOk result (λ f. IsFormed (file_seen f)) }
+    ensures refusal { IfErr result (IsOfKernel number) }
+{
+    if more {
+        return kernel_file_of_text(alloc, number, text);
+    }
+    match kernel_alone_of_text(alloc, number, text) {
+        Ok(kernel) => Ok(KernelFile::Plain(kernel)),
         Err(ending) => Err(ending),
     }
 }

@@ -28,7 +28,7 @@ pub use files::{INSTRUCTIONS_LIMIT, KERNEL_LIMIT, MEMORY_LIMIT, PROGRAM_LIMIT};
 pub use inputs::{Inputs, values_in};
 pub use instruction_file::catalog_of_text;
 pub use kept::written_of_text;
-pub use kernel_file::{KernelFile, kernel_alone_of_text, kernel_file_of_text};
+pub use kernel_file::{KernelFile, guardable_of_text, kernel_alone_of_text, kernel_file_of_text};
 pub use program_file::{ProgramFile, program_alone_of_text, program_of_text};
 pub use run::run_bound;
 pub use status::Status;

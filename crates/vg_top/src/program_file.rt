@@ -5,12 +5,13 @@ ghost use Rattle.std.specs.Str.{bytes_eq};
 ghost use Rattle.vg_program.specs.Faults.{read};
 ghost use Rattle.vg_program.specs.Valid.{KeepsRules};
 ghost use Rattle.vg_top.specs.Files.{Tells};
-ghost use Rattle.vg_top.specs.ProgramFile.{plain_file, guarded_file, looped_file, program_file, program_or_refusal, program_seen, params_of, KeepsAll, IsPlain, IsProgram};
+ghost use Rattle.vg_top.specs.ProgramFile.{plain_file, guarded_file, looped_file, guarded_loop_file, program_file, program_or_refusal, program_seen, params_of, KeepsAll, IsPlain, IsProgram};
 ghost use Rattle.vg_top.specs.Works.{IsOfProgram};
 
 use crate::ending::{Ending, FileNumber};
 use std::alloc::Global;
 use vg_guard::{Guarded, parse_guarded};
+use vg_guarded_loop::{GuardedLoop, parse_guarded_loop};
 use vg_looped::{Looped, parse_looped};
 use vg_program::param::Param;
 use vg_program::{Program, ProgramFault, parse_program};
@@ -24,6 +25,8 @@ pub enum ProgramFile {
     Guarded(Guarded),
     /// The program of a block of turns, and that of one.
     Looped(Looped),
+    /// The guarded program of a block of turns, and the program of one.
+    GuardedLoop(GuardedLoop),
 }
 
 /// Written out, so that the exits of an owner call it: a derived one would be proved anew at each.
@@ -33,12 +36,13 @@ impl Drop for ProgramFile {
             ProgramFile::Plain(_) => {}
             ProgramFile::Guarded(_) => {}
             ProgramFile::Looped(_) => {}
+            ProgramFile::GuardedLoop(_) => {}
         }
     }
 }
 
 impl ProgramFile {
-    /// The parameters, which are those of both programs where there are two.
+    /// The parameters, which are those of each program where there are more.
     pub fn params(&self) -> &[Param]
         ensures { result.now ≡ params_of (program_seen self.now) }
     {
@@ -46,6 +50,7 @@ impl ProgramFile {
             ProgramFile::Plain(program) => program.params.as_slice(),
             ProgramFile::Guarded(guarded) => guarded.fast.params.as_slice(),
             ProgramFile::Looped(looped) => looped.block.params.as_slice(),
+            ProgramFile::GuardedLoop(looped) => looped.block.fast.params.as_slice(),
         }
     }
 }
@@ -60,9 +65,9 @@ fn begins(text: &[u8], bytes: &[u8]) -> bool
     }
 }
 
-/// The program of the text of the request's file of this number, which may call instructions of these headers;
-/// no guarded and no looped one may stand there. `Program` (status 5) with the first fault of the text, or
-/// `Memory` (12) for want of memory alone.
+/// The program of the text of the request's file of this number, which may call instructions of these
+/// headers; no guarded one, no looped one and no guarded loop may stand there. `Program` (status 5) with
+/// the first fault of the text, or `Memory` (12) for want of memory alone.
 pub fn program_alone_of_text(
     alloc: Global,
     number: FileNumber,
@@ -136,10 +141,29 @@ fn looped_of_text(
     }
 }
 
+/// The guarded loop of a text.
+fn guarded_loop_of_text(
+    alloc: Global,
+    number: FileNumber,
+    text: &[u8],
+    headers: &[Header],
+) -> Result<ProgramFile, Ending>
+    ensures told { Tells IsProgram result
+        (program_or_refusal number (guarded_loop_file headers.now text.now)) }
+    ensures refusal { IfErr result (IsOfProgram number) }
+    ensures rules { IfOk result (λ p. KeepsAll headers.now (program_seen p)) }
+{
+    match parse_guarded_loop(alloc, text, headers) {
+        Ok(program) => Ok(ProgramFile::GuardedLoop(program)),
+        Err(ProgramFault::Memory(_)) => Err(Ending::Memory),
+        Err(fault) => Err(Ending::Program(number, fault)),
+    }
+}
+
 /// What the text of the request's file of this number holds, which may call instructions of these
 /// headers: a guarded program where it begins with `guarded `, a looped one where it begins with
-/// `looped `, else a program. `Program` (status 5) with the first fault of the text, or `Memory` (12)
-/// for want of memory alone.
+/// `looped `, a guarded loop where it begins with `guardedloop `, else a program. `Program` (status 5)
+/// with the first fault of the text, or `Memory` (12) for want of memory alone.
 #[tactic(auto, unfolding(crate::specs::ProgramFile::program_file))]
 pub fn program_of_text(
     alloc: Global,
@@ -157,6 +181,9 @@ pub fn program_of_text(
     }
     if begins(text, b"looped ") {
         return looped_of_text(alloc, number, text, headers);
+    }
+    if begins(text, b"guardedloop ") {
+        return guarded_loop_of_text(alloc, number, text, headers);
     }
     plain_of_text(alloc, number, text, headers)
 }

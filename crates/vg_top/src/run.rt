@@ -4,6 +4,8 @@ ghost use Rattle.std.specs.Prelude.{Some, IfSome, IfErr};
 ghost use Rattle.vg_catalog.specs.Called.{called_by, headers_of};
 ghost use Rattle.vg_catalog.specs.Catalogs.{entries_in};
 ghost use Rattle.vg_guard.specs.Guarded.{guarded_meaning, IsGuarded};
+ghost use Rattle.vg_guarded_loop.specs.GuardedLoop.{IsGuardedLoop};
+ghost use Rattle.vg_loop_guard.specs.Meaning.{guarded_loop_meaning};
 ghost use Rattle.vg_looped.specs.Looped.{IsLooped};
 ghost use Rattle.vg_loops.specs.Inputs.{looped_meaning};
 ghost use Rattle.vg_program.specs.Meaning.{meaning};
@@ -25,6 +27,8 @@ use crate::program_file::{ProgramFile, program_of_text};
 use std::alloc::Global;
 use vg_catalog::Catalog;
 use vg_guard::{Guarded, checks_hold};
+use vg_guarded_loop::GuardedLoop;
+use vg_loop_guard::run_guarded_loop;
 use vg_looped::Looped;
 use vg_loops::{run_looped, stay_near, turns_asked};
 use vg_machine::{Machine, Outcome};
@@ -127,10 +131,58 @@ fn run_turns(
     }
 }
 
+/// What a guarded loop leaves of a memory. `Bindings` where its turns move a pointer past 2^64 - 1.
+fn run_guarded_turns(
+    alloc: Global,
+    catalog: &Catalog,
+    looped: &GuardedLoop,
+    inputs: &Inputs,
+    memory: Vec<u8>,
+) -> Result<Vec<u8>, Ending>
+    requires rules { IsGuardedLoop (headers_of (entries_in catalog.now)) looped.now }
+    ensures told { Tells AreLeft result (left_by
+        (guarded_loop_meaning (called_by (entries_in catalog.now)) looped.now) memory.items
+        (near_inputs looped.now.times looped.now.steps (inputs_seen inputs.now))) }
+    ensures refusal { IfErr result IsOfRun }
+{
+    let places = inputs.places.as_slice();
+    let args = inputs.args.as_slice();
+    let turns = turns_asked(looped.times, args);
+    if !stay_near(looped.steps.as_slice(), turns, places) {
+        return Err(Ending::Bindings);
+    }
+    let entries = catalog.entries();
+    let Ok(fast) = Machine::new(alloc, entries, &looped.block.fast) else {
+        return Err(Ending::Memory);
+    };
+    let Ok(slow) = Machine::new(alloc, entries, &looped.block.slow) else {
+        return Err(Ending::Memory);
+    };
+    let Ok(rest) = Machine::new(alloc, entries, &looped.rest) else {
+        return Err(Ending::Memory);
+    };
+    let mut fast = fast;
+    let mut slow = slow;
+    let mut rest = rest;
+    let mut memory = memory;
+    match run_guarded_loop(
+        looped,
+        &mut fast,
+        &mut slow,
+        &mut rest,
+        memory.as_mut_slice(),
+        places,
+        args,
+    ) {
+        Outcome::Done => Ok(memory),
+        Outcome::Trap => Err(Ending::Trap),
+    }
+}
+
 /// What a program leaves of a memory, its parameters bound to these values, a missing one to 0, where it
-/// may call the entries of a catalogue. `Bindings` (status 9) where the turns of a looped text move a
-/// pointer past 2^64 - 1, `Trap` (10) where it accesses a byte outside the memory, `Memory` (12) for want
-/// of memory, also at the bounds of `Machine::new`.
+/// may call the entries of a catalogue. `Bindings` (status 9) where the turns of a looped text or of a
+/// guarded loop move a pointer past 2^64 - 1, `Trap` (10) where it accesses a byte outside the memory,
+/// `Memory` (12) for want of memory, also at the bounds of `Machine::new`.
 pub fn run_bound(
     alloc: Global,
     catalog: &Catalog,
@@ -147,6 +199,9 @@ pub fn run_bound(
         ProgramFile::Plain(program) => run_program(alloc, catalog, program, inputs, memory),
         ProgramFile::Guarded(guarded) => run_guarded(alloc, catalog, guarded, inputs, memory),
         ProgramFile::Looped(looped) => run_turns(alloc, catalog, looped, inputs, memory),
+        ProgramFile::GuardedLoop(looped) => {
+            run_guarded_turns(alloc, catalog, looped, inputs, memory)
+        }
     }
 }
 
@@ -178,12 +233,12 @@ fn run_on(
 }
 
 /// The memory that the program in a file leaves of the memory in another, its parameters bound by
-/// the words. The program may be a guarded or a looped one.
+/// the words. The program may be a guarded one, a looped one or a guarded loop.
 ///
 /// The files are read and judged one after the other. The first that is refused gives the ending of
 /// `fetch`, `Instructions` (status 3) or `Program` (5); then come `Bindings` (9) and `Trap` (10).
-/// `Memory` (12) comes for want of memory, also at the bounds of `Machine::new`. A looped text that
-/// stores nothing may have 2^64 - 1 turns.
+/// `Memory` (12) comes for want of memory, also at the bounds of `Machine::new`. A looped text or a
+/// guarded loop that stores nothing may have 2^64 - 1 turns.
 pub fn run<S: Shelf>(
     alloc: Global,
     shelf: &mut S,

@@ -105,13 +105,15 @@ fn answer<S: Shelf>(
 /// chosen wide plan and the chosen fed plan; with `--guard` the program has two sides and checks
 /// that choose between them, so that pointers need not be declared noalias.
 /// The kernel may be a counted loop, whose text is that of a program for a block of turns and of
-/// one for the turns left over; guards are for kernels alone.
+/// one for the turns left over; with `--guard` it is refused, but with `--more` beside it the block
+/// is a guarded program, whose checks are made anew for each block.
 /// `explain INSTRUCTIONS KERNEL`, with the same options but `--guard`, writes the lines on the
 /// packs of the plan whose program `compile` writes, and on what it, the plain plan and the kernel
 /// cost; of a loop on the plan of its block.
 /// `run INSTRUCTIONS PROGRAM MEMORY name=number ..` writes the memory that the program leaves of the
 /// one in the file, with its parameters bound by the words, and `eval KERNEL MEMORY name=number ..`
-/// the memory that the kernel leaves; programs may be guarded or looped ones, kernels may be loops.
+/// the memory that the kernel leaves; programs may be guarded or looped ones or guarded loops,
+/// kernels may be loops.
 /// `lift INSTRUCTIONS` writes lines on each instance of the entries in the file: the canonical term of
 /// each lane, and why packs cannot call it.
 /// `trial INSTRUCTIONS N` writes a line on the trial of N, a number below 2^32: how many statements

@@ -1,0 +1,22 @@
+//! Instances of laws.
+
+ghost use Rattle.vg_instance_laws.specs.Swap.{SwapIsSame};
+ghost use Rattle.vg_instance_laws.specs.WidePlan.{WidePlanMeansUnits};
+
+use vg_names::resolved_operations_are_proper;
+
+/// A kernel that stores two words turned, and a program that loads both into a register, turns them
+/// by a call and stores them: it has no difference to the kernel, keeps the rules over an accepted
+/// entry, and means the kernel.
+pub fn swap_is_same()
+    ensures { SwapIsSame }
+{
+    resolved_operations_are_proper();
+}
+
+/// A kernel with cut terms, all matches of two instances with its values, a plan of three packs and
+/// an order of it: what is planned and emitted means the units. One call fits its values cut, the
+/// other turned.
+pub fn wide_plan_means_units()
+    ensures { WidePlanMeansUnits }
+{}
