@@ -79,7 +79,7 @@ same-unit a b n (Load x w) h l = refl
 same-unit a b n (Store x w y) h l = refl
 same-unit a b n (Operation op w k xs) h l = same-operation a b n op w k xs h l
 
-spans-front : (spans : List Span) (us : List SsaUnit) (v : ℕ) → v < length spans → slice_index_or (spans_behind spans us) v none ≡ slice_index_or spans v none
+pub spans-front : (spans : List Span) (us : List SsaUnit) (v : ℕ) → v < length spans → slice_index_or (spans_behind spans us) v none ≡ slice_index_or spans v none
 spans-front spans [] v l = refl
 spans-front spans (u ∷ us) v l =
     let s = unit_span spans u in

@@ -56,12 +56,12 @@ itself w n l = let same : w ≤ w = omega arith in low-below n w w l same
 module _ (ssa : Ssa) (numbers : List ℕ) (holds : (v w : ℕ) → v < length numbers → value_bits ssa v ≡ Some w → Holds w (span_at ssa v) (slice_index numbers v)) where
   -- ---- operands
 
-  value-stands : (v w : ℕ) → v < length numbers → value_bits ssa v ≡ Some w → Stands w (span_at ssa v) (slice_index numbers v) (whole_of ssa numbers (Value v))
+  pub value-stands : (v w : ℕ) → v < length numbers → value_bits ssa v ≡ Some w → Stands w (span_at ssa v) (slice_index numbers v) (whole_of ssa numbers (Value v))
   value-stands v w l e =
       let P : Option ℕ → Type 0 = λ o. Stands w (span_at ssa v) (slice_index numbers v) (whole_number (unwrap_or o 1) (span_at ssa v) (slice_index numbers v)) in
       subst P (sym e) (held-stands w (slice_index numbers v) (span_at ssa v) (holds v w l e))
 
-  operand-stands : (n : ℕ) (w : Width) (x : Wanted) → n ≤ length numbers → IsEarlier n x → IsNumber ssa w x
+  pub operand-stands : (n : ℕ) (w : Width) (x : Wanted) → n ≤ length numbers → IsEarlier n x → IsNumber ssa w x
       → Stands (bits_of w) (operand_span (spans_of ssa) x) (number_of (slice_index numbers) x) (whole_of ssa numbers x)
   operand-stands n w (Value v) m l h = value-stands v (bits_of w) (omega arith) h
   operand-stands n w (Constant k c) m l h =
@@ -157,7 +157,7 @@ module _ (ssa : Ssa) (numbers : List ℕ) (holds : (v w : ℕ) → v < length nu
     wide-enough : (s : Span) (t : Width) → bits_of w ≤ bits_of (natural_width m s) → is_enough m s t ≡ true → bits_of w ≤ bits_of t
     wide-enough s t l e = let n = natural-least m s t e in omega arith
 
-    signed-wide : (f : ℤ → ℤ → ℤ) (s : Span) → StaysIn f → s ≡ end_by_end f (signed_numbers (bits_of m) (operand_span (spans_of ssa) xs.first)) (signed_numbers (bits_of m) (operand_span (spans_of ssa) xs.second))
+    pub signed-wide : (f : ℤ → ℤ → ℤ) (s : Span) → StaysIn f → s ≡ end_by_end f (signed_numbers (bits_of m) (operand_span (spans_of ssa) xs.first)) (signed_numbers (bits_of m) (operand_span (spans_of ssa) xs.second))
         → bits_of w ≤ bits_of (natural_width m s) → bits_of w ≤ bits_of (compare_operands (spans_of ssa) Signed m xs).width
     signed-wide f s stays e l =
         wide-enough s (compare_operands (spans_of ssa) Signed m xs).width l
@@ -165,7 +165,7 @@ module _ (ssa : Ssa) (numbers : List ℕ) (holds : (v w : ℕ) → v < length nu
         ∙ signed-enough f m (compare_operands (spans_of ssa) Signed m xs).width (operand_span (spans_of ssa) xs.first) (operand_span (spans_of ssa) xs.second) stays
         (signed-fits m (operand_span (spans_of ssa) xs.first) (operand_span (spans_of ssa) xs.second)))
 
-    unsigned-wide : (f : ℤ → ℤ → ℤ) (s : Span) → StaysIn f → IsNumber ssa m xs.first → IsNumber ssa m xs.second
+    pub unsigned-wide : (f : ℤ → ℤ → ℤ) (s : Span) → StaysIn f → IsNumber ssa m xs.first → IsNumber ssa m xs.second
         → s ≡ end_by_end f (unsigned_numbers (bits_of m) (spans_of ssa) xs.first) (unsigned_numbers (bits_of m) (spans_of ssa) xs.second)
         → bits_of w ≤ bits_of (natural_width m s) → bits_of w ≤ bits_of (compare_operands (spans_of ssa) Unsigned m xs).width
     unsigned-wide f s stays h g e l =

@@ -30,12 +30,12 @@ use Rattle.vg_spans.proofs.Runs.{arguments-long, begun-hold, front-hold}
 
 -- ---- a unit among units
 
-all-at : {A : Type 0} (P : A → Type 0) (us : List A) (j : ℕ) (u : A) → AllByRecursion P us → slice_get us j ≡ Some u → P u
+pub all-at : {A : Type 0} (P : A → Type 0) (us : List A) (j : ℕ) (u : A) → AllByRecursion P us → slice_get us j ≡ Some u → P u
 all-at P [] j u h e = absurd (cc)
 all-at P (x ∷ us) zero u h e = let same : x ≡ u = cc in subst P same h.0
 all-at P (x ∷ us) (suc j) u h e = all-at P us j u h.1 e
 
-earlier-at : (n : ℕ) (us : List SsaUnit) (j : ℕ) (u : SsaUnit) → TakeEarlier n us → slice_get us j ≡ Some u → TakesEarlier (n + j) u
+pub earlier-at : (n : ℕ) (us : List SsaUnit) (j : ℕ) (u : SsaUnit) → TakeEarlier n us → slice_get us j ≡ Some u → TakesEarlier (n + j) u
 earlier-at n [] j u h e = absurd (cc)
 earlier-at n (x ∷ us) zero u h e =
     let same : x ≡ u = cc in
@@ -58,12 +58,12 @@ get-take (suc k) (x ∷ us) (suc j) u l e = get-take k us j u (omega arith) e
 
 -- ---- what is known of a unit where a run of the first units reaches its value
 
-record Reaches (ssa : Ssa) (v : ℕ) (u : SsaUnit) : Type 0 where
-  past : nat_lt v (arguments ssa) ≡ false
-  at : slice_get ssa.units (v - arguments ssa) ≡ Some u
-  number : arguments ssa + (v - arguments ssa) ≡ v
+pub record Reaches (ssa : Ssa) (v : ℕ) (u : SsaUnit) : Type 0 where
+  pub past : nat_lt v (arguments ssa) ≡ false
+  pub at : slice_get ssa.units (v - arguments ssa) ≡ Some u
+  pub number : arguments ssa + (v - arguments ssa) ≡ v
 
-reaches : (ssa : Ssa) (v : ℕ) (u : SsaUnit) → unit_at ssa v ≡ Some u → Reaches ssa v u
+pub reaches : (ssa : Ssa) (v : ℕ) (u : SsaUnit) → unit_at ssa v ≡ Some u → Reaches ssa v u
 reaches ssa v u e = elim (cases_Bool (nat_lt v (arguments ssa))) [
   | inl c ↦ absurd (let none : None ≡ Some u = sym (cond-true (nat_lt v (arguments ssa)) None (slice_get ssa.units (v - arguments ssa)) c) ∙ e in cc)
   | inr c ↦ record {
@@ -91,20 +91,20 @@ module _ (ssa : Ssa) (sound : IsSound ssa) (args : List ℕ) (fit : AreArguments
       ∙ operation-at args (take k ssa.units) more (v - arguments ssa) op w n xs given (subst (λ m. TakeEarlier m (take k ssa.units)) (sym first) (earlier-take (arguments ssa) k ssa.units sound.earlier))
       (get-take k ssa.units (v - arguments ssa) (Operation op w n xs) inside r.at)
 
-  unit-span-at : (v : ℕ) (u : SsaUnit) → Reaches ssa v u → span_at ssa v ≡ unit_span (spans_of ssa) u
+  pub unit-span-at : (v : ℕ) (u : SsaUnit) → Reaches ssa v u → span_at ssa v ≡ unit_span (spans_of ssa) u
   unit-span-at v u r =
       let begun = begun-hold ssa args fit in
       let first = begun.long ∙ count in
       let here : length (argument_spans ssa.params) + (v - arguments ssa) ≡ v = (let n = r.number in omega arith) in
       ap (span_at ssa) (sym here) ∙ span-of-unit (argument_spans ssa.params) ssa.units (v - arguments ssa) u (subst (λ m. TakeEarlier m ssa.units) (sym first) sound.earlier) r.at
 
-  unit-takes : (v : ℕ) (u : SsaUnit) → Reaches ssa v u → TakesEarlier v u
+  pub unit-takes : (v : ℕ) (u : SsaUnit) → Reaches ssa v u → TakesEarlier v u
   unit-takes v u r = subst (λ m. TakesEarlier m u) r.number (earlier-at (arguments ssa) ssa.units (v - arguments ssa) u sound.earlier r.at)
 
-  unit-is : (v : ℕ) (u : SsaUnit) → Reaches ssa v u → IsUnit ssa u
+  pub unit-is : (v : ℕ) (u : SsaUnit) → Reaches ssa v u → IsUnit ssa u
   unit-is v u r = all-at (IsUnit ssa) ssa.units (v - arguments ssa) u sound.units r.at
 
-  unit-width : (v : ℕ) (u : SsaUnit) → Reaches ssa v u → unit_at ssa v ≡ Some u → value_bits ssa v ≡ unit_bits u
+  pub unit-width : (v : ℕ) (u : SsaUnit) → Reaches ssa v u → unit_at ssa v ≡ Some u → value_bits ssa v ≡ unit_bits u
   unit-width v u r e =
       cond-false (nat_lt v (arguments ssa)) (option_map (λ p. kind_bits p.kind) (slice_get (integers ssa) v)) (unit_at ssa v >>= unit_bits) r.past ∙ ap (λ o. o >>= unit_bits) e
 

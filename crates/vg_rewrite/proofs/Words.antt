@@ -1,5 +1,5 @@
 -- What the forms of a sound unit are made of can be read.
-use Rattle.std.proofs.Common.{◌≡◌, ℕ, ◌^◌, ◌<◌, ◌≤◌, Bool, true, false, List, Option, Some, None, sym, subst, arith}
+use Rattle.std.proofs.Common.{◌≡◌, ℕ, ◌^◌, ◌<◌, Bool, true, false, List, Option, Some, None, sym, subst, arith}
 use Rattle.std.specs.Prelude.{nat_le, nat_lt, pos, slice_index_or, if◌then◌else◌}
 use Rattle.vg_base.specs.declared.width.Width.{Width}
 use Rattle.vg_base.specs.Width.{bits_of}
@@ -128,7 +128,7 @@ first-each P (Resize op from) x h = h
 first-each P (Compare op) x h = h
 first-each P Select x h = h
 
-each-first : (P : Wanted → Type 0) (op : Operator) (x : Wanted) → P x → FirstOver P P op x
+pub each-first : (P : Wanted → Type 0) (op : Operator) (x : Wanted) → P x → FirstOver P P op x
 each-first P (Two op) x h = h
 each-first P (Shifting op) x h = h
 each-first P (Resize op from) x h = h

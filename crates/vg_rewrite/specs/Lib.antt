@@ -6,5 +6,8 @@ pub mod Marks
 pub mod Meetings
 pub mod Narrowed
 pub mod Readable
+pub mod Renumbering
 pub mod Repeated
 pub mod Repeating
+pub mod Rewritten
+pub mod Running

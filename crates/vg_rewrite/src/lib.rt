@@ -5,7 +5,8 @@
 //!
 //! `specs/Narrowed.antt` and `specs/Repeated.antt` define which units are planned beside a kernel's
 //! own: each number in the widths that are asked of it, and each free use of a load with a load of
-//! its own.
+//! its own. `specs/Running.antt` says that they run as the kernel's own do, and `specs/Rewritten.antt`
+//! which lists of units are planned and what they keep of a kernel.
 #![tactic(auto)]
 
 mod asked;
@@ -16,9 +17,10 @@ mod forms;
 mod kept;
 mod law;
 mod meetings;
-mod narrowed;
+mod narrow;
 mod narrowing;
-mod repeated;
+mod renumbered;
+mod repeat;
 mod repeating;
 mod sources;
 mod standing;
@@ -27,7 +29,11 @@ pub use asked::Asked;
 pub use choice::{Compared, Reading, Shifted};
 pub use form::{Form, Made};
 pub use forms::value_form;
-pub use law::forms_hold;
-pub use narrowed::narrowed_units;
-pub use repeated::repeated_units;
+pub use law::{
+    forms_hold, narrowed_units_run_alike, repeated_units_run_alike, rewritten_units_run_alike,
+    standing_is_apart,
+};
+pub use narrow::narrowed_units;
+pub use renumbered::{narrowed, repeated};
+pub use repeat::repeated_units;
 pub use standing::Standing;

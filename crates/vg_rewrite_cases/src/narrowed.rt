@@ -4,7 +4,7 @@ use crate::units::{numbered, spelled};
 use std::alloc::Global;
 use std::process::Abort;
 use std::test::Fail;
-use vg_rewrite::narrowed_units;
+use vg_rewrite::{narrowed, narrowed_units};
 
 // A kernel, and the lines of what its units become.
 struct Row {
@@ -88,6 +88,27 @@ fn assert_narrowed(rt: &impl Abort, alloc: Global, row: &Row) -> Result<(), Fail
 fn numbers_are_made_in_the_width_that_they_need(rt: HostRuntime) -> Result<(), Fail> {
     for row in ROWS.iter() {
         assert_narrowed(&rt, rt.alloc(), row)?;
+    }
+    Ok(())
+}
+
+// The numbered values have the same units.
+fn assert_numbered(rt: &impl Abort, alloc: Global, row: &Row) -> Result<(), Fail> {
+    let ssa = numbered(alloc, row.kernel)?;
+    match narrowed(alloc, &ssa)? {
+        None => assert!(rt; false, "too many units"),
+        Some(new) => {
+            let shown = spelled(alloc, new.units.as_slice())?;
+            assert!(rt; shown.as_str() == row.units, "{}", shown.as_str());
+        }
+    }
+    Ok(())
+}
+
+#[test]
+fn narrowed_units_are_numbered(rt: HostRuntime) -> Result<(), Fail> {
+    for row in ROWS.iter() {
+        assert_numbered(&rt, rt.alloc(), row)?;
     }
     Ok(())
 }

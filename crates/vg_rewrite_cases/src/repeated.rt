@@ -4,7 +4,7 @@ use crate::units::{numbered, spelled};
 use std::alloc::Global;
 use std::process::Abort;
 use std::test::Fail;
-use vg_rewrite::repeated_units;
+use vg_rewrite::{repeated, repeated_units};
 
 // A kernel, and the lines of what its units become.
 struct Row {
@@ -110,6 +110,27 @@ fn assert_repeated(rt: &impl Abort, alloc: Global, row: &Row) -> Result<(), Fail
 fn loads_are_repeated_for_each_free_use(rt: HostRuntime) -> Result<(), Fail> {
     for row in ROWS.iter() {
         assert_repeated(&rt, rt.alloc(), row)?;
+    }
+    Ok(())
+}
+
+// The numbered values have the same units.
+fn assert_numbered(rt: &impl Abort, alloc: Global, row: &Row) -> Result<(), Fail> {
+    let ssa = numbered(alloc, row.kernel)?;
+    match repeated(alloc, &ssa)? {
+        None => assert!(rt; false, "too many units"),
+        Some(new) => {
+            let shown = spelled(alloc, new.units.as_slice())?;
+            assert!(rt; shown.as_str() == row.units, "{}", shown.as_str());
+        }
+    }
+    Ok(())
+}
+
+#[test]
+fn repeated_units_are_numbered(rt: HostRuntime) -> Result<(), Fail> {
+    for row in ROWS.iter() {
+        assert_numbered(&rt, rt.alloc(), row)?;
     }
     Ok(())
 }

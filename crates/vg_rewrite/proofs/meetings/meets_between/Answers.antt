@@ -1,4 +1,4 @@
-use Rattle.std.proofs.Common.{◌≡◌, ◌-◌, ◌+◌, ◌^◌, ◌∙◌, ap, sym, arith}
+use Rattle.std.proofs.Common.{◌-◌, ◌^◌, ◌∙◌, ap, sym, arith}
 use Rattle.std.specs.Prelude.{nat_lt, get_or}
 use Rattle.vg_rewrite.proofs.Meeting.{meets-argument, meets-found}
 use Rattle.vg_rewrite.proofs.meetings.meets_between.Goals as goal

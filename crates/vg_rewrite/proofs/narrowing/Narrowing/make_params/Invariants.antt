@@ -1,4 +1,4 @@
-use Rattle.std.proofs.Common.{◌≡◌, ◌+◌, ◌*◌, ◌≤◌, ◌^◌, length, vec_len}
+use Rattle.std.proofs.Common.{◌≡◌, ◌+◌, ◌*◌, ◌≤◌, length, vec_len}
 use Rattle.vg_rewrite.specs.Making.{narrowing}
 use Rattle.vg_rewrite.specs.Narrowed.{make_params}
 use Rattle.vg_rewrite.proofs.narrowing.Narrowing.make_params.Given as goal

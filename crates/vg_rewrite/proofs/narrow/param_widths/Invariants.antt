@@ -1,6 +1,6 @@
 use Rattle.std.proofs.Common.{◌≡◌, ◌++◌, length}
 use Rattle.vg_ssa.specs.OfUnits.{widths_of}
-use Rattle.vg_rewrite.proofs.narrowed.param_widths.Given as goal
+use Rattle.vg_rewrite.proofs.narrow.param_widths.Given as goal
 
 -- the widths so far and those of the parameters that are left are all
 abbrev pub invariant-params : goal.invariant-params

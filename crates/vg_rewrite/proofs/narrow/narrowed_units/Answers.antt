@@ -5,7 +5,7 @@ use Rattle.vg_rewrite.proofs.Counting.{few-numbers}
 use Rattle.vg_rewrite.proofs.LastFirst.{all-narrowed}
 use Rattle.vg_ssa.specs.OfUnits.{widths_of}
 use Rattle.vg_ssa.proofs.Soundness.{widths-many}
-use Rattle.vg_rewrite.proofs.narrowed.narrowed_units.Goals as goal
+use Rattle.vg_rewrite.proofs.narrow.narrowed_units.Goals as goal
 
 pub asked_of-requires-clause-few : goal.asked_of-requires-clause-few
 asked_of-requires-clause-few c =
