@@ -16,14 +16,16 @@ use vg_text::decimal;
 /// A request, with the names of its files in the order in which they are read.
 #[derive(Clone, Copy)]
 pub enum Request<'a> {
-    /// The program text of a kernel, with `guard` its guarded text, of a loop its looped text.
+    /// The program text of a kernel, with `guard` its guarded text; of a loop its looped text, with
+    /// `guard` and more plans its guarded loop.
     Compile {
         instructions: &'a str,
         kernel: &'a str,
         options: Options,
         guard: bool,
     },
-    /// The memory that a program, a guarded or a looped text leaves, its parameters bound by words.
+    /// The memory that a program, a guarded or a looped text or a guarded loop leaves, its parameters
+    /// bound by words.
     Run {
         instructions: &'a str,
         program: &'a str,
