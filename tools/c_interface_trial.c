@@ -65,7 +65,7 @@ static void tell(uint32_t status, const struct bytes *out)
 {
     printf("%" PRIu32 " %zu %" PRIu32 " %" PRIu32 " %" PRIu32 "\n", status, report.count, report.number, report.line,
            report.column);
-    if (status == VEGEN_OK || status == VEGEN_DIFFERS)
+    if ((status == VEGEN_OK || status == VEGEN_DIFFERS) && report.count > 0)
         fwrite(out->at, 1, report.count, stdout);
     fflush(stdout);
 }

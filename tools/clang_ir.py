@@ -1,5 +1,7 @@
 """C as LLVM's textual IR, by clang and opt: few passes, which leave a function near its C and as one block, or those of -O2."""
-import os, re, shutil, subprocess
+import functools, os, re, shutil, subprocess
+
+from time_limit import TooLong, limited
 
 VERSIONS = [''] + [f'-{n}' for n in range(25, 13, -1)]
 SEARCHED = '/usr/lib/llvm-{}/bin/{}'
@@ -39,6 +41,7 @@ def programs(name):
     return {version: path for version, path in found.items() if version >= 14}
 
 
+@functools.cache
 def both_programs():
     """clang and opt of one version of LLVM, 14 or later."""
     clangs, opts = programs('clang'), programs('opt')
@@ -56,11 +59,11 @@ def all_programs():
 
 
 def output(words, given=None, seconds=120):
-    """What a program writes; its first line of error where it fails."""
+    """What a program writes in so many seconds of the processor; its first line of error where it fails."""
     try:
-        ended = subprocess.run(words, input=given, capture_output=True, text=True, errors='surrogateescape', timeout=seconds)
-    except subprocess.TimeoutExpired:
-        raise Missing(f'{os.path.basename(words[0])} took more than {seconds} seconds')
+        ended = limited(words, seconds, input=given, capture_output=True, text=True, errors='surrogateescape')
+    except TooLong as fault:
+        raise Missing(str(fault))
     except OSError as fault:
         raise Missing(f'{words[0]}: {fault.strerror}')
     if ended.returncode:

@@ -7,6 +7,7 @@ import kernel_trial
 import machine_code
 from layouts import Kernel, random_memory, run_vegen
 from levelling import Levelled
+from time_limit import TooLong, limited
 from machine import Machine, Refused
 from machine_bytes import library_of
 from words import ROOT
@@ -91,11 +92,11 @@ def linked(compiler, target, shared):
 
 def run(words):
     try:
-        ended = subprocess.run(words, capture_output=True, text=True, errors='replace', stdin=subprocess.DEVNULL, timeout=SECONDS)
+        ended = limited(words, SECONDS, capture_output=True, text=True, errors='replace', stdin=subprocess.DEVNULL)
     except OSError as fault:
         raise Fault(f'{words[0]}: {fault.strerror}')
-    except subprocess.TimeoutExpired:
-        raise Fault(f'{os.path.basename(words[0])} took more than {SECONDS} seconds')
+    except TooLong as fault:
+        raise Fault(str(fault))
     if ended.returncode:
         lines = [line for line in ended.stderr.split('\n') if 'error' in line or 'undefined' in line] or ended.stderr.split('\n')
         raise Fault(f'{os.path.basename(words[0])} ended with {ended.returncode}: {lines[0][:300]}')
@@ -154,7 +155,12 @@ class Trial:
         self.path, self.function, self.command, self.vegen, self.folder = path, function, command, vegen, folder
         self.memories, self.seed, self.library = memories, seed, library_of(LIBRARY)
         self.kernels = kernels_of(path, function, shared_words(command[1:]), passes, both)
-        self.program, self.form, self.kernel = None, FORMS[0], self.kernels[0][0]
+        self.program, self.form, self.kernel, self.runs = None, FORMS[0], self.kernels[0][0], None
+
+    def of(self, command):
+        """The trial with another command, whose C means the same."""
+        self.command, self.program, self.form, self.kernel = command, None, FORMS[0], self.kernels[0][0]
+        return self
 
     def verdict(self):
         """Compiles, runs and compares."""
@@ -162,8 +168,7 @@ class Trial:
         return self.of_objects(target, shared)
 
     def of_objects(self, target, shared):
-        text, made = self.kernels[0]
-        runs = Runs(made, text, self.seed, self.memories, self.vegen, self.folder)
+        runs = self.runs_of_kernel()
         try:
             left = runs.left(shared)
         except kernel_trial.Failed as failed:
@@ -190,6 +195,14 @@ class Trial:
         return Machine(code, self.function, Kernel(self.function, kernel), self.library, form, self.extended()).run()
 
     # Runs
+
+    def runs_of_kernel(self):
+        """The memories with what the kernel leaves of them, all of which count."""
+        if self.runs is None:
+            text, made = self.kernels[0]
+            self.runs = Runs(made, text, self.seed, self.memories, self.vegen, self.folder)
+        self.runs.out = set()
+        return self.runs
 
     def wrong(self, runs, left):
         """The verdict where machine code leaves another memory than the kernel, and C says what it has to leave."""
@@ -273,9 +286,8 @@ class Trial:
             with open(os.path.join(self.folder, name), 'w') as file:
                 file.write(text)
         try:
-            ended = subprocess.run([self.vegen, 'check', 'entries', 'kernel', 'program'], cwd=self.folder, capture_output=True,
-                                   text=True, timeout=SECONDS)
-        except subprocess.TimeoutExpired:
+            ended = limited([self.vegen, 'check', 'entries', 'kernel', 'program'], SECONDS, cwd=self.folder, capture_output=True, text=True)
+        except TooLong:
             return 'differs', f'differs: check took more than {SECONDS} seconds', kernel, program
         if ended.returncode == 0:
             word = 'same, levelled' if levelling else 'same'

@@ -1,11 +1,11 @@
 """What tools/from-ir and tools/from-c share: their words, and a function of a text of IR as a kernel."""
-import os, re, sys
+import re, sys
 
 import kernel_trial
 import llvm_ir as ir
 from llvm_kernel import Refusal, Translation
 from llvm_loop import LoopTranslation
-from words import Words
+from words import Words, built_program, number, program
 
 sys.setrecursionlimit(20000)
 
@@ -22,9 +22,9 @@ def reader_of(page, file):
     for option in ('--rows', '--loop', '--noalias', '--both'):
         reader.add_argument(option, action='store_true')
     reader.add_argument('--stride', metavar='NAME=N', action='append', default=[])
-    reader.add_argument('--try', metavar='N', type=int, default=0, dest='tries')
-    reader.add_argument('--vegen', metavar='BINARY')
-    reader.add_argument('--seed', metavar='S', type=int, default=1)
+    reader.add_argument('--try', metavar='N', type=number, default=0, dest='tries')
+    reader.add_argument('--vegen', metavar='BINARY', type=program)
+    reader.add_argument('--seed', metavar='S', type=number, default=1)
     return reader
 
 
@@ -32,10 +32,10 @@ def strides(words):
     """The numbers of `NAME=N` words, by name."""
     found = {}
     for word in words:
-        name, sign, number = word.partition('=')
-        if not sign or not re.fullmatch(r'-?\d{1,20}', number):
+        name, sign, digits = word.partition('=')
+        if not sign or not re.fullmatch(r'-?\d{1,20}', digits):
             raise Fault(f'--stride {word}: NAME=N with a number N is wanted')
-        found[name] = int(number)
+        found[name] = int(digits)
     return found
 
 
@@ -74,15 +74,10 @@ def written(text, path, words, fixed, notes):
 
 def vegen_path(given):
     """Where vegen is: as given, where the repository builds it, or on the PATH."""
-    if given:
-        return os.path.abspath(given)
-    built = os.path.join(os.path.dirname(os.path.abspath(__file__)), '..', 'crates', 'vegen', 'out', 'vegen')
-    if os.path.exists(built):
-        return os.path.normpath(built)
-    for folder in os.environ.get('PATH', '').split(os.pathsep):
-        if os.access(os.path.join(folder, 'vegen'), os.X_OK):
-            return os.path.join(folder, 'vegen')
-    raise Fault('--try: no vegen is built or on the PATH; name it with --vegen BINARY')
+    found = given or built_program()
+    if not found:
+        raise Fault('no vegen is built or on the PATH: (cd crates/vegen && rt run), or --vegen BINARY')
+    return found
 
 
 def beside(tool, words, text, made, source, programs):

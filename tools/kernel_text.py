@@ -4,10 +4,13 @@ It reads what `vegen` accepts (docs/kernel.md) and judges little: a text goes th
 `('name', NAME)`, `('number', VALUE, WIDTH)`, `('load', WIDTH, POINTER, OFFSET)`, `('two', SIGN, X, Y)` with a sign of `+ - * & ^ |`, and
 `('call', FUNCTION, X, ..)`, whose last part is the number of places of a shift.
 """
-import re
+import re, sys
 
 SIGNS = ['|', '^', '&', '+-', '*']
 WORD = re.compile(rb'\s+|//[^\n]*|(\d+(?:i(?:8|16|32|64))?|[A-Za-z_]\w*|[^\s])', re.ASCII)
+
+# 256 nodes below each other, which a kernel may have, take eight calls each.
+sys.setrecursionlimit(max(8000, sys.getrecursionlimit()))
 
 
 class Statement:
@@ -112,7 +115,7 @@ class Reader:
         return Kernel(word, name, parameters, ''.join(f' {part}' for part in behind).replace(' ,', ','), statements)
 
     def statement(self):
-        line, word = self.words[self.at][1], self.take()
+        line, word = self.words[min(self.at, len(self.words) - 1)][1], self.take()
         if re.fullmatch(r'store(8|16|32|64)', word):
             self.take('(')
             pointer, offset = self.place()
@@ -172,7 +175,10 @@ class Reader:
 
 def read_kernel(text):
     """The kernel or loop of a text in bytes. ValueError where it is none."""
-    return Reader(text).kernel()
+    try:
+        return Reader(text).kernel()
+    except RecursionError:
+        raise ValueError('an expression is too deep') from None
 
 
 def changed(tree, change):

@@ -1,12 +1,10 @@
 """Runs a kernel beside the function that it was made of: `vegen eval`, and the compiled function in a process of its own."""
 import concurrent.futures, ctypes, json, os, random, re, subprocess, sys, tempfile
 
-if __name__ == '__main__':
-    sys.dont_write_bytecode = True
 import llvm_ir as ir
 from layouts import random_memory, run_vegen
 
-MARGIN, MARK = 256, 0xA5
+CALLER = os.path.join(os.path.dirname(os.path.abspath(__file__)), 'call_function.py')
 DRAWS, LONGEST_STRIDE, MOST_TURNS, EACH = 60, 160, 20, 10
 DROPPED = re.compile(r'(?<= )(?:nsw|nuw|exact|nneg|disjoint|samesign|inbounds|nusw) '
                      r'|, !(?:tbaa|range|noundef|nonnull|alias\.scope|noalias) !\d+')
@@ -191,7 +189,7 @@ class Trial:
             for layout, memory in zip(layouts, memories):
                 print(json.dumps([self.arguments(layout), layout.bound.get('ret'), memory.hex()]), file=file)
         with open(path) as file:
-            ended = subprocess.run([sys.executable, os.path.abspath(__file__)], stdin=file, capture_output=True, text=True)
+            ended = subprocess.run([sys.executable, '-I', '-S', CALLER], stdin=file, capture_output=True, text=True)
         left = [bytes.fromhex(line) if line != '-' else None for line in ended.stdout.split('\n')[:-1]]
         if ended.returncode or len(left) != len(layouts):
             raise Failed(f'the compiled function ended with {ended.returncode} on memory {len(left)}: {ended.stderr[-300:].strip()}')
@@ -241,40 +239,8 @@ def meet(one, two):
     return one[0] < two[1] and two[0] < one[1]
 
 
-def call_all():
-    """The process of the compiled function: its calls stand on standard input, what they leave goes to standard output."""
-    shared, name, kinds, result = json.loads(sys.stdin.readline())
-    function = getattr(ctypes.CDLL(shared), name)
-    integers = {'u8': ctypes.c_uint8, 'u16': ctypes.c_uint16, 'u32': ctypes.c_uint32, 'u64': ctypes.c_uint64, 's8': ctypes.c_int8,
-                's16': ctypes.c_int16, 's32': ctypes.c_int32, 's64': ctypes.c_int64}
-    function.argtypes = [ctypes.c_void_p if kind == 'ptr' else integers[kind] for kind in kinds]
-    function.restype = integers[f'u{max(8, result)}'] if result else None
-    for line in sys.stdin:
-        arguments, place, memory = json.loads(line)
-        memory = bytes.fromhex(memory)
-        held = ctypes.create_string_buffer(len(memory) + 2 * MARGIN + 64)
-        begin = MARGIN + -(ctypes.addressof(held) + MARGIN) % 64
-        guard = bytes([MARK]) * begin, bytes([MARK]) * (len(held) - begin - len(memory))
-        held.raw = guard[0] + memory + guard[1]
-        given = [ctypes.addressof(held) + begin + n if kind == 'ptr' else n for kind, n in zip(kinds, arguments)]
-        found = function(*given)
-        left = bytearray(held.raw)
-        if left[:begin] != guard[0] or left[begin + len(memory):] != guard[1]:
-            print('-', flush=True)
-            continue
-        left = left[begin:begin + len(memory)]
-        if result:
-            found = found & 1 if result == 1 else found
-            left[place:place + max(1, result // 8)] = found.to_bytes(max(1, result // 8), 'little')
-        print(left.hex(), flush=True)
-
-
 def trial(made, text, source, clang, opt, vegen, count, seed):
     """Lines on what differs, and how many of the layouts had pointers that met. `source` is IR of the function."""
     with tempfile.TemporaryDirectory() as folder:
         shared = shared_object(source, made.function.name, clang, opt, folder)
         return Trial(made, text, seed).run(count, vegen, shared, folder)
-
-
-if __name__ == '__main__':
-    call_all()

@@ -27,6 +27,14 @@ class Kernel:
         low, high = self.reach.get(word, (0, 0))
         return low, high + self.steps.get(word, 0) * max(turns - 1, 0)
 
+    def turns(self, text, rng):
+        """A number of turns about the blocks of a text of a loop; 1 of a kernel."""
+        if not self.times:
+            return 1
+        block = int(re.search(r'block (\d+)$', text.split('\n')[0])[1])
+        most = min(80, 2**int(dict((w, k) for w, k, _ in self.parameters)[self.times][1:]) - 1)
+        return min(most, rng.choice([0, 1, block - 1, block, block + 1, 3 * block + 2, rng.randrange(81)]))
+
     def layout(self, rng, aligned, turns=1):
         """Places that respect noalias in so many turns, and the size of the memory; with `aligned` no two pointers meet, and all are
         multiples of 64."""

@@ -291,7 +291,7 @@ class Translation(Arithmetic, Calls):
         label, before, seen = next(iter(self.function.blocks), None), None, set()
         while label is not None:
             if label in seen:
-                self.refuse('branch', 'a loop without an end')
+                self.refuse('branch', 'a loop whose turns are not written out')
             seen.add(label)
             label, before = self.block(label, before, seen), label
         return self

@@ -26,7 +26,7 @@ class LoopTranslation(Translation):
 
     def __init__(self, *words, **more):
         super().__init__(*words, **more)
-        self.count, self.guard, self.counters, self.written = None, None, [], {}
+        self.counted_by, self.guard, self.counters, self.written = None, None, [], {}
 
     def run(self):
         turn = self.turn_label()
@@ -126,7 +126,7 @@ class LoopTranslation(Translation):
             else:
                 self.step(at)
         self.instruction = block[-1]
-        self.count = self.counted(block[-1].parts, label)
+        self.counted_by = self.counted(block[-1].parts, label)
         return block[-1].parts
 
     def carried(self, at, label, before, block):
@@ -260,7 +260,7 @@ class LoopTranslation(Translation):
             if at.parts['condition']:
                 self.refuse('branch', f'on data, {where}')
             label = at.parts['to'][0]
-        self.refuse('branch', f'a loop without an end, {where}')
+        self.refuse('branch', f'a loop whose turns are not written out, {where}')
 
     def check_early(self, early):
         """What is read before the loop is read anew in each turn, so that no turn may write it."""
@@ -314,13 +314,13 @@ class LoopTranslation(Translation):
                 self.refuse('carried value', 'the number of the turn as data')
 
     def is_wanted(self, name):
-        return not self.rows or name == self.count
+        return not self.rows or name == self.counted_by
 
     def times(self):
-        return self.count
+        return self.counted_by
 
     def notes(self):
-        signed = [f'{self.count} is read without a sign; of one below 0 the function makes no turn'] if self.guard[1] else []
+        signed = [f'{self.counted_by} is read without a sign; of one below 0 the function makes no turn'] if self.guard[1] else []
         return super().notes() + signed
 
 

@@ -366,6 +366,10 @@ class Writer:
             if self.form == 'bytes':
                 name = f'seq_swap_epi{swapped}_bytes' + ('_256' if len(refs) == 32 else '')
             return self.call(name, sources, 8 * len(refs), swapped)
+        shift = self.lane_shift(refs, sources[0]) if len(sources) == 1 and self.form != 'bytes' else None
+        if shift:
+            name = f'{"_mm256" if len(refs) == 32 else "_mm"}_{shift[0]}_epi{sources[0].lanes}'
+            return self.call(name, sources, 8 * len(refs), sources[0].lanes, shift[1])
         lanes = self.lanes_of(refs)
         body = '\n'.join(self.moves(refs, lanes, dict(zip(sources, 'abcd'))))
         zeros = frozenset(k for k, ref in enumerate(refs) if is_zero(ref))
@@ -378,6 +382,18 @@ class Writer:
             if all(isinstance(ref, Part) and ref.at == k - k % size + size - 1 - k % size for k, ref in enumerate(refs)):
                 return 8 * size
         return 0
+
+    @staticmethod
+    def lane_shift(refs, row):
+        """The name and the bits of a shift by whole bytes of the lanes that made a row, which gives these bytes; None where none does."""
+        size = row.lanes // 8
+        if row.width != 8 * len(refs):
+            return None
+        for many in range(1, size):
+            for name, by in (('srli', many), ('slli', -many)):
+                if refs == [Part(row, k + by) if 0 <= k % size + by < size else 0 for k in range(len(refs))]:
+                    return name, 8 * many
+        return None
 
     @staticmethod
     def lanes_of(refs):

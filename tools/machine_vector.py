@@ -1,7 +1,7 @@
 """What vector instructions do to the state of a machine: bytes are moved, and lanes are computed by entries of the library."""
 import re
 
-from machine_bytes import ELEMENTS, SUMS, Part, Row, is_zero, number_of, padded, row_with, signed
+from machine_bytes import ELEMENTS, SUMS, Part, Row, Unknown, is_zero, number_of, padded, row_with, signed
 from machine_code import Memory, Number, Refused, Register, Vector
 
 BITS = {'b': 8, 'w': 16, 'd': 32, 'q': 64}
@@ -34,6 +34,14 @@ def table():
 TABLE = table()
 BROADCAST = {'vpbroadcastb': 1, 'vpbroadcastw': 2, 'vpbroadcastd': 4, 'vpbroadcastq': 8, 'vbroadcasti128': 16, 'vbroadcastf128': 16,
              'vbroadcastss': 4, 'vbroadcastsd': 8}
+
+
+def parts_by(name, refs):
+    """The operands of the bitwise operation that made bytes, in both orders; none where another made them."""
+    row = row_with(refs)
+    if row and row.made and row.made[:2] == ('bits', name):
+        a, b = map(list, row.made[2:])
+        yield from ((a, b), (b, a))
 
 
 class Vectors:
@@ -172,7 +180,8 @@ class Vectors:
             half = size // 2
             both = [self.pack_dwords(part, size, sign) for part in (lanes[:half] * 2, lanes[half:] * 2)]
             return both[0][:half] + both[1][:half]
-        body = '\n'.join(f' dst.byte[{k}] := Saturate{sign.upper()}8({names[refs]}.dword[{lane}])' for k, (refs, lane) in enumerate(lanes))
+        word = 'SaturateU8' if sign == 'u' else 'Saturate8'
+        body = '\n'.join(f' dst.byte[{k}] := {word}({names[refs]}.dword[{lane}])' for k, (refs, lane) in enumerate(lanes))
         rows = [self.writer.register(list(refs)) for refs in sources]
         return self.writer.own('packs', rows, 8 * size, 8, body, ['SI32'] * len(rows)).parts()
 
@@ -266,10 +275,27 @@ class Vectors:
         found = self.by_choice(name, a, b)
         if found is not None:
             return found
+        merged = self.merged(a, b) or self.merged(b, a) if name == 'xor' and self.writer.form != SUMS else None
+        if merged:
+            yes, no, mask = merged
+            return self.bits('or', self.bits('and', yes, mask), self.bits('andn', mask, no))
+        return self.bits(name, a, b)
+
+    def bits(self, name, a, b):
+        """The call of an entry for a bitwise operation."""
         lanes = min([ref.of.lanes for ref in a + b if isinstance(ref, Part) and isinstance(ref.of, Row)] or [8])
         word = {'andn': 'andnot'}.get(name, name) + ('_si256' if len(a) == 32 else '_si128') + ('' if lanes == 64 else f'_e{lanes}')
         zeros = frozenset(k for k, (x, y) in enumerate(zip(a, b)) if self.zero_of(name, x, y))
-        return self.entry(word, [a, b], lanes, zeros=zeros)
+        return self.entry(word, [a, b], lanes, zeros=zeros, made=('bits', name, tuple(a), tuple(b)))
+
+    @staticmethod
+    def merged(a, b):
+        """Of `a ^ (mask & (a ^ c))`, which has the bits of c where the mask has ones, and else those of a: c, a and the mask; else None."""
+        for mask, both in parts_by('and', b):
+            for one, other in parts_by('xor', both):
+                if one == a:
+                    return other, a, mask
+        return None
 
     @staticmethod
     def zero_of(name, x, y):
@@ -282,10 +308,8 @@ class Vectors:
         """What an operation gives of two bytes without a line, or None."""
         if isinstance(x, int) and isinstance(y, int):
             return {'and': x & y, 'or': x | y, 'xor': x ^ y, 'andn': ~x & 255 & y}[name]
-        if x == y and name in ('and', 'or'):
-            return x
         if x == y:
-            return 0
+            return x if name in ('and', 'or') or isinstance(x, Part) and isinstance(x.of, Unknown) else 0
         if name == 'andn':
             return 0 if x == 255 or is_zero(y) else y if is_zero(x) else None
         for one, other in ((x, y), (y, x)):

@@ -1,4 +1,5 @@
-"""Program texts taken apart: plain, guarded and looped ones, each into its first line, its checks and its bodies (docs/program.md)."""
+"""Program texts taken apart: plain ones, guarded ones, looped ones and guarded loops, each into its first line, its checks and its bodies
+(docs/program.md)."""
 import re
 
 # What stands after the first line of a text of each kind, in its order: the lines of `checks`; a body by what it is, after a line with
@@ -7,6 +8,7 @@ FORMS = {
     'program': ('body',),
     'guarded': ('checks', 'then:', 'else:', 'end checks'),
     'looped': ('block', 'rest:', 'end looped'),
+    'guardedloop': ('checks', 'then:', 'else:', 'end checks', 'rest:', 'end looped'),
 }
 HEAD = re.compile(r'(\w+) (\w+)\((.*?)\)(?: times (\w+) step (.+) block (\d+))?$')
 CHECK = re.compile(r'check disjoint (\w+)([+-]\d+) (\d+) (\w+)([+-]\d+) (\d+)$')

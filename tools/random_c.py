@@ -69,7 +69,7 @@ class Maker:
         if kind == 10:
             return f'(({self.condition(depth - 1)}) + {inner()})'
         if kind == 11:
-            return f'(-{inner()})' if rng.random() < 0.5 else f'(~{inner()})'
+            return f'(- {inner()})' if rng.random() < 0.5 else f'(~{inner()})'
         if kind == 12:
             of, k = rng.choice(['uint32_t', 'uint64_t', 'uint16_t']), rng.randrange(1, 15)
             width, one = {'uint32_t': 32, 'uint64_t': 64, 'uint16_t': 16}[of], self.leaf()

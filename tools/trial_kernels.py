@@ -1,4 +1,4 @@
-"""The texts of the kernels of trials, as crates/vg_trial/specs/Trial.antt says them, and of kernels at random."""
+"""The texts of the kernels of trials, as crates/vg_trial/specs/Trial.antt says them, and of loops and kernels at random."""
 import random
 
 WORDS = {'Sums': 4, 'Products': 4, 'Clamped': 8, 'Averages': 16, 'Pairs': 4}
@@ -27,6 +27,21 @@ def trial_kernel(n):
         shape = list(WORDS)[(n // 40 + k) % 5]
         lines += [trial_statement(shape, k, i) for i in range(WORDS[shape])]
     return 'kernel trial(d: noalias ptr, p: ptr, q: ptr) {\n' + '\n'.join(lines) + '\n}\n'
+
+
+def random_loop(rng):
+    """A loop of one statement on numbers at steps of their own, of pointers that may meet or may not."""
+    width, alone, counter = rng.choice([8, 16, 32]), rng.choice(['noalias ', 'noalias ', '']), rng.choice([8, 16, 32, 64])
+    size, value = width // 8, f'load{width}(p + 0)'
+    steps = {'d': size * rng.choice([1, 1, 1, 2]), 'p': size * rng.choice([1, 1, 1, 2, 3]), 'q': size * rng.choice([0, 1, 1])}
+    for _ in range(rng.randrange(3)):
+        other = rng.choice([f'load{width}({place})' for place in ('q + 0', f'p + {size}', f'd - {size}')]
+                           + ['k', f'{rng.getrandbits(width)}i{width}'])
+        sign = rng.choice(['+', '-', '&', '|', '^', 'smin', 'umax', 'smax'])
+        value = f'({value} {sign} {other})' if len(sign) == 1 else f'{sign}({value}, {other})'
+    moved = ', '.join(f'{pointer} {step}' for pointer, step in steps.items() if step)
+    head = f'loop looped(d: {alone}ptr, p: ptr, q: ptr, k: i{width}, n: i{counter}) times n step {moved}'
+    return head + f' {{\n  store{width}(d + 0, {value});\n}}\n'
 
 
 class Mixed:

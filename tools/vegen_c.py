@@ -45,8 +45,16 @@ class Entry:
 
 def read_entries(path):
     """The headers of an instruction file that vegen accepts, by name, in the order of the file."""
-    with open(path) as file:
+    with open(path, encoding='latin-1') as file:
         words = re.sub(r'//[^\n]*', '', file.read()).split()
+    try:
+        return headers(words)
+    except (IndexError, ValueError):
+        raise Fault(f'{path}: no instruction file that vegen accepts') from None
+
+
+def headers(words):
+    """The headers of the entries of these words."""
     entries, at = {}, 0
     while at < len(words):
         if words[at] != 'INSTRUCTION':
@@ -338,8 +346,12 @@ class Function:
                   64: f'_mm512_storeu_si512((void *)({place}), {register});'}[size])
 
 
+# What a text of each kind is called.
+KINDS = {'program': 'program', 'guarded': 'guarded text', 'looped': 'looped text', 'guardedloop': 'guarded loop'}
+
+
 class Translation:
-    """The C of a text that `vegen run` accepts, plain, guarded or looped. With the kernel of the text (layouts.Kernel) pointers that it
+    """The C of a text that `vegen run` accepts: plain, guarded, looped or a guarded loop. With the kernel of the text (layouts.Kernel) pointers that it
     says are noalias are `restrict`; with avx512vnni its VNNI instructions are those of AVX-512VL."""
 
     def __init__(self, text, entries, calls, name=None, kernel=None, avx512vnni=False):
@@ -390,22 +402,24 @@ class Translation:
         head = f'static inline void {self.name}_{name}({self.parameters(alone)})'
         return self.of_body(head, self.functions[name].lines, self.functions[name]) + '\n'
 
+    def moved(self, word, turn):
+        """A parameter; a pointer is moved on by so many turns."""
+        c, step = self.names[word], self.source.steps.get(word) if turn else None
+        return c if step is None else f'{c} + {turn}' if step == 1 else f'{c} + {step} * {turn}'
+
     def call_of(self, part, turn=None):
         """The call of a body's function, its pointers moved on by so many turns."""
-        def argument(word, c):
-            step = self.source.steps.get(word) if turn else None
-            return c if step is None else f'{c} + {turn}' if step == 1 else f'{c} + {step} * {turn}'
-        return f'{self.name}_{part}({", ".join(argument(word, c) for _, word, c in self.signature)});'
+        return f'{self.name}_{part}({", ".join(self.moved(word, turn) for _, word, _ in self.signature)});'
 
     def chosen(self, turn=None):
-        """What is done once, or for each block: the body, or that side of it which the checks choose."""
+        """What is done once, or for each block: the body, or that side of it which the checks choose at its places."""
         if 'then' not in self.functions:
             return [self.call_of('block', turn)]
         if 'else' not in self.functions:
             return [self.call_of('then', turn)]
         tests = []
         for p, n, size, q, m, other in self.source.checks:
-            p, q = self.names[p], self.names[q]
+            p, q = self.moved(p, turn), self.moved(q, turn)
             tests.append(f'vegen_after({p}, {q}, {n + size - m}) || vegen_after({q}, {p}, {m + other - n})')
         tests = f'({") && (".join(tests)})' if len(tests) > 1 else tests[0]
         self.helper('vegen_after', AFTER)
@@ -433,7 +447,7 @@ class Translation:
 
     def remark(self):
         costs = ', '.join(f'{part}: {body.end}' if self.kind != 'program' else body.end for part, body in self.source.bodies.items())
-        return f'/* The {"program" if self.kind == "program" else self.kind + " text"} `{self.program}` ({costs}), made by tools/to-c. */\n'
+        return f'/* The {KINDS[self.kind]} `{self.program}` ({costs}), made by tools/to-c. */\n'
 
     def text(self):
         above, function = self.function()

@@ -324,8 +324,8 @@ class Why:
                                    - {row.pointer}))
         what = f'a store through {row.pointer} may change what is loaded{" through " + through if through else ""} behind it'
         helps = f'`{", ".join(f"{name}: noalias ptr" for name in alone)}` promises that it does not'
-        guard = '' if self.kernel.is_loop() else '; where callers cannot, `compile --guard` asks at each call'
-        return f'{what}: {helps}{guard}'
+        guard = '`compile --guard --more` asks before each block' if self.kernel.is_loop() else '`compile --guard` asks at each call'
+        return f'{what}: {helps}; where callers cannot, {guard}'
 
     def structure(self, row):
         """What stands against a pack where no mending was found."""

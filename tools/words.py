@@ -20,7 +20,7 @@ class Words(argparse.ArgumentParser):
         return self.text.strip() + '\n'
 
     def error(self, message):
-        self.exit(2, f'{self.prog}: {message} (--help tells more)\n')
+        self.exit(2, f'{self.prog}: {one_line(message)} (--help tells more)\n')
 
     def numbers(self, **defaults):
         """Options that take a number from 1 on, by the words and what they are where none is given."""
@@ -35,6 +35,11 @@ class Words(argparse.ArgumentParser):
         except ImportError:
             pass
         return self.parse_args(words)
+
+
+def one_line(text):
+    """A text in which what cannot be printed, an end of a line among it, stands as its escape."""
+    return ''.join(sign if sign.isprintable() else sign.encode('unicode_escape').decode() for sign in text)
 
 
 def number(word):

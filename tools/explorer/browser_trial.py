@@ -9,7 +9,7 @@ from selenium.webdriver.common.by import By
 from selenium.webdriver.common.keys import Keys
 from selenium.webdriver.support.ui import Select
 
-from hostile_trial import KERNEL, ROOT, large_kernel, need
+from hostile_trial import KERNEL, ROOT, endless_kernel, need
 
 WIDE, NARROW = (1024, 900), (400, 900)
 TABS = ('plan', 'kernel', 'program', 'c', 'assembly')
@@ -186,7 +186,7 @@ class Page:
         self.agrees('--more', '--guard')
         self.wait_run(lambda: self.one('#more').click())
         self.wait_run(lambda: self.one('#guard').click())
-        self.wait_run(lambda: Select(self.one('#library')).select_by_visible_text('sse'))
+        self.wait_run(lambda: Select(self.one('#library')).select_by_visible_text('avx2'))
         self.agrees()
         self.wait_run(lambda: self.one('#width').send_keys('4' + Keys.TAB))
         self.agrees('--width', '4')
@@ -195,10 +195,11 @@ class Page:
         self.agrees('--width', '4', '--with', 'SSE2')
         self.wait_run(lambda: self.one('#width').send_keys(Keys.BACKSPACE + 'x' + Keys.TAB))
         need(any('no number from 1 to 4096' in fault for fault in self.faults()), 'a wrong width is not told')
-        self.one('#width').send_keys(Keys.BACKSPACE)
+        self.wait_run(lambda: self.one('#width').send_keys(Keys.BACKSPACE + Keys.TAB))
         self.wait_run(lambda: self.one('#extensions input[value=SSE2]').click())
+        self.agrees()
         self.one('#extensions summary').click()
-        self.wait_run(lambda: Select(self.one('#library')).select_by_visible_text('avx2'))
+        self.wait_run(lambda: Select(self.one('#library')).select_by_visible_text('avx512'))
         self.choose('copy_loop.kernel')
         need(self.text('program').startswith('looped '), 'no looped text')
         self.agrees()
@@ -255,7 +256,7 @@ class Page:
         Select(self.one('#library')).select_by_visible_text('avx512')
         self.one('#width').send_keys('4096')
         self.one('#more').click()
-        self.typed(large_kernel(60))
+        self.typed(endless_kernel())
         self.wait('a search that goes on', lambda: re.search(r'It goes on: .*search \d+ s', self.status()))
         need(self.server.left(), 'the run has no folder')
         self.picture('goes-on')
@@ -335,10 +336,10 @@ class Page:
                 marked = [int(one.get_attribute('data-n')) for one in self.all('#editor .line.marked')]
                 need(marked and marked[0] == lines[0] and marked[-1] == lines[-1], f'{name}: {marked} are marked for {lines}')
                 need(self.all('#picture .of-line'), f'{name}: no box is marked')
-        self.choose('dot_i16.c')
+        self.choose('luma_planes.c')
         self.one('#stories button').click()
         marked = [one.get_attribute('textContent').strip() for one in self.all('#editor .line.marked')]
-        need(marked == ['d[i] = p[2 * i] * q[2 * i] + p[2 * i + 1] * q[2 * i + 1];'], f'marked in the C: {marked}')
+        need(marked == ['d[i] = (uint16_t)(b[i] * 25u + r[i] * 66u + g[i] * 129u + 128) >> 8;'], f'marked in the C: {marked}')
 
     def try_saved(self):
         self.choose('wide_sums.kernel')

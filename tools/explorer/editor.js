@@ -7,7 +7,7 @@ const KERNEL = any(/\/\/.*/, /\b(?:kernel|loop|ptr|noalias|times|step|i8|i16|i32
 const C = any(/\/\/.*/, /\/\*.*?(?:\*\/|$)/, /^\s*#.*/, /\b(?:void|int|char|short|long|unsigned|signed|const|restrict|static|inline)\b/,
   /\b(?:for|if|else|while|return|struct|typedef|sizeof|do|switch|case|break|size_t|u?int\d+_t|__m\d+i)\b/, /\b(?:0x[0-9a-fA-F]+|\d+)\w*\b/,
   /"(?:\\.|[^"\\])*"/);
-const PROGRAM = any(/\b(?:program|guarded|looped|call|load|store|vload|vstore|const|insert|extract|imm|check|disjoint)\b/,
+const PROGRAM = any(/\b(?:program|guarded|looped|guardedloop|call|load|store|vload|vstore|const|insert|extract|imm|check|disjoint)\b/,
   /\b(?:then|else|rest|end|cost|scalar|checks)\b/, /_mm\w+/, /%[vs]\d+/, /\b\d+(?:i\d+)?\b/);
 const ASSEMBLY = any(/^\s+[a-z]\w*/, /\b(?:[xyz]mm\d+|[re]?[abcd]x|[re]?[sd]i|[re]?[sb]p|r\d+[dwb]?)\b/, /\b\d+\b/, /^\.\w+:/);
 const WORDS = { kernel: KERNEL, c: C, program: PROGRAM, assembly: ASSEMBLY };

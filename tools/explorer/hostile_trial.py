@@ -200,7 +200,7 @@ class Hostile:
 
     def search_without_end(self):
         """The widest search of many units is ended by its limit."""
-        parts, _ = self.server.run(text=large_kernel(60), library='avx512', width=4096, more=True)
+        parts, _ = self.server.run(text=endless_kernel(), library='avx512', width=4096, more=True)
         told = [part for part in parts if part['part'] == 'ended']
         need(any(part['of'].startswith('search') and part['limit'] == 'time' for part in told), f'not ended by its limit: {messages(parts)}')
         need(any(part['part'] == 'goes-on' for part in parts), 'it does not say that it goes on')
@@ -208,7 +208,7 @@ class Hostile:
 
     def run_left(self):
         """A connection that is closed ends its run, and its folder goes."""
-        body = json.dumps({'language': 'kernel', 'text': large_kernel(60), 'library': 'avx512', 'width': 4096, 'more': True}).encode()
+        body = json.dumps({'language': 'kernel', 'text': endless_kernel(), 'library': 'avx512', 'width': 4096, 'more': True}).encode()
         one = socket.create_connection(('127.0.0.1', self.server.port))
         lines = [f'{name}: {value}' for name, value in self.server.headers(Content_Length=str(len(body))).items()]
         one.sendall(('POST /run HTTP/1.1\r\n' + '\r\n'.join(lines) + '\r\n\r\n').encode() + body)
@@ -249,6 +249,13 @@ class Hostile:
 def large_kernel(count):
     lines = [f'  store32(d + {4 * i}, load32(p + {4 * (i * 7 % count)}) + load32(q + {4 * i}) * load32(p + {4 * i}));' for i in range(count)]
     return 'kernel large(d: noalias ptr, p: ptr, q: ptr) {\n' + '\n'.join(lines) + '\n}\n'
+
+
+def endless_kernel():
+    """Loads and stores in turns, by pointers that may meet: the widest search of them takes minutes."""
+    turns = [[4 * (16 * turn + i) for i in range(16)] for turn in range(6)]
+    lines = [line for places in turns for line in [f'  x{at} = load32(p + {at});' for at in places] + [f'  store32(d + {at}, x{at});' for at in places]]
+    return 'kernel endless(d: ptr, p: ptr) {\n' + '\n'.join(lines) + '\n}\n'
 
 
 def trials(server):

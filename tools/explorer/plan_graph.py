@@ -220,8 +220,8 @@ def terms_of(text):
 
 def graph(kernel, program, instances):
     """The graph of the fast body of a text of a program: that of a program, of a block of turns, or behind checks."""
-    body = program.bodies[{'program': 'body', 'guarded': 'then', 'looped': 'block'}[program.kind]]
-    of_kernel = units.Units(kernel, program.block if program.kind == 'looped' else 1)
+    body = program.bodies[{'program': 'body', 'guarded': 'then', 'looped': 'block', 'guardedloop': 'then'}[program.kind]]
+    of_kernel = units.Units(kernel, program.block)
     initial = {}
     of_kernel.run(units.Memory(initial))
     return Graph(of_kernel, registers.Run(body, program.parameters, instances, units.Memory(initial)))
