@@ -35,4 +35,5 @@ pub mod SourceFacts
 pub mod Stands
 pub mod ValuesMade
 pub mod ValuesTyped
+pub mod Widths
 pub mod Words

@@ -23,6 +23,7 @@ use Rattle.vg_rewrite.proofs.Closing.{Asks, if-form}
 use Rattle.vg_rewrite.proofs.Demands.{Allows, AllowsBit, FormAt}
 use Rattle.vg_rewrite.proofs.FormsMade.{form-made, FormedAs, OwnHas, recorded, State}
 use Rattle.vg_rewrite.proofs.Rereading.{Has, has-more}
+use Rattle.vg_rewrite.proofs.Widths.{up-to_8, up-to_16, up-to_32, up-to_64}
 use Rattle.vg_scalar.specs.declared.resize.Resize.TheVariants.{Sext, Zext, Trunc}
 use Rattle.vg_scalar.specs.declared.shift.Shift.{Shift}
 use Rattle.vg_scalar.specs.declared.shift.Shift.TheVariants.{Shl, Lshr, Ashr}
@@ -133,7 +134,7 @@ module _ (ssa : Ssa) (places : List ℕ) (start : Reached) (all : List ℕ) (ask
 
   pub value-made : (g : Narrowing) → State ssa places start all D M g r → length g.made ≡ long → Behind ssa places start all (Below asked v D 128) M long r (make_value spans asked v unit value own g)
   value-made g state l =
-      at-step W64 128 g32 (λ t h. last t) (at-step W32 64 g16 up-to_32 (at-step W16 32 g8 up-to_16 (at-step W8 16 g up-to_8 first)))
+      at-step W64 128 g32 (λ t h. up-to_64 t) (at-step W32 64 g16 up-to_32 (at-step W16 32 g8 up-to_16 (at-step W8 16 g up-to_8 first)))
     where
       g8 : Narrowing
       g8 = make_at spans asked v unit value own W8 g
@@ -159,30 +160,6 @@ module _ (ssa : Ssa) (places : List ℕ) (start : Reached) (all : List ℕ) (ask
         memory = refl;
         long_is = l;
       }
-
-      up-to_8 : (t : Width) → bits_of t < 16 → (bits_of t < 8) ⊎ (t ≡ W8)
-      up-to_8 W8 h = inr refl
-      up-to_8 W16 h = absurd (omega arith)
-      up-to_8 W32 h = absurd (omega arith)
-      up-to_8 W64 h = absurd (omega arith)
-
-      up-to_16 : (t : Width) → bits_of t < 32 → (bits_of t < 16) ⊎ (t ≡ W16)
-      up-to_16 W8 h = inl (omega arith)
-      up-to_16 W16 h = inr refl
-      up-to_16 W32 h = absurd (omega arith)
-      up-to_16 W64 h = absurd (omega arith)
-
-      up-to_32 : (t : Width) → bits_of t < 64 → (bits_of t < 32) ⊎ (t ≡ W32)
-      up-to_32 W8 h = inl (omega arith)
-      up-to_32 W16 h = inl (omega arith)
-      up-to_32 W32 h = inr refl
-      up-to_32 W64 h = absurd (omega arith)
-
-      last : (t : Width) → (bits_of t < 64) ⊎ (t ≡ W64)
-      last W8 = inl (omega arith)
-      last W16 = inl (omega arith)
-      last W32 = inl (omega arith)
-      last W64 = inr refl
 
 -- ---- the forms of a parameter or a load are made of its own
 

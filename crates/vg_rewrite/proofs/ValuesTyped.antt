@@ -21,6 +21,7 @@ use Rattle.vg_rewrite.proofs.FormsTyped.{form-in, OwnIs, recorded, SoFar, State}
 use Rattle.vg_rewrite.proofs.Naturals.{natural-most}
 use Rattle.vg_rewrite.proofs.RepeatedTypes.{in-more, Stores}
 use Rattle.vg_rewrite.proofs.ValuesMade.{Below, NotOwn}
+use Rattle.vg_rewrite.proofs.Widths.{up-to_8, up-to_16, up-to_32, up-to_64}
 use Rattle.vg_scalar.specs.declared.resize.Resize.TheVariants.{Sext, Zext, Trunc}
 use Rattle.vg_shapes.specs.declared.ssa_unit.Operator.TheVariants.{Resize}
 use Rattle.vg_shapes.specs.declared.ssa_unit.SsaUnit.{SsaUnit}
@@ -109,7 +110,7 @@ module _ (count : ℕ) (bits : List (Option ℕ)) (asked : List Asked) (spans : 
 
   pub value-typed : (g : Narrowing) → State count bits D M g → length g.made ≡ long → SoFar bits g ≡ start → Stores g.units ≡ stores → Behind count bits (Below asked v D 128) M long start stores (make_value spans asked v unit value own g)
   value-typed g state l so s =
-      at-step W64 128 g32 (λ t h. last t) (at-step W32 64 g16 up-to_32 (at-step W16 32 g8 up-to_16 (at-step W8 16 g up-to_8 first)))
+      at-step W64 128 g32 (λ t h. up-to_64 t) (at-step W32 64 g16 up-to_32 (at-step W16 32 g8 up-to_16 (at-step W8 16 g up-to_8 first)))
     where
       g8 : Narrowing
       g8 = make_at spans asked v unit value own W8 g
@@ -134,30 +135,6 @@ module _ (count : ℕ) (bits : List (Option ℕ)) (asked : List Asked) (spans : 
         stores_are = s;
         long_is = l;
       }
-
-      up-to_8 : (t : Width) → bits_of t < 16 → (bits_of t < 8) ⊎ (t ≡ W8)
-      up-to_8 W8 h = inr refl
-      up-to_8 W16 h = absurd (omega arith)
-      up-to_8 W32 h = absurd (omega arith)
-      up-to_8 W64 h = absurd (omega arith)
-
-      up-to_16 : (t : Width) → bits_of t < 32 → (bits_of t < 16) ⊎ (t ≡ W16)
-      up-to_16 W8 h = inl (omega arith)
-      up-to_16 W16 h = inr refl
-      up-to_16 W32 h = absurd (omega arith)
-      up-to_16 W64 h = absurd (omega arith)
-
-      up-to_32 : (t : Width) → bits_of t < 64 → (bits_of t < 32) ⊎ (t ≡ W32)
-      up-to_32 W8 h = inl (omega arith)
-      up-to_32 W16 h = inl (omega arith)
-      up-to_32 W32 h = inr refl
-      up-to_32 W64 h = absurd (omega arith)
-
-      last : (t : Width) → (bits_of t < 64) ⊎ (t ≡ W64)
-      last W8 = inl (omega arith)
-      last W16 = inl (omega arith)
-      last W32 = inl (omega arith)
-      last W64 = inr refl
 
 -- ---- a value that is a form of itself has the width
 
