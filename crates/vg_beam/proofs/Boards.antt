@@ -1,5 +1,5 @@
 -- Boards that grow.
-use Rattle.std.proofs.Common.{◌≡◌, ℕ, ◌+◌, ◌<◌, ◌≤◌, true, List, [], ◌∷◌, ◌++◌, length, get_or, refl, sym, ◌∙◌, ap, subst, inl, inr, arith, append-nil, append_assoc, length-append, take, get_or-set_same, get_or-set_other}
+use Rattle.std.proofs.Common.{◌≡◌, ℕ, ◌+◌, ◌<◌, ◌≤◌, true, List, [], ◌∷◌, ◌++◌, map, length, get_or, refl, sym, ◌∙◌, ap, subst, inl, inr, arith, append-nil, append_assoc, length-append, take, get_or-set_same, get_or-set_other}
 use Rattle.std.specs.Prelude.{Option, Some, None, is_some, nat_eq, nat_lt, set}
 use Rattle.std.proofs.lemmas.Bool.{cases_Bool}
 use Rattle.std.proofs.lemmas.Bool.Decides.{nat_tests}
@@ -17,6 +17,7 @@ use Rattle.vg_shapes.specs.Description.{Description}
 use Rattle.vg_beam.specs.declared.pack_table.PackTable.{PackTable}
 use Rattle.vg_beam.specs.PackTable.{AreNumbered, AreProduced, AreTaken, Grows, IsPackTable, IsNumbered, IsOpened, no_pack, numbers_in, pack_at, produced_at, produced_by}
 use Rattle.vg_beam.specs.Key.{AreApart, Names, first_place}
+use Rattle.vg_beam.specs.PackWords.{words_of}
 use Rattle.vg_beam.proofs.Numbers.{apart-push, at-left, names-grow, names-none, names-push, place-end, place-none, place-passes}
 
 pub grows-same : (packs : List Pack) → Grows packs packs
@@ -97,14 +98,16 @@ module _ (ch : Choice) (ds : List Description) (matches : List Match) (ssa : Ssa
   pub number-new : (old new : PackTable) (p : Pack) (os : List Operand) (place : ℕ) → place ≡ first_place (same_pack p) old.packs.items → length old.packs.items ≤ place
       → IsPackTable ch ds matches ssa old → new.packs.items ≡ old.packs.items ++ p ∷ [] → new.produced.items ≡ old.produced.items ++ None ∷ []
       → new.operands.items ≡ old.operands.items ++ os ∷ [] → AreTaken ds matches ssa p os
+      → map (λ k. k.items) new.places.keys ≡ map words_of new.packs.items
       → IsNumbered ch ds matches ssa old new p place
-  number-new old new p os place e l is packs produced operands own =
+  number-new old new p os place e l is packs produced operands own places =
       let k : length old.packs.items ≤ first_place (same_pack p) old.packs.items = subst (λ n. length old.packs.items ≤ n) e l in
       let at_end : place ≡ length old.packs.items = e ∙ place-end (same_pack p) old.packs.items k in
       record {
         pack_table = record {
           apart = subst (AreApart no_pack) (sym packs)
               (apart-push no_pack same_pack pack-itself old.packs.items p (place-none (same_pack p) old.packs.items no_pack k) is.apart);
+          places = places;
           long =
               ap length produced ∙ length-append old.produced.items (None ∷ []) ∙ ap (λ n. n + 1) is.long
               ∙ sym (length-append old.packs.items (p ∷ [])) ∙ ap length (sym packs);
@@ -171,8 +174,8 @@ module _ (ch : Choice) (ds : List Description) (matches : List Match) (ssa : Ssa
   pub open-new : (old mid new : PackTable) (n : ℕ) (packs : List Pack) (numbers : List ℕ) → n < length old.packs.items
       → AreNumbered ch ds matches ssa old mid packs numbers → packs ≡ produced_by ch ds matches ssa (pack_at old.packs.items n)
       → new.packs.items ≡ mid.packs.items → new.produced.items ≡ set mid.produced.items n (Some numbers)
-      → new.operands.items ≡ mid.operands.items → IsOpened ch ds matches ssa old new n
-  open-new old mid new n packs numbers l are e same produced operands =
+      → new.operands.items ≡ mid.operands.items → new.places.keys ≡ mid.places.keys → IsOpened ch ds matches ssa old new n
+  open-new old mid new n packs numbers l are e same produced operands keys =
       let inside = inside-along old.packs.items mid.packs.items n are.grows l in
       let there : n < length mid.produced.items = omega (arith, inside, are.pack_table.long) in
       let names : Names no_pack mid.packs.items numbers (produced_by ch ds matches ssa (pack_at old.packs.items n)) =
@@ -182,6 +185,7 @@ module _ (ch : Choice) (ds : List Description) (matches : List Match) (ssa : Ssa
       record {
         pack_table = record {
           apart = subst (AreApart no_pack) (sym same) are.pack_table.apart;
+          places = ap (map (λ k. k.items)) keys ∙ are.pack_table.places ∙ ap (map words_of) (sym same);
           long = ap length produced ∙ length-set mid.produced.items n (Some numbers) ∙ are.pack_table.long ∙ ap length (sym same);
           taken = ap length operands ∙ are.pack_table.taken ∙ ap length (sym same);
           operands = λ m i.

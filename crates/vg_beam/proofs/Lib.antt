@@ -6,3 +6,4 @@ pub mod Dearer
 pub mod Growing
 pub mod Keys
 pub mod Numbers
+pub mod Words

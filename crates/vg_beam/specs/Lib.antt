@@ -1,4 +1,5 @@
 pub mod PackTable
+pub mod PackWords
 pub mod Candidate
 pub mod Chosen
 pub mod Grown

@@ -1,5 +1,5 @@
 -- The table in which packs have numbers.
-use Rattle.std.specs.Prelude.{◌≡◌, ◌<◌, ◌++◌, ℕ, List, [], length, get_or, Option, Some, None}
+use Rattle.std.specs.Prelude.{◌≡◌, ◌<◌, ◌++◌, ℕ, List, [], length, map, get_or, Option, Some, None}
 use Rattle.std.specs.List.{flat_map}
 use Rattle.vg_kernel_plans.specs.Fed.{packing_by}
 use Rattle.vg_kernel_plans.specs.Taken.{IsShort, operands_of}
@@ -13,6 +13,7 @@ use Rattle.vg_shapes.specs.declared.ssa.Ssa.{Ssa}
 use Rattle.vg_shapes.specs.Description.{Description}
 use Rattle.vg_beam.specs.declared.pack_table.PackTable.{PackTable}
 use Rattle.vg_beam.specs.Key.{AreApart, Names}
+use Rattle.vg_beam.specs.PackWords.{words_of}
 
 abbrev pub no_pack : Pack
 no_pack = Stores []
@@ -36,11 +37,12 @@ AreProduced ch ds matches ssa packs p (Some numbers) = Names no_pack packs numbe
 abbrev pub AreTaken : List Description → List Match → Ssa → Pack → List Operand → Type 0
 AreTaken ds matches ssa p os = IsShort p → os ≡ operands_of ds matches ssa p
 
--- each pack stands once, it takes the operands beside it, and for what it takes is tried what is noted
+-- each pack stands once, its words stand at its number, it takes the operands beside it, and for what it takes is tried what is noted
 pub record IsPackTable
     (ch : Choice) (ds : List Description) (matches : List Match) (ssa : Ssa) (b : PackTable)
     : Type 0 where
   pub apart : AreApart no_pack b.packs.items
+  pub places : map (λ k. k.items) b.places.keys ≡ map words_of b.packs.items
   pub long : length b.produced.items ≡ length b.packs.items
   pub taken : length b.operands.items ≡ length b.packs.items
   pub operands :

@@ -13,6 +13,7 @@ mod fed;
 mod key;
 mod met_plans;
 mod pack_table;
+mod pack_words;
 mod priced_plan;
 mod search;
 mod search_space;

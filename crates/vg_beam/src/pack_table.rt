@@ -1,8 +1,7 @@
 //! The packs among which plans are searched.
 
-ghost use Rattle.std.specs.Prelude.{◌≡◌, ◌<◌, [], IfOk, None, OnOk, false, get_or, is_some, length, map, true};
-ghost use Rattle.std.specs.List.{position};
-ghost use Rattle.vg_kernel_plans.specs.SameAs.{same_pack};
+ghost use Rattle.std.specs.Prelude.{◌≡◌, ◌<◌, [], IfOk, None, OnOk, bytes_eq, false, get_or, is_some, length, map, true};
+ghost use Rattle.indexmap.specs.IndexSet.{insert_key};
 ghost use Rattle.vg_kernel_plans.specs.Taken.{IsShort, MatchesNear};
 ghost use Rattle.vg_beam.specs.PackTable.{
   AreNumbered,
@@ -16,11 +15,12 @@ ghost use Rattle.vg_beam.specs.PackTable.{
 ghost use Rattle.vg_beam.specs.Key.{first_place};
 ghost use Rattle.vg_beam.specs.SearchSpace.{HasGroups, choice_of, described};
 
+use crate::pack_words::words_of;
 use crate::search_space::SearchSpace;
+use indexmap::IndexSet;
 use std::alloc::{AllocError, Global};
 use vg_base::Items;
 use vg_kernel_plans::copies::copy_pack;
-use vg_kernel_plans::same::is_same_pack;
 use vg_kernel_plans::taken::operands_of;
 use vg_packs::tried_by;
 use vg_shapes::{Operand, Pack};
@@ -28,10 +28,12 @@ use vg_shapes::{Operand, Pack};
 /// The greatest number of packs.
 const MOST: usize = 1 << 24;
 
-/// Packs, no two the same, each named by its number, and for each the operands that it takes, if it has
-/// few lanes, and the numbers of those that are tried for what it takes, once they were looked for.
+/// Packs, no two the same, each named by its number, the words that tell each from the others, by which it
+/// is found, and for each the operands that it takes, if it has few lanes, and the numbers of those that are
+/// tried for what it takes, once they were looked for.
 pub(crate) struct PackTable {
     packs: Vec<Pack>,
+    places: IndexSet<Vec<u32>>,
     operands: Vec<Items<Operand>>,
     produced: Vec<Option<Items<u32>>>,
 }
@@ -41,24 +43,29 @@ impl Drop for PackTable {
     fn drop(self) {
         let PackTable {
             packs: _,
+            places: _,
             operands: _,
             produced: _,
         } = self;
     }
 }
 
-/// Where a pack stands in a list, if it does.
-fn find_place(packs: &[Pack], pack: &Pack) -> Option<usize>
-    ensures { result ≡ position (same_pack pack.now) packs.now }
+/// The place of a key, or the number of keys where it is none of them.
+fn place_of(places: &IndexSet<Vec<u32>>, words: &[u32]) -> usize
+    ensures { result ≡ first_place (bytes_eq words.now) (map (λ k. k.items) places.now.keys) }
 {
-    packs.iter().position(|other| is_same_pack(pack, other))
+    places.get_index_of(words).unwrap_or(places.len())
 }
 
-/// Where a pack stands in a list, or the number of packs where it does not.
-fn place_of(packs: &[Pack], pack: &Pack) -> usize
-    ensures { result ≡ first_place (same_pack pack.now) packs.now }
+/// Adds a key, unless it is there.
+fn note(places: &mut IndexSet<Vec<u32>>, words: Vec<u32>) -> Result<(), AllocError>
+    ensures { OnOk result (map (λ k. k.items) places.new.keys ≡ insert_key bytes_eq (map (λ k.
+        k.items) places.old.keys) words.items) }
 {
-    find_place(packs, pack).unwrap_or(packs.len())
+    match places.insert(words) {
+        Ok(_) => Ok(()),
+        Err(e) => Err(e.into()),
+    }
 }
 
 /// Whether a pack has few lanes.
@@ -94,11 +101,13 @@ impl PackTable {
     /// The table of no packs.
     pub(crate) fn new(alloc: Global) -> PackTable
         ensures packs { result.packs.items ≡ [] }
+        ensures places { result.places.keys ≡ [] }
         ensures operands { result.operands.items ≡ [] }
         ensures produced { result.produced.items ≡ [] }
     {
         PackTable {
             packs: Vec::new(alloc),
+            places: IndexSet::new(alloc),
             operands: Vec::new(alloc),
             produced: Vec::new(alloc),
         }
@@ -129,7 +138,8 @@ impl PackTable {
         ensures { IfOk result (IsNumbered (choice_of space.now) (described space.now)
             space.now.table.now space.now.ssa.now self.old self.new pack.now) }
     {
-        let place = place_of(self.packs.as_slice(), pack);
+        let words = words_of(alloc, pack)?;
+        let place = place_of(&self.places, words.as_slice());
         if place >= MOST {
             return Err(AllocError);
         }
@@ -138,6 +148,7 @@ impl PackTable {
         }
         let copy = copy_pack(alloc, pack)?;
         let operands = operands_taken(alloc, pack, space)?;
+        note(&mut self.places, words)?;
         self.packs.push(copy)?;
         self.operands.push(operands)?;
         self.produced.push(None)?;

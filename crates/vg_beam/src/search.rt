@@ -5,6 +5,7 @@ ghost use Rattle.vg_cost.specs.PriceScratch.{IsScratchFor};
 ghost use Rattle.vg_kernel_plans.specs.Fed.{IsPlanBy};
 ghost use Rattle.vg_kernel_plans.specs.Taken.{MatchesNear};
 ghost use Rattle.vg_packs.specs.PlanMarks.{MarksPlan};
+ghost use Rattle.vg_packs.specs.PlanSpans.{SpansPlan};
 ghost use Rattle.vg_packs.specs.Walk.{NameEarlierUnits};
 ghost use Rattle.vg_plans.specs.Levels.{candidates};
 ghost use Rattle.vg_plans.specs.Members.{Every, Has};
@@ -24,7 +25,7 @@ use crate::pack_table::PackTable;
 use crate::search_space::SearchSpace;
 use std::alloc::{AllocError, Global};
 use vg_cost::PriceScratch;
-use vg_packs::PlanMarks;
+use vg_packs::{PlanMarks, PlanSpans};
 
 /// Meets a plan of a level with a pack after it that is tried there, if it stays a plan and none of the
 /// same packs was met.
@@ -34,6 +35,7 @@ fn meet(
     level: &[BeamPlan],
     parent: usize,
     marks: &PlanMarks,
+    spans: &PlanSpans,
     scratch: &mut PriceScratch,
     pack: u32,
     met: &mut MetPlans,
@@ -51,6 +53,8 @@ fn meet(
     requires plan { IsPlanBy (choice_of space.now) (described space.now) space.now.table.now
         space.now.ssa.now space.now.deps.now (plan_at level.now parent) }
     requires marks { MarksPlan space.now.ssa.now (plan_at level.now parent) marks.now }
+    requires spans { SpansPlan space.now.table.now space.now.ssa.now space.now.deps.now (plan_at
+        level.now parent) spans.now }
     requires scratch { IsScratchFor space.now.ssa.now (plan_at level.now parent) scratch.old }
     requires pack { pack < length pack_table.now.packs.items }
     requires tried { Has (pack_at pack_table.now.packs.items pack) (tried (world_of space.now)
@@ -70,7 +74,15 @@ fn meet(
     if known {
         return Ok(());
     }
-    let stays = marks.stays_plan(alloc, packs, last, space.table, space.ssa, space.deps)?;
+    let stays = marks.stays_by_spans(
+        alloc,
+        packs,
+        spans,
+        last,
+        space.table,
+        space.ssa,
+        space.deps,
+    )?;
     if !stays {
         return Ok(());
     }
@@ -117,6 +129,7 @@ fn meet_all(
     let kept = kept_at(level, parent);
     let packs = kept.running.packs();
     let marks = PlanMarks::new(alloc, space.ssa, packs)?;
+    let spans = PlanSpans::new(alloc, space.table, space.ssa, space.deps, packs)?;
     let mut scratch = PriceScratch::new(alloc, space.ssa, packs)?;
     let numbers = kept.tried.as_slice();
     'packs: for pack in numbers {
@@ -126,6 +139,7 @@ fn meet_all(
             level,
             parent,
             &marks,
+            &spans,
             &mut scratch,
             *pack,
             met,

@@ -129,25 +129,23 @@ module _ (matches : List Match) (ssa : Ssa) (deps : List (ℕ × ℕ)) where
   }
 
   -- the number that is found for a pack
-  pub found-floor : (earlier : NameEarlier deps) (g : GrowingPlan) (least f : ℕ) (pack : Pack) → IsGrown matches ssa deps g
-      → IsLowest least (units_of pack) → f ≤ least
-      → (f ≡ 0) ⊎ ((f < length g.spanned.items) × (get_or g.spanned.items f false ≡ false))
-      → IsFloor (node_needs matches ssa deps g.packs.items) (λ v. is_in v (units_of pack)) f
-  found-floor earlier g least f pack grown low less there = elim there [
+  pub spans-floor : (earlier : NameEarlier deps) (plan : List Pack) (spanned : List Bool) (f : ℕ) (pack : Pack)
+      → MarksSpans matches ssa deps plan spanned → IsLowest f (units_of pack)
+      → (f ≡ 0) ⊎ ((f < length spanned) × (get_or spanned f false ≡ false))
+      → IsFloor (node_needs matches ssa deps plan) (λ v. is_in v (units_of pack)) f
+  spans-floor earlier plan spanned f pack spans low there = elim there [
     | inl e ↦
-        subst (IsFloor (node_needs matches ssa deps g.packs.items) (λ v. is_in v (units_of pack))) (sym e)
-        (floor-none (node_needs matches ssa deps g.packs.items) (λ v. is_in v (units_of pack)))
-    | inr t ↦
-        floor-holds earlier g.packs.items f pack (grown.spans f t.0 t.1)
-        (λ v h. let k = low v h in omega (arith, k, less))
+        subst (IsFloor (node_needs matches ssa deps plan) (λ v. is_in v (units_of pack))) (sym e)
+        (floor-none (node_needs matches ssa deps plan) (λ v. is_in v (units_of pack)))
+    | inr t ↦ floor-holds earlier plan f pack (spans f t.0 t.1) low
   ]
 
-  pub found-inside : (g : GrowingPlan) (f : ℕ) → IsGrown matches ssa deps g
-      → (f ≡ 0) ⊎ ((f < length g.spanned.items) × (get_or g.spanned.items f false ≡ false))
+  pub spans-inside : (spanned : List Bool) (f : ℕ) → length spanned ≡ arguments ssa + length ssa.units
+      → (f ≡ 0) ⊎ ((f < length spanned) × (get_or spanned f false ≡ false))
       → f ≤ arguments ssa + length ssa.units
-  found-inside g f grown there = elim there [
+  spans-inside spanned f long there = elim there [
     | inl e ↦ omega (arith, e)
-    | inr t ↦ let l = t.0 in let m = grown.long in omega (arith, l, m)
+    | inr t ↦ let l = t.0 in omega (arith, l, long)
   ]
 
   -- the empty plan
@@ -222,6 +220,14 @@ module _ (matches : List Match) (ssa : Ssa) (deps : List (ℕ × ℕ)) where
         | inl a ↦ s f k (m.stays f k n) q a
         | inr b ↦ elim b [ inl e ↦ subst (IsBeside matches ssa deps f) e (m.beside f k n) | inr z ↦ absurd z ]
       ]
+
+  pub spans-next : (packs : List Pack) (i : ℕ) (p d : Pack) (spanned new_spanned : List Bool) → i < length packs
+      → p ≡ get_or packs i d → MarksSpans matches ssa deps (take i packs) spanned
+      → MarksSpan matches ssa deps p spanned new_spanned → MarksSpans matches ssa deps (take (i + 1) packs) new_spanned
+  spans-next packs i p d spanned new_spanned l is s m =
+      subst (λ q. MarksSpans matches ssa deps q new_spanned) (sym (take_more packs i d l))
+      (spans-more (take i packs) (get_or packs i d) spanned new_spanned s
+      (subst (λ q. MarksSpan matches ssa deps q spanned new_spanned) is m))
 
   pub packed-more : (n : ℕ) (plan : List Pack) (p : Pack) (marks new_marks : List Bool) → AreMarks n (is_in_plan plan) marks
       → AddsMarks (λ v. is_in v (units_of p)) marks new_marks → AreMarks n (is_in_plan (plan ++ p ∷ [])) new_marks

@@ -12,6 +12,7 @@ pub mod Listed
 pub mod LoadLists
 pub mod Making
 pub mod Marking
+pub mod Matched
 pub mod NodeUnits
 pub mod Once
 pub mod Placing

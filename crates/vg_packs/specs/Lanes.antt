@@ -1,5 +1,5 @@
 -- Lanes beside the slots that an operand wants.
-use Rattle.std.specs.Prelude.{ℕ, ◌/◌, ◌&&◌, nat_eq, Bool, true, false, List, [], ◌∷◌, Option, Some, None, is_some}
+use Rattle.std.specs.Prelude.{ℕ, ◌/◌, ◌&&◌, nat_eq, Bool, true, false, List, [], ◌∷◌, Option, Some, None, filter, is_some}
 use Rattle.vg_kernel_plans.specs.SameAs.{same_slot}
 use Rattle.vg_kernel_plans.specs.Wants.{slot, value_of}
 use Rattle.vg_shapes.specs.declared.match_table.Match.{Match}
@@ -33,3 +33,13 @@ fits_lane matches s d width =
 abbrev pub can_begin : List Match → List Slot → ℕ → ℕ → Bool
 can_begin matches [] d width = true
 can_begin matches (s ∷ ss) d width = fits_lane matches s d width
+
+-- the matches of a value, if there is one
+abbrev pub matches_of : List Match → Option ℕ → List Match
+matches_of matches None = []
+matches_of matches (Some v) = filter (λ m. nat_eq m.value v) matches
+
+-- the matches of what the first of these slots wants: of a call in these slots one is among them
+abbrev pub beginnings : List Match → List Slot → List Match
+beginnings matches [] = []
+beginnings matches (s ∷ ss) = matches_of matches (value_of s.wanted)

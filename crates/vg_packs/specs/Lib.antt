@@ -8,4 +8,5 @@ pub mod Marks
 pub mod Placed
 pub mod Plain
 pub mod PlanMarks
+pub mod PlanSpans
 pub mod Walk

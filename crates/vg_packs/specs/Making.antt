@@ -1,14 +1,17 @@
 -- When loads, and when a call, can be what an operand wants.
-use Rattle.std.specs.Prelude.{ℕ, ◌*◌, ◌/◌, ◌&&◌, Bool, List, length, map, Option, Some, nat_eq, nat_le}
+use Rattle.std.specs.Prelude.{ℕ, ◌*◌, ◌/◌, ◌&&◌, Bool, List, [], length, map, Option, Some, nat_eq, nat_le}
 use Rattle.std.specs.Cmp.Lexicographic.{pointwise}
-use Rattle.std.specs.List.{list_all}
+use Rattle.std.specs.List.{list_all, slice_get}
+use Rattle.std.specs.Option.{option_map_or}
 use Rattle.vg_kernel_plans.specs.Held.{lanes_from}
-use Rattle.vg_kernel_plans.specs.Producers.{agree, all_differ, are_beside, are_matched}
+use Rattle.vg_kernel_plans.specs.Producers.{agree, all_differ, are_beside, are_matched, call_producer}
 use Rattle.vg_kernel_plans.specs.SameAs.{same_slot}
 use Rattle.vg_kernel_plans.specs.Taken.{first_width, operands_of, register_for}
 use Rattle.vg_kernel_plans.specs.Wants.{wants_value}
 use Rattle.vg_shapes.specs.declared.match_table.Match.{Match}
+use Rattle.vg_shapes.specs.declared.operand.Operand.{Operand}
 use Rattle.vg_shapes.specs.declared.operand.Slot.{Slot}
+use Rattle.vg_shapes.specs.declared.pack.Pack.{Pack}
 use Rattle.vg_shapes.specs.declared.pack.Pack.TheVariants.{Call}
 use Rattle.vg_shapes.specs.declared.ssa.Ssa.{Ssa}
 use Rattle.vg_shapes.specs.Description.{Description}
@@ -33,3 +36,7 @@ is_wanted_call ds matches ssa slots d width lanes =
     pointwise same_slot slots (lanes_from 0 width lanes)
     && (are_matched matches d 0 lanes
     && list_all (λ q. agree q.slots) (operands_of ds matches ssa (Call d lanes)))
+
+-- the call of the instance of a number, if there are both
+abbrev pub numbered_producer : List Description → List Match → Ssa → Operand → ℕ → List Pack
+numbered_producer ds matches ssa o d = option_map_or (call_producer ds matches ssa o d) (slice_get ds d) []

@@ -103,3 +103,14 @@ pub(crate) fn floor_under(spanned: &[bool], from: u32) -> u32
     }
     floor
 }
+
+/// The greatest number up to the least unit of a pack that is not marked, or 0.
+pub(crate) fn floor_below(alloc: Global, spanned: &[bool], pack: &Pack) -> Result<u32, AllocError>
+    ensures lowest { IfOk result (λ floor. IsLowest floor (units_of pack.now)) }
+    ensures there { IfOk result (λ floor. (floor ≡ 0) ⊎ (floor < length spanned.now × (get_or
+        spanned.now floor false ≡ false))) }
+{
+    let units = units_in(alloc, pack)?;
+    let least = least_of(units.as_slice());
+    Ok(floor_under(spanned, least))
+}

@@ -1,16 +1,14 @@
 //! Plans that grow pack by pack.
 
-ghost use Rattle.std.specs.Prelude.{◌≡◌, ◌≤◌, ◌++◌, ◌∷◌, ◌+◌, [], IfOk, OnOk, length, true};
+ghost use Rattle.std.specs.Prelude.{◌≡◌, ◌++◌, ◌∷◌, [], IfOk, OnOk, true};
 ghost use Rattle.vg_kernel_plans.specs.Packing.{packing};
-ghost use Rattle.vg_plans.specs.World.{is_in, stays_plan};
-ghost use Rattle.vg_shapes.specs.Pack.{units_of};
-ghost use Rattle.vg_shapes.specs.Units.{arguments};
-ghost use Rattle.vg_packs.specs.Floor.{IsFloor, IsGrown, MarksSpan};
-ghost use Rattle.vg_packs.specs.Walk.{NameEarlierUnits, node_needs};
+ghost use Rattle.vg_plans.specs.World.{stays_plan};
+ghost use Rattle.vg_packs.specs.Floor.{IsGrown};
+ghost use Rattle.vg_packs.specs.Walk.{NameEarlierUnits};
 
-use crate::floor::{floor_under, greatest_of, least_of, units_in};
-use crate::marks::{mark_pack, mark_within};
-use crate::needs::pack_needs;
+use crate::floor::floor_below;
+use crate::marks::mark_pack;
+use crate::plan_spans::mark_span;
 use crate::walk::{end_of_units, overlaps, reaches_itself};
 use std::alloc::{AllocError, Global};
 use vg_kernel_plans::marks::clear_marks;
@@ -25,26 +23,6 @@ pub(crate) struct GrowingPlan {
     packs: Vec<Pack>,
     packed: Vec<bool>,
     spanned: Vec<bool>,
-}
-
-// Marks the numbers that lie within a pack.
-fn mark_span(
-    alloc: Global,
-    table: &MatchTable,
-    ssa: &Ssa,
-    deps: &DepList,
-    pack: &Pack,
-    spanned: &mut [bool],
-) -> Result<(), AllocError>
-    ensures { OnOk result (MarksSpan table.now ssa.now deps.now pack.now spanned.old spanned.new) }
-{
-    let units = units_in(alloc, pack)?;
-    let needs = pack_needs(alloc, table, ssa, deps, pack)?;
-    let least = least_of(units.as_slice());
-    let highest = greatest_of(0, units.as_slice());
-    let greatest = greatest_of(highest, needs.as_slice());
-    mark_within(spanned, least, greatest);
-    Ok(())
 }
 
 impl GrowingPlan {
@@ -85,27 +63,6 @@ impl GrowingPlan {
         packs
     }
 
-    // A number from which on a pack's units stand, and below which none depends on what is from there on.
-    fn floor_of(
-        &self,
-        alloc: Global,
-        table: &MatchTable,
-        ssa: &Ssa,
-        deps: &DepList,
-        pack: &Pack,
-    ) -> Result<u32, AllocError>
-        requires earlier { NameEarlierUnits ssa.now deps.now }
-        requires grown { IsGrown table.now ssa.now deps.now self.now }
-        ensures floor { IfOk result (IsFloor (node_needs table.now ssa.now deps.now
-            self.now.packs.items) (λ v. is_in v (units_of pack.now))) }
-        ensures inside { IfOk result (λ floor. floor ≤ arguments ssa.now + length ssa.now.units) }
-    {
-        let units = units_in(alloc, pack)?;
-        let least = least_of(units.as_slice());
-        let floor = floor_under(self.spanned.as_slice(), least);
-        Ok(floor)
-    }
-
     /// Whether the plan stays one with a pack after it.
     pub(crate) fn stays(
         &self,
@@ -126,7 +83,7 @@ impl GrowingPlan {
         if overlap {
             return Ok(false);
         }
-        let floor = self.floor_of(alloc, table, ssa, deps, pack)?;
+        let floor = floor_below(alloc, self.spanned.as_slice(), pack)?;
         let end = packed.len();
         let reached = reaches_itself(alloc, table, ssa, deps, packs, packed, pack, end, floor)?;
         Ok(!reached)

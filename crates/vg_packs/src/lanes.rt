@@ -9,13 +9,13 @@ ghost use Rattle.vg_kernel_plans.specs.Producers.{agree, all_differ, are_matched
 ghost use Rattle.vg_kernel_plans.specs.SameAs.{same_slot};
 ghost use Rattle.vg_kernel_plans.specs.Wants.{slot};
 ghost use Rattle.vg_shapes.specs.declared.wanted.Wanted.TheVariants.{Value};
-ghost use Rattle.vg_packs.specs.Lanes.{begins_with, can_begin, fits_lane, is_matched, rest_behind};
+ghost use Rattle.vg_packs.specs.Lanes.{beginnings, begins_with, can_begin, fits_lane, is_matched, matches_of, rest_behind};
 
 use std::alloc::{AllocError, Global};
 use vg_kernel_plans::lane::lane_of;
 use vg_kernel_plans::wants::value_of;
 use vg_shapes::wanted::is_same_wanted;
-use vg_shapes::{MatchTable, Operand, Slot, Wanted};
+use vg_shapes::{Match, MatchTable, Operand, Slot, Wanted};
 
 fn has_number(numbers: &[u32], number: u32) -> bool
     ensures { result ≡ list_any (nat_eq number) numbers.now }
@@ -200,5 +200,25 @@ pub(crate) fn can_begin(table: &MatchTable, slots: &[Slot], description: u32, wi
     match slots.first() {
         None => true,
         Some(slot) => fits_lane(table, slot, description, width),
+    }
+}
+
+/// The matches of a value, if there is one.
+fn matches_of(table: &MatchTable, value: Option<u32>) -> &[Match]
+    ensures { result.now ≡ matches_of table.now value }
+{
+    match value {
+        None => &[],
+        Some(value) => table.at(value),
+    }
+}
+
+/// The matches of what the first of these slots wants.
+pub(crate) fn beginnings<'a>(table: &'a MatchTable, slots: &[Slot]) -> &'a [Match]
+    ensures { result.now ≡ beginnings table.now slots.now }
+{
+    match slots.first() {
+        None => &[],
+        Some(slot) => matches_of(table, value_of(slot.wanted)),
     }
 }

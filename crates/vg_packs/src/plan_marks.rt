@@ -1,15 +1,20 @@
 //! Plans with marks of their units.
 
-ghost use Rattle.std.specs.Prelude.{◌≡◌, [], IfOk};
+ghost use Rattle.std.specs.Prelude.{◌≡◌, ◌≤◌, ◌+◌, [], IfOk, length};
 ghost use Rattle.std.specs.List.{list_any};
 ghost use Rattle.vg_kernel_plans.specs.Packing.{packing};
-ghost use Rattle.vg_plans.specs.World.{stays_plan};
+ghost use Rattle.vg_plans.specs.World.{is_in, stays_plan};
 ghost use Rattle.vg_shapes.specs.Pack.{units_of};
+ghost use Rattle.vg_shapes.specs.Units.{arguments};
+ghost use Rattle.vg_packs.specs.Floor.{IsFloor};
 ghost use Rattle.vg_packs.specs.PlanMarks.{MarksPlan};
-ghost use Rattle.vg_packs.specs.Walk.{IsFree, NameUnits, is_in_plan};
+ghost use Rattle.vg_packs.specs.PlanSpans.{SpansPlan};
+ghost use Rattle.vg_packs.specs.Walk.{IsFree, NameEarlierUnits, NameUnits, is_in_plan, node_needs};
 ghost use Rattle.vg_shapes.specs.declared.ssa.Ssa.{Ssa as Numbered};
 
+use crate::floor::floor_below;
 use crate::marks::mark_plan;
+use crate::plan_spans::PlanSpans;
 use crate::walk::{end_of_units, overlaps, reaches_itself};
 use std::alloc::{AllocError, Global};
 use vg_kernel_plans::marks::clear_marks;
@@ -59,13 +64,59 @@ impl PlanMarks {
         ensures { IfOk result (λ b. b ≡ stays_plan (packing [] table.now ssa.now deps.now) plan.now
             pack.now) }
     {
+        self.stays_above(alloc, plan, pack, table, ssa, deps, 0)
+    }
+
+    /// The same, by what the packs of the plan span: what is below the pack and not spanned needs no look.
+    /// The dependences name earlier units alone.
+    pub fn stays_by_spans(
+        &self,
+        alloc: Global,
+        plan: &[Pack],
+        spans: &PlanSpans,
+        pack: &Pack,
+        table: &MatchTable,
+        ssa: &Ssa,
+        deps: &DepList,
+    ) -> Result<bool, AllocError>
+        requires earlier { NameEarlierUnits ssa.now deps.now }
+        requires free { IsFree table.now ssa.now deps.now plan.now }
+        requires marks { MarksPlan ssa.now plan.now self.now }
+        requires spans { SpansPlan table.now ssa.now deps.now plan.now spans.now }
+        ensures { IfOk result (λ b. b ≡ stays_plan (packing [] table.now ssa.now deps.now) plan.now
+            pack.now) }
+    {
+        let floor = floor_below(alloc, spans.marks(), pack)?;
+        self.stays_above(alloc, plan, pack, table, ssa, deps, floor)
+    }
+
+    // The same, where what is below a floor needs no look.
+    fn stays_above(
+        &self,
+        alloc: Global,
+        plan: &[Pack],
+        pack: &Pack,
+        table: &MatchTable,
+        ssa: &Ssa,
+        deps: &DepList,
+        floor: u32,
+    ) -> Result<bool, AllocError>
+        requires names { NameUnits ssa.now deps.now }
+        requires free { IsFree table.now ssa.now deps.now plan.now }
+        requires marks { MarksPlan ssa.now plan.now self.now }
+        requires floor { IsFloor (node_needs table.now ssa.now deps.now plan.now) (λ v. is_in v
+            (units_of pack.now)) floor }
+        requires inside { floor ≤ arguments ssa.now + length ssa.now.units }
+        ensures { IfOk result (λ b. b ≡ stays_plan (packing [] table.now ssa.now deps.now) plan.now
+            pack.now) }
+    {
         let packed = self.marks.as_slice();
         let overlap = overlaps(packed, plan, pack);
         if overlap {
             return Ok(false);
         }
         let end = packed.len();
-        let reached = reaches_itself(alloc, table, ssa, deps, plan, packed, pack, end, 0)?;
+        let reached = reaches_itself(alloc, table, ssa, deps, plan, packed, pack, end, floor)?;
         Ok(!reached)
     }
 }

@@ -8,16 +8,18 @@ ghost use Rattle.vg_kernel_plans.specs.Wants.{wanted_slots, wanted_values, wants
 ghost use Rattle.vg_shapes.specs.declared.pack.Pack.TheVariants.{Call};
 ghost use Rattle.vg_shapes.specs.Description.{description_of};
 ghost use Rattle.vg_packs.specs.Lanes.{can_begin};
-ghost use Rattle.vg_packs.specs.Making.{is_wanted_call, can_be_packed};
+ghost use Rattle.vg_packs.specs.Making.{is_wanted_call, can_be_packed, numbered_producer};
 
-use crate::lanes::{all_agree, all_differ, are_lanes, are_matched, can_begin, lanes_for};
+use crate::lanes::{
+    all_agree, all_differ, are_lanes, are_matched, beginnings, can_begin, lanes_for,
+};
 use crate::loads::are_wanted_loads;
 use std::alloc::{AllocError, Global};
 use vg_kernel_plans::taken::operands_of;
 use vg_kernel_plans::wants::{wanted_slots, wanted_values, wants_value};
 use vg_shapes::{Description, Lanes, MatchTable, Operand, Pack, Slot, Ssa};
 
-/// The greatest number of descriptions, and of lanes of one.
+/// The greatest number of lanes of a description.
 const MOST: usize = 1 << 24;
 
 fn all_want_values(slots: &[Slot]) -> bool
@@ -143,7 +145,41 @@ fn push_call(
     Ok(())
 }
 
-/// Appends the calls that produce an operand, in the order of the instances.
+/// Appends the call of the instance of a number that produces an operand, if there is one.
+fn push_numbered(
+    alloc: Global,
+    packs: &mut Vec<Pack>,
+    descriptions: &[Description],
+    table: &MatchTable,
+    ssa: &Ssa,
+    operand: &Operand,
+    slots: &[Slot],
+    number: u32,
+) -> Result<(), AllocError>
+    requires near { MatchesNear table.now }
+    requires produced { can_be_produced operand.now ≡ true }
+    requires slots { slots.now ≡ wanted_slots operand.now }
+    ensures { OnOk result (packs.new.items ≡ packs.old.items ++ numbered_producer (map description_of
+        descriptions.now) table.now ssa.now operand.now number) }
+{
+    match descriptions.get(number as usize) {
+        None => Ok(()),
+        Some(description) => push_call(
+            alloc,
+            packs,
+            descriptions,
+            table,
+            ssa,
+            operand,
+            slots,
+            number,
+            description,
+        ),
+    }
+}
+
+/// Appends the calls that produce an operand, in the order of the instances: of those alone that match
+/// what its first slot wants.
 fn push_calls(
     alloc: Global,
     packs: &mut Vec<Pack>,
@@ -159,23 +195,24 @@ fn push_calls(
     ensures { OnOk result (packs.new.items ≡ packs.old.items ++ call_producers (map description_of
         descriptions.now) table.now ssa.now operand.now 0 (map description_of descriptions.now)) }
 {
-    if descriptions.len() > MOST {
-        return Err(AllocError);
-    }
-    let mut number = 0;
-    'descriptions: for description in descriptions {
-        push_call(
-            alloc,
-            packs,
-            descriptions,
-            table,
-            ssa,
-            operand,
-            slots,
-            number,
-            description,
-        )?;
-        number += 1;
+    let _in_order = table.as_slice();
+    let begun = beginnings(table, slots);
+    let mut next: u64 = 0;
+    'matches: for found in begun {
+        let number = found.description;
+        if u64::from(number) >= next {
+            push_numbered(
+                alloc,
+                packs,
+                descriptions,
+                table,
+                ssa,
+                operand,
+                slots,
+                number,
+            )?;
+            next = u64::from(number) + 1;
+        }
     }
     Ok(())
 }

@@ -6,6 +6,7 @@ use Rattle.vg_kernel_plans.specs.Packing.{packing}
 use Rattle.vg_kernel_plans.specs.Taken.{IsShort, operands_of}
 use Rattle.vg_cost.specs.PriceScratch.{IsScratchFor}
 use Rattle.vg_packs.specs.PlanMarks.{MarksPlan}
+use Rattle.vg_packs.specs.PlanSpans.{SpansPlan}
 use Rattle.vg_packs.specs.Walk.{IsFree}
 use Rattle.vg_plans.proofs.Lists.{every-has}
 use Rattle.vg_plans.specs.World.{stays_plan}
@@ -18,12 +19,17 @@ use Rattle.vg_beam.proofs.Candidates.{is-candidate, last-short, longer-plan, mee
 use Rattle.vg_beam.proofs.Keys.{key-longer}
 use Rattle.vg_beam.proofs.search.meet.Goals as goal
 
-pub stays_plan-requires-clause-marks : goal.stays_plan-requires-clause-marks
-stays_plan-requires-clause-marks c =
+pub stays_by_spans-requires-clause-marks : goal.stays_by_spans-requires-clause-marks
+stays_by_spans-requires-clause-marks c =
     subst (λ l. MarksPlan c.args.space.now.ssa.now l c.args.marks.now) (sym (c.packs-packs.ensures ∙ c.kept_at-kept.ensures.plan)) c.requires.marks
 
-pub stays_plan-requires-clause-free : goal.stays_plan-requires-clause-free
-stays_plan-requires-clause-free c =
+pub stays_by_spans-requires-clause-spans : goal.stays_by_spans-requires-clause-spans
+stays_by_spans-requires-clause-spans c =
+    subst (λ l. SpansPlan c.args.space.now.table.now c.args.space.now.ssa.now c.args.space.now.deps.now l c.args.spans.now)
+    (sym (c.packs-packs.ensures ∙ c.kept_at-kept.ensures.plan)) c.requires.spans
+
+pub stays_by_spans-requires-clause-free : goal.stays_by_spans-requires-clause-free
+stays_by_spans-requires-clause-free c =
     subst (IsFree c.args.space.now.table.now c.args.space.now.ssa.now c.args.space.now.deps.now) (sym (c.packs-packs.ensures ∙ c.kept_at-kept.ensures.plan))
     (plan-free (choice_of c.args.space.now) (described c.args.space.now) c.args.space.now.table.now c.args.space.now.ssa.now c.args.space.now.deps.now c.requires.earlier (plan_at c.args.level.now c.args.parent) c.requires.plan)
 

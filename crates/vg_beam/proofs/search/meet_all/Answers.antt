@@ -2,6 +2,7 @@ use Rattle.std.proofs.Common.{◌∙◌, get_or, subst, sym}
 use Rattle.std.specs.Prelude.{filter}
 use Rattle.vg_cost.specs.PriceScratch.{IsScratchFor}
 use Rattle.vg_packs.specs.PlanMarks.{MarksPlan}
+use Rattle.vg_packs.specs.PlanSpans.{SpansPlan}
 use Rattle.vg_plans.proofs.Lists.{every-has}
 use Rattle.vg_plans.specs.World.{tried}
 use Rattle.vg_beam.specs.SearchSpace.{choice_of, described, world_of}
@@ -24,6 +25,11 @@ meet-requires-clause-scratch c = c.packs.invariant.1
 
 pub meet-requires-clause-marks : goal.meet-requires-clause-marks
 meet-requires-clause-marks c = subst (λ l. MarksPlan c.args.space.now.ssa.now l c.in_ok-marks.marks) (c.packs-packs.ensures ∙ c.kept_at-kept.ensures.plan) c.in_ok-marks.ensures
+
+pub meet-requires-clause-spans : goal.meet-requires-clause-spans
+meet-requires-clause-spans c =
+    subst (λ l. SpansPlan c.args.space.now.table.now c.args.space.now.ssa.now c.args.space.now.deps.now l c.in_ok-spans.spans)
+    (c.packs-packs.ensures ∙ c.kept_at-kept.ensures.plan) c.in_ok-spans.ensures
 
 pub meet-requires-clause-pack : goal.meet-requires-clause-pack
 meet-requires-clause-pack c =

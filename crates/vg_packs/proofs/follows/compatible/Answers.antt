@@ -1,4 +1,4 @@
-use Rattle.std.proofs.Common.{◌≡◌, ◌↔◌, List, Bool, map, subst, sym}
+use Rattle.std.proofs.Common.{◌≡◌, ◌↔◌, List, map, subst, sym}
 use Rattle.std.specs.Prelude.{IfOk, IsTrue}
 use Rattle.vg_kernel_plans.specs.Packing.{packing}
 use Rattle.vg_plans.specs.Members.{Has}

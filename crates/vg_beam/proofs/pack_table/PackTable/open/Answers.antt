@@ -19,4 +19,4 @@ returns c =
     let are = subst (AreNumbered (choice_of c.args.space.now) (described c.args.space.now) c.args.space.now.table.now c.args.space.now.ssa.now c.args.self.now c.number_all.new.self c.as_slice.result.now)
     (sym c.from_vec.ensures) c.in_ok-numbers.ensures in
     open-new (choice_of c.args.space.now) (described c.args.space.now) c.args.space.now.table.now c.args.space.now.ssa.now c.args.self.now c.number_all.new.self _ c.args.number c.as_slice.result.now c.from_vec.result
-    c.requires.number are packs refl refl refl
+    c.requires.number are packs refl refl refl refl

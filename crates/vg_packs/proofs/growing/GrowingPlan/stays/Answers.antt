@@ -1,4 +1,4 @@
-use Rattle.std.proofs.Common.{◌+◌, ◌∙◌, [], ap, length, subst, sym}
+use Rattle.std.proofs.Common.{◌≡◌, ◌+◌, ◌<◌, ◌⊎◌, ◌∙◌, Bool, List, [], ap, arith, false, get_or, length, subst, sym}
 use Rattle.vg_kernel_plans.specs.Packing.{packing}
 use Rattle.vg_plans.specs.World.{is_in, stays_plan}
 use Rattle.vg_shapes.specs.Pack.{units_of}
@@ -7,13 +7,32 @@ use Rattle.vg_packs.specs.Floor.{IsFloor}
 use Rattle.vg_packs.specs.Marks.{AreMarks}
 use Rattle.vg_packs.specs.Walk.{IsFree, is_in_plan, node_needs}
 use Rattle.vg_packs.proofs.Cycles.{stays-same}
+use Rattle.vg_packs.proofs.Floors.{spans-floor, spans-inside}
 use Rattle.vg_packs.proofs.Marking.{packed-any}
 use Rattle.vg_packs.proofs.growing.GrowingPlan.stays.Goals as goal
 
 pub reaches_itself-requires-clause-floor : goal.reaches_itself-requires-clause-floor
 reaches_itself-requires-clause-floor c =
-    subst (λ l. IsFloor (node_needs c.args.table.now c.args.ssa.now c.args.deps.now l) (λ v. is_in v (units_of c.args.pack.now)) c.in_ok-floor.floor)
-    (sym c.as_slice-packs.ensures.value) c.in_ok-floor.ensures.floor
+    let f = c.in_ok-floor.floor in
+    let there =
+    subst (λ (l : List Bool). (f ≡ 0) ⊎ ((f < length l) × (get_or l f false ≡ false))) c.as_slice.ensures.value c.in_ok-floor.ensures.there
+    in
+    subst (λ l. IsFloor (node_needs c.args.table.now c.args.ssa.now c.args.deps.now l) (λ v. is_in v (units_of c.args.pack.now)) f)
+    (sym c.as_slice-packs.ensures.value)
+    (spans-floor c.args.table.now c.args.ssa.now c.args.deps.now c.requires.earlier.earlier c.args.self.now.packs.items c.args.self.now.spanned.items
+    f c.args.pack.now c.requires.grown.spans c.in_ok-floor.ensures.lowest there)
+
+pub reaches_itself-requires-clause-inside : goal.reaches_itself-requires-clause-inside
+reaches_itself-requires-clause-inside c =
+    let f = c.in_ok-floor.floor in
+    let there =
+    subst (λ (l : List Bool). (f ≡ 0) ⊎ ((f < length l) × (get_or l f false ≡ false))) c.as_slice.ensures.value c.in_ok-floor.ensures.there
+    in
+    let few =
+    spans-inside c.args.table.now c.args.ssa.now c.args.deps.now c.args.self.now.spanned.items f c.requires.grown.long
+    there
+    in
+    omega (arith, few, c.requires.grown.packed.long, ap length c.as_slice-packed.ensures.value)
 
 pub returns : goal.returns
 returns c =
