@@ -1,14 +1,14 @@
 -- Rewritten units stand for the kernels for which the given ones stand, where noalias is kept.
-use Rattle.std.proofs.Common.{◌≡◌, ◌↔◌, ℕ, Bool, true, false, List, [], ◌∷◌, length, Option, Some, None, Result, Ok, Err, IfOk, refl, sym, ap, ◌∙◌, subst}
+use Rattle.std.proofs.Common.{◌≡◌, ◌↔◌, ℕ, Bool, true, false, List, [], ◌∷◌, Option, Some, None, Result, Ok, Err, IfOk, refl, sym, ap, ◌∙◌, subst}
 use Rattle.std.specs.Prelude.{◌||◌, Contains, filter, if◌then◌else◌}
 use Rattle.std.specs.List.{AllByRecursion, filter_map}
-use Rattle.std.proofs.lemmas.List.{length-map}
 use Rattle.vg_bits.specs.BitList.{IsBytes}
 use Rattle.vg_rewrite.specs.Narrowed.{narrowed_units}
+use Rattle.vg_rewrite.specs.Renumbering.{AreTyped}
 use Rattle.vg_rewrite.specs.Repeated.{repeated_units}
 use Rattle.vg_rewrite.specs.Rewritten.{are_few, IsRenumbered, KeepsFitting, KeepsKernels, over, RewrittenUnitsRunAlike, StandingIsApart}
 use Rattle.vg_rewrite.specs.Running.{memory_behind}
-use Rattle.vg_rewrite.proofs.FromTypes.{units-earlier}
+use Rattle.vg_rewrite.proofs.FromTypes.{over-typed}
 use Rattle.vg_rewrite.proofs.NarrowedAccesses.{narrowed-accesses}
 use Rattle.vg_rewrite.proofs.NarrowedLaw.{narrowed-units_run_alike}
 use Rattle.vg_rewrite.proofs.NarrowedTypes.{narrowed-typed}
@@ -19,10 +19,9 @@ use Rattle.vg_shapes.specs.declared.ssa.Ssa.{Ssa}
 use Rattle.vg_shapes.specs.declared.ssa.SsaParam.{SsaParam}
 use Rattle.vg_shapes.specs.declared.ssa_unit.SsaUnit.{SsaUnit}
 use Rattle.vg_shapes.specs.Layout.{access_of, accesses, is_noalias, noalias_flags, noalias_of, Respects}
-use Rattle.vg_shapes.specs.Sound.{AreArguments, IsSound, kind_bits, pointers, TakeEarlier}
-use Rattle.vg_shapes.specs.Units.{arguments, integers, integers_of}
+use Rattle.vg_shapes.specs.Sound.{AreArguments, IsSound}
+use Rattle.vg_shapes.specs.Units.{integers, integers_of}
 use Rattle.vg_spans.proofs.Runs.{arguments-long}
-use Rattle.vg_ssa.proofs.Soundness.{widths}
 
 pub standing-is_apart : StandingIsApart
 standing-is_apart k ssa h = record {
@@ -92,6 +91,44 @@ pub narrowed-keeps_fitting : {E : Type 0} (ssa : Ssa) (us : List SsaUnit) (r : R
 narrowed-keeps_fitting ssa us (Ok answer) sound same h = narrowed-fits ssa answer sound (subst (λ l. IsRenumbered ssa l answer) same h)
 narrowed-keeps_fitting ssa us (Err e) sound same h = h
 
+-- ---- narrowed units that are repeated
+
+-- the values between
+abbrev pub between : Ssa → Ssa
+between ssa = over ssa (narrowed_units ssa)
+
+pub between-typed : (ssa : Ssa) → IsSound ssa → AreTyped (between ssa)
+between-typed ssa sound = over-typed ssa (narrowed_units ssa) (narrowed-typed ssa sound).0
+
+both-keep : (ssa : Ssa) (answer : Option Ssa) → IsSound ssa → IsRenumbered ssa (repeated_units (between ssa)) answer
+    → KeepsKernels ssa answer
+both-keep ssa None sound is = tt
+both-keep ssa (Some new) sound is = λ k h. record {
+  runs = λ memory places args are_bytes fit respects. (
+      let given : AreArguments (integers ssa) args = subst (λ ps. AreArguments (integers_of ps) args) is.1.over fit in
+      ap (λ us. memory_behind places us memory args) is.1.made_of
+      ∙ repeated-alike (between ssa) places memory args (between-typed ssa sound).earlier
+      (arguments-long (integers ssa) args given)
+      ((narrowed-respect ssa (between ssa) places refl refl).0 ((h.layouts places).0 respects))
+      ∙ narrowed-units_run_alike ssa places memory args sound are_bytes given
+      ∙ h.runs memory places args are_bytes given respects);
+  layouts = λ places. (
+    (λ respects. fewer-respect (between ssa) new places (sym is.1.over)
+        (λ x c. repeated-accesses (between ssa) x (subst (λ us. Contains (filter_map access_of us) x) is.1.made_of c))
+        ((narrowed-respect ssa (between ssa) places refl refl).0 ((h.layouts places).0 respects))),
+    (λ respects. (h.layouts places).1 ((narrowed-respect ssa (between ssa) places refl refl).1
+        (fewer-respect new (between ssa) places is.1.over
+        (λ x c. subst (λ us. Contains (filter_map access_of us) x) (sym is.1.made_of) (all-accesses (between ssa) x c))
+        respects))),
+  );
+}
+
+pub both-keep_kernels : {E : Type 0} (ssa : Ssa) (us : List SsaUnit) (r : Result (Option Ssa) E) → IsSound ssa
+    → us ≡ repeated_units (between ssa) → IfOk r (IsRenumbered ssa us) → IfOk r (KeepsKernels ssa)
+both-keep_kernels ssa us (Ok answer) sound same h =
+    both-keep ssa answer sound (subst (λ l. IsRenumbered ssa l answer) same h)
+both-keep_kernels ssa us (Err e) sound same h = h
+
 -- ---- all lists
 
 if-all : {A : Type 0} (P : A → Type 0) (b : Bool) (x : A) (xs : List A) → P x → AllByRecursion P xs → AllByRecursion P (if b then x ∷ xs else xs)
@@ -108,8 +145,6 @@ rewritten-units_run_alike ssa places memory args sound are_bytes fit respects =
     let long = arguments-long (integers ssa) args fit in
     let narrow = narrowed-units_run_alike ssa places memory args sound are_bytes fit in
     let new = over ssa (narrowed_units ssa) in
-    let typed = narrowed-typed ssa sound in
-    let earlier : TakeEarlier (arguments ssa) (narrowed_units ssa) =
-    subst (λ n. TakeEarlier n (narrowed_units ssa)) (length-map (integers ssa) (λ p. Some (kind_bits p.kind))) (units-earlier (length (pointers ssa)) (widths (integers ssa)) (narrowed_units ssa) typed.0) in
+    let earlier = (between-typed ssa sound).earlier in
     all-filtered P are_few (ssa.units ∷ repeated_units ssa ∷ narrowed_units ssa ∷ repeated_units new ∷ [])
     (refl, (repeated-units_run_alike ssa places memory args sound long respects, (narrow, (repeated-alike new places memory args earlier long ((narrowed-respect ssa new places refl refl).0 respects) ∙ narrow, tt))))

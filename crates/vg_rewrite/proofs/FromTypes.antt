@@ -6,7 +6,7 @@ use Rattle.std.proofs.lemmas.Bool.{leb-true}
 use Rattle.std.proofs.lemmas.List.{length-map, length_push}
 use Rattle.vg_base.specs.declared.width.Width.{Width}
 use Rattle.vg_base.specs.Width.{bits_of}
-use Rattle.vg_rewrite.specs.Renumbering.{CanBeRenumbered}
+use Rattle.vg_rewrite.specs.Renumbering.{AreTyped, CanBeRenumbered}
 use Rattle.vg_rewrite.specs.Rewritten.{over}
 use Rattle.vg_shapes.specs.declared.ssa.Ssa.{Ssa}
 use Rattle.vg_shapes.specs.declared.ssa_unit.Operands.{Operands}
@@ -84,6 +84,15 @@ units-are ssa bits (u ∷ us) same h = (
   units-are ssa (bits ++ unit_bits u ∷ []) us (λ v. same v ∙ ap (λ l. slice_index_or l v None) (sym (append_assoc bits (unit_bits u ∷ []) (map unit_bits us)))) h.1,
 )
 
+-- so are the values of these units
+pub over-typed : (ssa : Ssa) (us : List SsaUnit) → UnitsIn (length (pointers ssa)) (widths (integers ssa)) us
+    → AreTyped (over ssa us)
+over-typed ssa us typed = record {
+  units = units-are (over ssa us) (widths (integers ssa)) us (value-at (integers ssa) us) typed;
+  earlier = subst (λ n. TakeEarlier n us) (length-map (integers ssa) (λ p. Some (kind_bits p.kind)))
+      (units-earlier (length (pointers ssa)) (widths (integers ssa)) us typed);
+}
+
 pub can-be : (ssa : Ssa) (us : List SsaUnit) → IsSound ssa → UnitsIn (length (pointers ssa)) (widths (integers ssa)) us → length (filter is_store us) ≡ length (filter is_store ssa.units) → CanBeRenumbered ssa us
 can-be ssa us sound typed stores few = record {
   name = sound.name;
@@ -92,6 +101,6 @@ can-be ssa us sound typed stores few = record {
   params = sound.params;
   stores = (let most = sound.stores in omega arith);
   uses = leb-true (length (filter (λ u. not (is_store u)) us)) 8192 few;
-  units = units-are (over ssa us) (widths (integers ssa)) us (value-at (integers ssa) us) typed;
-  earlier = subst (λ n. TakeEarlier n us) (length-map (integers ssa) (λ p. Some (kind_bits p.kind))) (units-earlier (length (pointers ssa)) (widths (integers ssa)) us typed);
+  units = (over-typed ssa us typed).units;
+  earlier = (over-typed ssa us typed).earlier;
 }

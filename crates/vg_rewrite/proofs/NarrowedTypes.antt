@@ -19,7 +19,7 @@ use Rattle.vg_rewrite.proofs.FormsTyped.{bit-made_in, FormedAs, next-is, number-
 use Rattle.vg_rewrite.proofs.NarrowedRuns.{all-taken, Flags, flags-before, Forms, forms-before, IsWide, made-here, never-flag, none-before, comparison-parts, value-parts, WithOwn}
 use Rattle.vg_rewrite.proofs.Parameters.{is-parameter}
 use Rattle.vg_rewrite.proofs.Reaching.{reaches, unit-span-at}
-use Rattle.vg_rewrite.proofs.RepeatedTypes.{argument-bits, bits-at, in-more, no-store, one-store, Stores, unit-takes_earlier, unit-typed}
+use Rattle.vg_rewrite.proofs.RepeatedTypes.{argument-bits, bits-at, in-more, no-store, one-store, sound-typed, Stores, unit-takes_earlier, unit-typed}
 use Rattle.vg_rewrite.proofs.Rereading.{all-from, AreFrom, from-here, from-next}
 use Rattle.vg_rewrite.proofs.ValuesMade.{Below, itself-parts, not-value}
 use Rattle.vg_rewrite.proofs.ValuesTyped.{Behind, itself-owns, never-is, state-added, state-fewer, value-typed}
@@ -138,7 +138,7 @@ module _ (ssa : Ssa) (sound : IsSound ssa) (args : List ℕ) (fit : AreArguments
   step-load : (v : ℕ) (a : Address) (w : Width) (g : Narrowing) → unit_at ssa v ≡ Some (Load a w) → Beside v g → Stepped v (Load a w) g (make_unit (spans_of ssa) (asked_of ssa) v (Load a w) g)
   step-load v a w g is beside =
       let e = bits-at ssa v (Load a w) is in
-      let h = step-own v w (Some (Load a w)) (next_value g) (put (Load a w) g) (λ u. refl) e (load-span v a w is) beside.long (state-put v g (Load a w) beside.state (unit-typed ssa v (Load a w) sound is)) (next-is count bits g (Load a w) beside.state.typed) in
+      let h = step-own v w (Some (Load a w)) (next_value g) (put (Load a w) g) (λ u. refl) e (load-span v a w is) beside.long (state-put v g (Load a w) beside.state (unit-typed ssa v (Load a w) (sound-typed ssa sound) is)) (next-is count bits g (Load a w) beside.state.typed) in
       (beside-behind v w (WithOwn ssa v w) _ _ (make_unit (spans_of ssa) (asked_of ssa) v (Load a w) g) e (λ y t d. inl d) h, h.stores_are)
 
   store-allows : (v : ℕ) (w : Width) (x : Wanted) → IsEarlier v x → IsIn (asked_of ssa) w x → IsNumber ssa w x → Allows (Forms ssa v) w x
@@ -155,8 +155,8 @@ module _ (ssa : Ssa) (sound : IsSound ssa) (args : List ℕ) (fit : AreArguments
 
   step-store : (v : ℕ) (a : Address) (w : Width) (x : Wanted) (g : Narrowing) → unit_at ssa v ≡ Some (Store a w x) → Beside v g → Stepped v (Store a w x) g (make_unit (spans_of ssa) (asked_of ssa) v (Store a w x) g)
   step-store v a w x g is beside =
-      let rule = unit-typed ssa v (Store a w x) sound is in
-      let allows = store-allows v w x (unit-takes_earlier ssa v (Store a w x) sound is) (closed-at v (Store a w x) is) rule.1 in
+      let rule = unit-typed ssa v (Store a w x) (sound-typed ssa sound) is in
+      let allows = store-allows v w x (unit-takes_earlier ssa v (Store a w x) (sound-typed ssa sound) is) (closed-at v (Store a w x) is) rule.1 in
       let number = number-in count bits (Forms ssa v) (Flags ssa v) g beside.state w x (number-any w x (number-not ssa w x rule.1)) allows in
       let u = Store a w (have g w x) in
       let state = state-put v g u beside.state (rule.0, number) in
@@ -174,8 +174,8 @@ module _ (ssa : Ssa) (sound : IsSound ssa) (args : List ℕ) (fit : AreArguments
       → Stepped v (Operation op own k xs) g (make_value (spans_of ssa) (asked_of ssa) v (Some (Operation op own k xs)) Nothing own (no_value g))
   step-value v op own k xs g is inside beside e wide closed =
       let u = Operation op own k xs in
-      let takes = unit-takes_earlier ssa v u sound is in
-      let rule = unit-typed ssa v u sound is in
+      let takes = unit-takes_earlier ssa v u (sound-typed ssa sound) is in
+      let rule = unit-typed ssa v u (sound-typed ssa sound) is in
       let h = value-typed count bits (asked_of ssa) (spans_of ssa) v (Some u) Nothing own (Forms ssa v) (Flags ssa v) (v + 1) (SoFar bits g) (Stores g.units) (omega arith)
       (value-parts ssa v op own k xs takes rule (own, e) closed)
       (λ w. value-is ssa (args ++ more) holds v op own k xs w inside takes rule wide (unit-span v op own k xs is))
@@ -222,11 +222,11 @@ module _ (ssa : Ssa) (sound : IsSound ssa) (args : List ℕ) (fit : AreArguments
       formed_bit : (asked_at (asked_of ssa) v).bit ≡ true → FormedAs count bits (no_value g) (make_form (no_value g) Nothing W8 (operation_form (spans_of ssa) (Compare op) own k xs W8)) (Some None)
       formed_bit e =
           let u = Operation (Compare op) own k xs in
-          let rule = unit-typed ssa v u sound is in
+          let rule = unit-typed ssa v u (sound-typed ssa sound) is in
           let c = compare_operands (spans_of ssa) (reading_of op) own xs in
           let m = made (Compare (comparison_by c.reading)) c.width 0 xs c.width in
           bit-made_in count bits (Forms ssa v) (Flags ssa v) (no_value g) none m refl (comparison-made (comparison_by c.reading) xs c.width (number-not ssa own xs.first rule.1) (number-not ssa own xs.second rule.2) rule.3)
-          (comparison-parts ssa v op own k xs (unit-takes_earlier ssa v u sound is) rule (closed-at v u is e))
+          (comparison-parts ssa v op own k xs (unit-takes_earlier ssa v u (sound-typed ssa sound) is) rule (closed-at v u is e))
 
       or-here : (y : ℕ) → Flags ssa (v + 1) y → (y < v) ⊎ (v ≤ y) → Flags ssa v y ⊎ (y ≡ v)
       or-here y z (inl less) = inl (less, z.1, z.2)

@@ -10,6 +10,7 @@ use Rattle.vg_base.specs.declared.address.Address.{Address}
 use Rattle.vg_base.specs.declared.width.Width.{Width}
 use Rattle.vg_base.specs.Width.{bits_of}
 use Rattle.vg_rewrite.specs.Repeated.{anew, is_free, is_needed, load_stays, next_number, put_unit, read_anew, repeat_by, repeat_other, repeat_units, repeated_units, Repeating, source_by, source_of, stand_as, stand_source, stood, take_operand, take_source, Taken, takes, unit_or, with_first}
+use Rattle.vg_rewrite.specs.Renumbering.{AreTyped}
 use Rattle.vg_rewrite.proofs.Known.{some-same}
 use Rattle.vg_rewrite.proofs.Reaching.{all-at, earlier-at, reaches}
 use Rattle.vg_rewrite.proofs.Rereading.{all-from, AreFrom, begun, from-here, from-next, IsTaken, number-at, numbers-long, taken}
@@ -30,11 +31,14 @@ use Rattle.vg_ssa.proofs.Typing.{behind, behind-both, behind-long, bit-stays, Bi
 
 -- ---- what is known of a unit
 
-pub unit-typed : (ssa : Ssa) (v : ℕ) (u : SsaUnit) → IsSound ssa → unit_at ssa v ≡ Some u → IsUnit ssa u
-unit-typed ssa v u sound is = let r = reaches ssa v u is in all-at (IsUnit ssa) ssa.units (v - arguments ssa) u sound.units r.at
+pub sound-typed : (ssa : Ssa) → IsSound ssa → AreTyped ssa
+sound-typed ssa sound = record { units = sound.units; earlier = sound.earlier }
 
-pub unit-takes_earlier : (ssa : Ssa) (v : ℕ) (u : SsaUnit) → IsSound ssa → unit_at ssa v ≡ Some u → TakesEarlier v u
-unit-takes_earlier ssa v u sound is = let r = reaches ssa v u is in subst (λ m. TakesEarlier m u) r.number (earlier-at (arguments ssa) ssa.units (v - arguments ssa) u sound.earlier r.at)
+pub unit-typed : (ssa : Ssa) (v : ℕ) (u : SsaUnit) → AreTyped ssa → unit_at ssa v ≡ Some u → IsUnit ssa u
+unit-typed ssa v u are_typed is = let r = reaches ssa v u is in all-at (IsUnit ssa) ssa.units (v - arguments ssa) u are_typed.units r.at
+
+pub unit-takes_earlier : (ssa : Ssa) (v : ℕ) (u : SsaUnit) → AreTyped ssa → unit_at ssa v ≡ Some u → TakesEarlier v u
+unit-takes_earlier ssa v u are_typed is = let r = reaches ssa v u is in subst (λ m. TakesEarlier m u) r.number (earlier-at (arguments ssa) ssa.units (v - arguments ssa) u are_typed.earlier r.at)
 
 pub bits-at : (ssa : Ssa) (v : ℕ) (u : SsaUnit) → unit_at ssa v ≡ Some u → value_bits ssa v ≡ unit_bits u
 bits-at ssa v u is =
@@ -212,7 +216,7 @@ record Took (count : ℕ) (bits : List (Option ℕ)) (g : Repeating) (t : Taken)
   grown : Grown count bits g t.after
   value : HasBits (SoFar bits t.after) t.value n
 
-module _ (ssa : Ssa) (sound : IsSound ssa) (bits : List (Option ℕ)) where
+module _ (ssa : Ssa) (are_typed : AreTyped ssa) (bits : List (Option ℕ)) where
   abbrev pointer_count : ℕ
   pointer_count = length (pointers ssa)
 
@@ -222,7 +226,7 @@ module _ (ssa : Ssa) (sound : IsSound ssa) (bits : List (Option ℕ)) where
       let u = Load h.address h.width in
       let P : Option SsaUnit → Type 0 = λ o. Took pointer_count bits g (anew (unit_or o) g) n in
       subst P (sym h.unit) (record {
-        grown = grown-put pointer_count bits g g u (grown-none pointer_count bits g typed) (unit-typed ssa l u sound h.unit) refl;
+        grown = grown-put pointer_count bits g g u (grown-none pointer_count bits g typed) (unit-typed ssa l u are_typed h.unit) refl;
         value = has-next pointer_count bits g u n typed (sym (bits-at ssa l u h.unit) ∙ e);
       })
 
@@ -232,7 +236,7 @@ module _ (ssa : Ssa) (sound : IsSound ssa) (bits : List (Option ℕ)) where
       let xs = h.operands in
       let u = Operation (Resize h.op h.from) h.width h.amount xs in
       let new = Operation (Resize h.op h.from) h.width h.amount (record { first = t.value; second = xs.second; third = xs.third }) in
-      let rule = unit-typed ssa x u sound h.unit in
+      let rule = unit-typed ssa x u are_typed h.unit in
       let from : value_bits ssa l ≡ Some (bits_of h.from) = subst (IsNumber ssa h.from) h.first rule.2 in
       let same : m ≡ bits_of h.from = some-same m (bits_of h.from) (sym e ∙ from) in
       let first : NumberIn (SoFar bits t.after) h.from t.value = has-number (SoFar bits t.after) t.value h.from (subst (HasBits (SoFar bits t.after) t.value) same k.value) in
@@ -333,7 +337,7 @@ module _ (ssa : Ssa) (sound : IsSound ssa) (bits : List (Option ℕ)) where
       let stay : is_standing ssa v ≡ load_stays ssa v = ap (stays_by ssa v) here ∙ cond-true (nat_eq v v) (load_stays ssa v) (is_needed ssa v) own in
       let made : repeat_by ssa v (Load a w) (source_of ssa v) g ≡ stand_source (load_stays ssa v) (Load a w) g =
       ap (λ o. repeat_by ssa v (Load a w) o g) here ∙ cond-true (nat_eq v v) (repeat_other ssa v (Load a w) g) _ own in
-      subst (Behind v (Load a w) g) (sym made) (step-source v (Load a w) g (Load a w) (load_stays ssa v) ready stay (λ q. unit-typed ssa v (Load a w) sound is) (bits-at ssa v (Load a w) is) refl refl)
+      subst (Behind v (Load a w) g) (sym made) (step-source v (Load a w) g (Load a w) (load_stays ssa v) ready stay (λ q. unit-typed ssa v (Load a w) are_typed is) (bits-at ssa v (Load a w) is) refl refl)
 
   step-extension : (v : ℕ) (g : Repeating) (u : SsaUnit) (l : ℕ) → Ready ssa pointer_count bits v g → unit_at ssa v ≡ Some u → source_of ssa v ≡ Some l → nat_eq v l ≡ false → Behind v u g (repeat_by ssa v u (Some l) g)
   step-extension v g u l ready is source other =
@@ -349,8 +353,8 @@ module _ (ssa : Ssa) (sound : IsSound ssa) (bits : List (Option ℕ)) where
           let new = with_first (slice_index_or g.stands l Nothing) x in
           let made : repeat_by ssa v x (Some l) g ≡ stand_source (is_needed ssa v) new g = cond-false (nat_eq v l) (repeat_other ssa v x g) _ other in
           let inside = unit-inside ssa v x h.unit in
-          let rule = unit-typed ssa v x sound h.unit in
-          let earlier = unit-takes_earlier ssa v x sound h.unit in
+          let rule = unit-typed ssa v x are_typed h.unit in
+          let earlier = unit-takes_earlier ssa v x are_typed h.unit in
           let from : value_bits ssa l ≡ Some (bits_of h.from) = subst (IsNumber ssa h.from) h.first rule.2 in
           let before : l < v = subst (IsEarlier v) h.first earlier.0 in
           subst (Behind v x g) (sym made)
@@ -362,8 +366,8 @@ module _ (ssa : Ssa) (sound : IsSound ssa) (bits : List (Option ℕ)) where
   step-operation v g op w k xs ready is none =
       let u = Operation op w k xs in
       let inside = unit-inside ssa v u is in
-      let takes = unit-takes_earlier ssa v u sound is in
-      let rule = unit-typed ssa v u sound is in
+      let takes = unit-takes_earlier ssa v u are_typed is in
+      let rule = unit-typed ssa v u are_typed is in
       let a = take_operand ssa v xs.first g in
       let ha = took-operand v g (first_kind op w) xs.first inside takes.0 ready (taken ssa v u xs.first is none (λ y e. or_left (is_value y xs.first) _ e)) (given-first ssa op w k xs rule) in
       let ra = ready-grown ssa pointer_count bits v g a.after ready ha.0 in
@@ -387,9 +391,9 @@ module _ (ssa : Ssa) (sound : IsSound ssa) (bits : List (Option ℕ)) where
   step-store v g a w x ready is none =
       let u = Store a w x in
       let inside = unit-inside ssa v u is in
-      let rule = unit-typed ssa v u sound is in
+      let rule = unit-typed ssa v u are_typed is in
       let c = take_operand ssa v x g in
-      let hc = took-number v g w x inside (unit-takes_earlier ssa v u sound is) ready (taken ssa v u x is none (λ y e. e)) rule.1 in
+      let hc = took-number v g w x inside (unit-takes_earlier ssa v u are_typed is) ready (taken ssa v u x is none (λ y e. e)) rule.1 in
       let rc = ready-grown ssa pointer_count bits v g c.after ready hc.0 in
       let new = Store a w c.value in
       let typed = put-typed pointer_count bits c.after new rc.typed (rule.0, hc.1) in (
@@ -445,7 +449,7 @@ ready-begun ssa = record {
 }
 
 -- repeated units have operands of the widths that they want, and as many stores as the given ones
-pub repeated-typed : (ssa : Ssa) → IsSound ssa → UnitsIn (length (pointers ssa)) (widths (integers ssa)) (repeated_units ssa) × (Stores (repeated_units ssa) ≡ Stores ssa.units)
-repeated-typed ssa sound =
-    let all = follow ssa sound (widths (integers ssa)) (arguments ssa) ssa.units (begun ssa) (all-from ssa) (ready-begun ssa) in
+pub repeated-typed : (ssa : Ssa) → AreTyped ssa → UnitsIn (length (pointers ssa)) (widths (integers ssa)) (repeated_units ssa) × (Stores (repeated_units ssa) ≡ Stores ssa.units)
+repeated-typed ssa are_typed =
+    let all = follow ssa are_typed (widths (integers ssa)) (arguments ssa) ssa.units (begun ssa) (all-from ssa) (ready-begun ssa) in
     (all.0.units, all.1 ∙ (let e : 0 + Stores ssa.units ≡ Stores ssa.units = omega arith in e))

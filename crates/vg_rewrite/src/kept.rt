@@ -4,7 +4,6 @@ ghost use Rattle.std.specs.Prelude.{◌≡◌, ◌&&◌, ◌<◌, ◌≤◌, ◌
 ghost use Rattle.vg_rewrite.specs.Marks.{AddsMarks, IsKept, Marked, is_kept, is_used, keeps, needs, needs_operand, numbers, reads};
 ghost use Rattle.vg_rewrite.specs.Meetings.{reaches_of};
 ghost use Rattle.vg_rewrite.specs.Repeated.{is_free, is_needed, is_number, is_read, load_stays, source_of, takes};
-ghost use Rattle.vg_shapes.specs.Sound.{IsSound};
 ghost use Rattle.vg_shapes.specs.Units.{is_value, uses_value};
 
 use crate::meetings::{meets_between, reaches};
@@ -181,7 +180,7 @@ fn mark_kept(ssa: &Ssa, needed: &[bool], marks: &mut [bool], value: u32)
 
 // How many numbers the values have.
 fn count_values(ssa: &Ssa) -> usize
-    requires { IsSound ssa.now }
+    requires { numbers ssa.now < 2 ^ 20 }
     ensures is { result ≡ numbers ssa.now }
     ensures few { result < 2 ^ 32 }
 {
@@ -190,7 +189,7 @@ fn count_values(ssa: &Ssa) -> usize
 
 // Of each value whether it is used.
 fn used_values(alloc: Global, ssa: &Ssa) -> Result<Vec<bool>, AllocError>
-    requires { IsSound ssa.now }
+    requires few { numbers ssa.now < 2 ^ 20 }
     ensures { IfOk result (λ marks. Marked (numbers ssa.now) (is_used ssa.now) marks.items) }
 {
     let count = count_values(ssa);
@@ -205,7 +204,7 @@ fn used_values(alloc: Global, ssa: &Ssa) -> Result<Vec<bool>, AllocError>
 
 // Of each value whether a use needs it where it stood.
 fn needed_values(alloc: Global, ssa: &Ssa, reaches: &[usize]) -> Result<Vec<bool>, AllocError>
-    requires sound { IsSound ssa.now }
+    requires few { numbers ssa.now < 2 ^ 20 }
     requires reaches { reaches.now ≡ reaches_of ssa.now }
     ensures { IfOk result (λ marks. Marked (numbers ssa.now) (is_needed ssa.now) marks.items) }
 {
@@ -221,7 +220,7 @@ fn needed_values(alloc: Global, ssa: &Ssa, reaches: &[usize]) -> Result<Vec<bool
 
 // Of each load whether it or an extension of it is used, where these are the used values.
 fn read_loads(alloc: Global, ssa: &Ssa, used: &[bool]) -> Result<Vec<bool>, AllocError>
-    requires sound { IsSound ssa.now }
+    requires few { numbers ssa.now < 2 ^ 20 }
     requires used { Marked (numbers ssa.now) (is_used ssa.now) used.now }
     ensures { IfOk result (λ marks. Marked (numbers ssa.now) (is_read ssa.now) marks.items) }
 {
@@ -237,7 +236,7 @@ fn read_loads(alloc: Global, ssa: &Ssa, used: &[bool]) -> Result<Vec<bool>, Allo
 
 // Of each load whether it or an extension of it is needed, where these are the needed values.
 fn kept_loads(alloc: Global, ssa: &Ssa, needed: &[bool]) -> Result<Vec<bool>, AllocError>
-    requires sound { IsSound ssa.now }
+    requires few { numbers ssa.now < 2 ^ 20 }
     requires needed { Marked (numbers ssa.now) (is_needed ssa.now) needed.now }
     ensures { IfOk result (λ marks. Marked (numbers ssa.now) (is_kept ssa.now) marks.items) }
 {
@@ -254,7 +253,7 @@ fn kept_loads(alloc: Global, ssa: &Ssa, needed: &[bool]) -> Result<Vec<bool>, Al
 impl Kept {
     /// What is known of the uses of the values of units.
     pub(crate) fn new(alloc: Global, ssa: &Ssa) -> Result<Kept, AllocError>
-        requires { IsSound ssa.now }
+        requires { numbers ssa.now < 2 ^ 20 }
         ensures { IfOk result (IsKept ssa.now) }
     {
         let reaches = reaches(alloc, ssa)?;

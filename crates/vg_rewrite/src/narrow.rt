@@ -1,6 +1,6 @@
 //! The units of a kernel, each number in the widths that are asked of it.
 
-ghost use Rattle.std.specs.Prelude.{◌≡◌, IfOk};
+ghost use Rattle.std.specs.Prelude.{◌≡◌, ◌<◌, ◌^◌, IfOk, length};
 ghost use Rattle.vg_rewrite.specs.Narrowed.{narrowed_units};
 ghost use Rattle.vg_shapes.specs.Sound.{IsSound};
 ghost use Rattle.vg_ssa.specs.OfUnits.{widths_of};
@@ -29,10 +29,11 @@ fn param_widths(alloc: Global, params: &[SsaParam]) -> Result<Vec<Width>, AllocE
 
 /// The units that make what the stores of numbered values ask for: each number in the widths that
 /// are asked of it, each load and each store once, in their order. An operation that nothing asks
-/// for is gone. Fails for want of memory alone.
+/// for is gone. They are fewer than 2^17. Fails for want of memory alone.
 pub fn narrowed_units(alloc: Global, ssa: &Ssa) -> Result<Vec<SsaUnit>, AllocError>
     requires { IsSound ssa.now }
     ensures exact { IfOk result (λ units. units.items ≡ narrowed_units ssa.now) }
+    ensures few { IfOk result (λ units. length units.items < 2 ^ 17) }
 {
     let params = ssa.params.as_slice();
     let units = ssa.units.as_slice();

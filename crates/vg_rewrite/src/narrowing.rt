@@ -481,6 +481,8 @@ impl Narrowing {
         requires room { self.old.first + vec_len self.old.units + 9 * length units.now ≤ 2 ^ 32 }
         ensures is { OnOk result (narrowing self.new
             ≡ make_units spans.now all.now first units.now (narrowing self.old)) }
+        ensures grown { OnOk result
+            (vec_len self.new.units ≤ vec_len self.old.units + 9 * length units.now) }
     {
         let mut value = first;
         let mut rest = units;
@@ -494,7 +496,7 @@ impl Narrowing {
 }
 
 /// The units that make what is asked of each value, where the values have these spans, the
-/// parameters these widths.
+/// parameters these widths: at most nine for each.
 pub(crate) fn make_all(
     alloc: Global,
     spans: &[Span],
@@ -504,7 +506,10 @@ pub(crate) fn make_all(
 ) -> Result<Vec<SsaUnit>, AllocError>
     requires read { AllByRecursion UnitIsNarrowed units.now }
     requires few { length widths.now + length units.now < 2 ^ 20 }
-    ensures { IfOk result (λ made. made.items ≡ made_over spans.now all.now widths.now units.now) }
+    ensures is { IfOk result
+        (λ made. made.items ≡ made_over spans.now all.now widths.now units.now) }
+    ensures few { IfOk result
+        (λ made. length made.items ≤ 9 * (length widths.now + length units.now)) }
 {
     let mut narrowing = Narrowing::new(alloc, widths.len());
     narrowing.make_params(spans, all, widths)?;

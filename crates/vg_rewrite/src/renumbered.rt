@@ -3,12 +3,12 @@
 ghost use Rattle.std.specs.Prelude.{◌≡◌, IfOk, filter, length, not};
 ghost use Rattle.vg_rewrite.specs.Narrowed.{narrowed_units};
 ghost use Rattle.vg_rewrite.specs.Repeated.{repeated_units};
-ghost use Rattle.vg_rewrite.specs.Rewritten.{IsRenumbered, IsSoundIfSome, KeepsKernels, KeepsFitting, are_few};
+ghost use Rattle.vg_rewrite.specs.Rewritten.{IsRenumbered, IsSoundIfSome, KeepsKernels, KeepsFitting, are_few, over};
 ghost use Rattle.vg_rewrite.specs.Renumbering.{CanBeRenumbered};
 ghost use Rattle.vg_shapes.specs.Sound.{IsSound, is_store};
 
 use crate::narrow::narrowed_units;
-use crate::repeat::repeated_units;
+use crate::repeat::{repeat_few, repeated_units};
 use std::alloc::{AllocError, Global};
 use vg_base::Items;
 use vg_shapes::{Ssa, SsaParam, SsaUnit};
@@ -72,6 +72,21 @@ fn renumbered(alloc: Global, ssa: &Ssa, units: Vec<SsaUnit>) -> Result<Option<Ss
     Ok(Some(new))
 }
 
+// Units over the parameters of numbered values, without terms.
+fn over(alloc: Global, ssa: &Ssa, units: Vec<SsaUnit>) -> Result<Ssa, AllocError>
+    ensures { IfOk result (λ new. new ≡ over ssa.now units.items) }
+{
+    let name = ssa.name.copy(alloc)?;
+    let params = copy_params(alloc, ssa.params.as_slice())?;
+    Ok(Ssa {
+        name,
+        params: Items::from_vec(params),
+        units: Items::from_vec(units),
+        terms: Items::from_vec(Vec::new(alloc)),
+        cuts: Items::from_vec(Vec::new(alloc)),
+    })
+}
+
 /// The repeated units of numbered values as numbered values with terms and cut terms: each free use
 /// of a load has a load of its own. None where they have more than 8,192 loads and operations. The
 /// answer stands for each kernel for which the given values stand, in each layout that respects the
@@ -98,5 +113,22 @@ pub fn narrowed(alloc: Global, ssa: &Ssa) -> Result<Option<Ssa>, AllocError>
     ensures stands_for_apart { IfOk result (KeepsKernels ssa.now) }
 {
     let units = narrowed_units(alloc, ssa)?;
+    renumbered(alloc, ssa, units)
+}
+
+/// The narrowed units of numbered values, repeated, as numbered values with terms and cut terms,
+/// however many the narrowed ones are. None where they have more than 8,192 loads and operations. The
+/// answer stands for each kernel for which the given values stand, in each layout that respects the
+/// kernel's noalias. Fails for want of memory alone.
+pub fn narrowed_repeated(alloc: Global, ssa: &Ssa) -> Result<Option<Ssa>, AllocError>
+    requires { IsSound ssa.now }
+    ensures exact { IfOk result
+        (IsRenumbered ssa.now (repeated_units (over ssa.now (narrowed_units ssa.now)))) }
+    ensures sound { IfOk result IsSoundIfSome }
+    ensures stands_for_apart { IfOk result (KeepsKernels ssa.now) }
+{
+    let narrow = narrowed_units(alloc, ssa)?;
+    let between = over(alloc, ssa, narrow)?;
+    let units = repeat_few(alloc, &between)?;
     renumbered(alloc, ssa, units)
 }

@@ -1,5 +1,6 @@
 use Rattle.std.proofs.Common.{length, ap, arith, subst, sym}
 use Rattle.std.specs.List.{AllByRecursion}
+use Rattle.std.proofs.lemmas.Result.{IfOk-weaker}
 use Rattle.vg_rewrite.specs.Readable.{UnitIsNarrowed}
 use Rattle.vg_rewrite.proofs.Counting.{few-numbers}
 use Rattle.vg_rewrite.proofs.LastFirst.{all-narrowed}
@@ -32,3 +33,12 @@ make_all-requires-clause-few c =
     let params = ap (λ ps. length (widths_of ps)) c.as_slice-params.ensures in
     let units = ap length c.as_slice-units.ensures in
     omega arith
+
+pub returns-clause-few : goal.returns-clause-few
+returns-clause-few c =
+    let few = few-numbers c.args.ssa.now c.requires in
+    let first = widths-many c.args.ssa.now.params in
+    let widths = ap length c.in_ok-widths.ensures in
+    let params = ap (λ ps. length (widths_of ps)) c.as_slice-params.ensures in
+    let units = ap length c.as_slice-units.ensures in
+    IfOk-weaker c.make_all.result _ _ (λ made most. omega arith) c.make_all.ensures.few

@@ -10,8 +10,9 @@ abbrev pub invariant-units : goal.invariant-units
 invariant-units l = record {
   same : make_units l.spans l.all l.value l.rest (narrowing l.self) ≡ make_units l.spans l.all l.first l.units (narrowing l.initial.self);
   read : AllByRecursion UnitIsNarrowed l.rest;
+  first : l.self.first ≡ l.initial.self.first;
   few : l.value + length l.rest < 2 ^ 32;
-  room : l.self.first + vec_len l.self.units + 9 * length l.rest ≤ 2 ^ 32;
+  room : vec_len l.self.units + 9 * length l.rest ≤ vec_len l.initial.self.units + 9 * length l.units;
 }
 
 abbrev pub decreases-units : goal.decreases-units
