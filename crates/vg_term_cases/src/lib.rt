@@ -15,6 +15,8 @@ mod pool_cases;
 #[cfg(test)]
 mod reader;
 #[cfg(test)]
+mod same_sum_cases;
+#[cfg(test)]
 mod sum_cases;
 #[cfg(test)]
 mod tables;

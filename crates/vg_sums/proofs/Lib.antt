@@ -1,0 +1,9 @@
+pub mod Atoms
+pub mod Congruent
+pub mod Equal
+pub mod Floors
+pub mod Sizes
+pub mod Spans
+pub mod Tests
+pub mod Values
+pub mod Whole

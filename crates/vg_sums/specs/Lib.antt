@@ -1,0 +1,12 @@
+pub mod Arithmetic
+pub mod Atoms
+pub mod Bitwise
+pub mod Choices
+pub mod Gives
+pub mod Laws
+pub mod Order
+pub mod Readings
+pub mod Same
+pub mod Spans
+pub mod Sums
+pub mod Terms
