@@ -14,7 +14,7 @@ use Rattle.vg_known.proofs.Absent.{absent}
 use Rattle.vg_verify.specs.Heads.{HasHead}
 use Rattle.vg_verify.proofs.Heads.{head_is}
 use Rattle.vg_compile.specs.Means.{Means}
-use Rattle.vg_compile.proofs.Joined.{units-mean-kernels}
+use Rattle.vg_compile.proofs.Joined.{own-stand, units-mean-kernels}
 use Rattle.vg_check.specs.Compared.{told_difference, values_of}
 use Rattle.vg_check.specs.Told.{difference_text}
 
@@ -39,4 +39,4 @@ pub means_kernel : (entries : List Entry) (k : Tree) (ssa : Ssa) (p : Program) �
     → MeansUnits (called_by entries) p ssa → Means (called_by entries) p k
 means_kernel entries k ssa p is stands none means =
     let head : HasHead ssa p = head_is ssa p (absent entries ssa p (sym none)).head in
-    units-mean-kernels (called_by entries) k ssa p is stands head.name head.params means
+    units-mean-kernels (called_by entries) k ssa p (own-stand k ssa is stands) head.name head.params means

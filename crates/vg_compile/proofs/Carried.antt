@@ -29,7 +29,7 @@ use Rattle.vg_plan_laws.proofs.Programs.{programs-call, programs-cost, programs-
 use Rattle.vg_plan_relations.specs.Plans.{IsPlanByNodes}
 use Rattle.vg_plan_relations.proofs.Planning.{plans-by-nodes, plans-by-nodes-by}
 use Rattle.vg_compile.specs.Chosen.{IsChosenPlan, IsChosenFedPlan, IsCrowded, IsCrowdedFed, IsAlignedFedPlan, IsTableOf}
-use Rattle.vg_compile.specs.Emitted.{IsEmitted, IsProgramFor, IsProgramOf, IsProgramOver}
+use Rattle.vg_compile.specs.Emitted.{IsEmitted, IsProgramFor, IsProgramOver}
 use Rattle.vg_compile.specs.Planned.{IsPlanned}
 use Rattle.vg_compile.proofs.EmptyPlan.{empty-cost}
 
@@ -38,7 +38,8 @@ pub record IsPicked (ds : List Description) (matches : List Match) (ssa : Ssa) (
   pub is : packs ≡ chosen_of ds matches ssa (dependences ssa) width
   pub chosen : IsChosen ds matches ssa (dependences ssa) width packs
 
-pub picked-by : (ds : List Description) (matches : List Match) (ssa : Ssa) (deps : List (ℕ × ℕ)) (width : ℕ) (packs : List Pack)
+pub picked-by : (ds : List Description) (matches : List Match) (ssa : Ssa) (deps : List (ℕ × ℕ)) (width : ℕ)
+    (packs : List Pack)
     → deps ≡ dependences ssa → packs ≡ chosen_of ds matches ssa deps width → IsChosen ds matches ssa deps width packs
     → IsPicked ds matches ssa width packs
 picked-by ds matches ssa deps width packs e is chosen = record {
@@ -51,8 +52,10 @@ pub record IsPickedFed (ds : List Description) (matches : List Match) (ssa : Ssa
   pub is : packs ≡ chosen_fed_of ds matches ssa (dependences ssa) width
   pub chosen : found.IsChosenFed ds matches ssa (dependences ssa) width packs
 
-pub picked-fed-by : (ds : List Description) (matches : List Match) (ssa : Ssa) (deps : List (ℕ × ℕ)) (width : ℕ) (packs : List Pack)
-    → deps ≡ dependences ssa → packs ≡ chosen_fed_of ds matches ssa deps width → found.IsChosenFed ds matches ssa deps width packs
+pub picked-fed-by : (ds : List Description) (matches : List Match) (ssa : Ssa) (deps : List (ℕ × ℕ)) (width : ℕ)
+    (packs : List Pack)
+    → deps ≡ dependences ssa → packs ≡ chosen_fed_of ds matches ssa deps width
+    → found.IsChosenFed ds matches ssa deps width packs
     → IsPickedFed ds matches ssa width packs
 picked-fed-by ds matches ssa deps width packs e is chosen = record {
   is = subst (λ d. packs ≡ chosen_fed_of ds matches ssa d width) e is;
@@ -70,7 +73,8 @@ pub by-nodes : (ds : List Description) (matches : List Match) (ssa : Ssa) → Ar
 by-nodes ds matches ssa known packs = plans-by-nodes ds matches ssa packs (packable ds known.described) known.matched
 
 pub fed-by-nodes : (ds : List Description) (matches : List Match) (ssa : Ssa) → AreKnown ds matches ssa
-    → (packs : List Pack) → IsPlanBy fed_aligned ds matches ssa (dependences ssa) packs ↔ IsAlignedFedPlan ds matches ssa packs
+    → (packs : List Pack)
+    → IsPlanBy fed_aligned ds matches ssa (dependences ssa) packs ↔ IsAlignedFedPlan ds matches ssa packs
 fed-by-nodes ds matches ssa known packs = plans-by-nodes-by fed_aligned ds matches ssa packs (packable ds known.described) known.matched
 
 each : {X : Type 0} (P Q : X → Type 0) → ((x : X) → P x → Q x) → (xs : List X) → Every P xs → Every Q xs
@@ -89,7 +93,8 @@ crowded-fed ds matches ssa width size known (many, more, are, differ) =
 
 -- the chosen plan, by the list of all dependences
 pub chosen-plan : (ds : List Description) (matches : List Match) (ssa : Ssa) (width : ℕ) (packs : List Pack)
-    → AreKnown ds matches ssa → IsTable matches → AllByRecursion (BindsInOrder ds) matches → IsPicked ds matches ssa width packs
+    → AreKnown ds matches ssa → IsTable matches → AllByRecursion (BindsInOrder ds) matches
+    → IsPicked ds matches ssa width packs
     → IsChosenPlan ds matches ssa width packs
 chosen-plan ds matches ssa width packs known ordered bindings picked =
     let chosen = picked.chosen in
@@ -126,22 +131,27 @@ chosen-fed-plan ds matches ssa width packs known table picked =
 
 -- it grows from the empty one
 grows : (ds : List Description) (matches : List Match) (ssa : Ssa) (width : ℕ) (packs : List Pack)
-    → AreKnown ds matches ssa → IsChosenPlan ds matches ssa width packs → plans.IsPlanFor ds matches ssa (dependences ssa) packs
+    → AreKnown ds matches ssa → IsChosenPlan ds matches ssa width packs
+    → plans.IsPlanFor ds matches ssa (dependences ssa) packs
 grows ds matches ssa width packs known chosen = (by-nodes ds matches ssa known packs).1 chosen.plan
 
 -- so it is one of the plans that may be fed
 pub may-feed : (ds : List Description) (matches : List Match) (ssa : Ssa) (width : ℕ) (packs : List Pack)
-    → AreKnown ds matches ssa → IsChosenPlan ds matches ssa width packs → IsFedPlanFor ds matches ssa (dependences ssa) packs
+    → AreKnown ds matches ssa → IsChosenPlan ds matches ssa width packs
+    → IsFedPlanFor ds matches ssa (dependences ssa) packs
 may-feed ds matches ssa width packs known chosen =
     may-be-fed ds matches ssa (dependences ssa) unfed packs (grows ds matches ssa width packs known chosen)
 
 pub fed-may-feed : (ds : List Description) (matches : List Match) (ssa : Ssa) (width : ℕ) (packs : List Pack)
-    → AreKnown ds matches ssa → IsChosenFedPlan ds matches ssa width packs → IsFedPlanFor ds matches ssa (dependences ssa) packs
+    → AreKnown ds matches ssa → IsChosenFedPlan ds matches ssa width packs
+    → IsFedPlanFor ds matches ssa (dependences ssa) packs
 fed-may-feed ds matches ssa width packs known chosen =
     may-be-fed ds matches ssa (dependences ssa) fed_aligned packs ((fed-by-nodes ds matches ssa known packs).1 chosen.plan)
 
-pub plan-grows : (ds : List Description) (matches : List Match) (ssa : Ssa) (deps : List (ℕ × ℕ)) (width : ℕ) (packs : List Pack)
-    → AreKnown ds matches ssa → deps ≡ dependences ssa → IsChosenPlan ds matches ssa width packs → IsFedPlanFor ds matches ssa deps packs
+pub plan-grows : (ds : List Description) (matches : List Match) (ssa : Ssa) (deps : List (ℕ × ℕ)) (width : ℕ)
+    (packs : List Pack)
+    → AreKnown ds matches ssa → deps ≡ dependences ssa → IsChosenPlan ds matches ssa width packs
+    → IsFedPlanFor ds matches ssa deps packs
 plan-grows ds matches ssa deps width packs known e chosen =
     subst (λ d. IsFedPlanFor ds matches ssa d packs) (sym e) (may-feed ds matches ssa width packs known chosen)
 
@@ -149,7 +159,8 @@ plan-grows ds matches ssa deps width packs known e chosen =
 
 -- the program of a plan in a legal order, where it costs at most a line for each unit
 is-program : (ds : List Description) (matches : List Match) (ssa : Ssa) (packs : List Pack) (order : List Node)
-    → AreKnown ds matches ssa → IsFedPlanFor ds matches ssa (dependences ssa) packs → plans.cost_of ds matches ssa (dependences ssa) packs ≤ length ssa.units
+    → AreKnown ds matches ssa → IsFedPlanFor ds matches ssa (dependences ssa) packs
+    → plans.cost_of ds matches ssa (dependences ssa) packs ≤ length ssa.units
     → IsOrder ssa matches packs order → IsProgramOver ds ssa (planned_program ds matches ssa packs order)
 is-program ds matches ssa packs order known plan most is =
     let deps = dependences ssa in
@@ -166,22 +177,22 @@ is-program ds matches ssa packs order known plan most is =
     }
 
 pub emitted-is : (ds : List Description) (matches : List Match) (ssa : Ssa) (packs : List Pack) (p : Program)
-    → AreKnown ds matches ssa → IsFedPlanFor ds matches ssa (dependences ssa) packs → plans.cost_of ds matches ssa (dependences ssa) packs ≤ length ssa.units
+    → AreKnown ds matches ssa → IsFedPlanFor ds matches ssa (dependences ssa) packs
+    → plans.cost_of ds matches ssa (dependences ssa) packs ≤ length ssa.units
     → IsEmitted ds matches ssa packs p → IsProgramOver ds ssa p
 emitted-is ds matches ssa packs p known plan most (order, is, put, e) =
     subst (IsProgramOver ds ssa) (sym e) (is-program ds matches ssa packs order known plan most is)
 
 -- what it costs
-pub emitted-costs : (ds : List Description) (matches : List Match) (ssa : Ssa) (packs : List Pack) (p : Program)
+pub emitted-cost : (ds : List Description) (matches : List Match) (ssa : Ssa) (packs : List Pack) (p : Program)
     → AreKnown ds matches ssa → IsFedPlanFor ds matches ssa (dependences ssa) packs → IsEmitted ds matches ssa packs p
-    → IsProgramOf ds (record { ssa = ssa; matches = matches; packs = packs }) p
-emitted-costs ds matches ssa packs p known plan (order, is, put, e) = record {
-  emitted = (order, is, put, e);
-  cost = ap program.cost_of e ∙ programs-cost ds matches ssa (dependences ssa) packs order known plan is;
-}
+    → program.cost_of p ≡ plans.cost_of ds matches ssa (dependences ssa) packs
+emitted-cost ds matches ssa packs p known plan (order, is, put, e) =
+    ap program.cost_of e ∙ programs-cost ds matches ssa (dependences ssa) packs order known plan is
 
 -- the program of the chosen plan
-pub emitted-for : (ds : List Description) (matches : List Match) (ssa : Ssa) (width : ℕ) (packs : List Pack) (p : Program)
+pub emitted-for : (ds : List Description) (matches : List Match) (ssa : Ssa) (width : ℕ) (packs : List Pack)
+    (p : Program)
     → AreKnown ds matches ssa → IsChosenPlan ds matches ssa width packs → IsEmitted ds matches ssa packs p
     → IsProgramFor ds ssa width p
 emitted-for ds matches ssa width packs p known chosen emitted =
@@ -193,12 +204,13 @@ emitted-for ds matches ssa width packs p known chosen emitted =
         packs = packs;
         chosen = chosen;
         emitted = emitted;
-        cost = (emitted-costs ds matches ssa packs p known plan emitted).cost;
+        cost = emitted-cost ds matches ssa packs p known plan emitted;
       };
     }
 
 -- what is told of the plan
-pub planned-is : (ds : List Description) (matches : List Match) (ssa : Ssa) (width : ℕ) (packs : List Pack) (cost plain : ℕ)
+pub planned-is : (ds : List Description) (matches : List Match) (ssa : Ssa) (width : ℕ) (packs : List Pack)
+    (cost plain : ℕ)
     → IsChosenPlan ds matches ssa width packs
     → cost ≡ plans.cost_of ds matches ssa (dependences ssa) packs
     → plain ≡ plans.cost_of ds matches ssa (dependences ssa) (plain_of ds matches ssa (dependences ssa))

@@ -3,10 +3,14 @@ pub mod Choices
 pub mod Described
 pub mod EmptyPlan
 pub mod Joined
+pub mod Listing
 pub mod More
 pub mod MorePrograms
+pub mod OneList
 pub mod OnePlan
 pub mod OneProgram
 pub mod OneText
 pub mod Ordered
+pub mod SameUnits
 pub mod Whole
+pub mod WithoutCuts

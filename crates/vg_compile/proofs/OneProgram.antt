@@ -1,15 +1,15 @@
 -- There is one program that is compiled.
-use Rattle.std.proofs.Common.{◌≡◌, ◌∙◌, ℕ, Bool, true, false, List, [], sym, ap₂, subst}
-use Rattle.std.specs.Prelude.{nat_le, if◌then◌else◌}
+use Rattle.std.proofs.Common.{◌≡◌, ◌∙◌, ℕ, ◌≤◌, Bool, true, false, List, [], sym, ap, subst, arith}
 use Rattle.std.specs.List.Sorted.{IsPermutation}
+use Rattle.vg_catalog.specs.Entries.{Entry}
+use Rattle.vg_kernel.specs.Cost.{scalar_cost}
 use Rattle.vg_kernel.specs.Tree.{Tree}
 use Rattle.vg_program.specs.declared.program.Program.{Program}
+use Rattle.vg_program.specs.Cost as programs
 use Rattle.vg_shapes.specs.declared.match_table.Match.{Match}
 use Rattle.vg_shapes.specs.declared.order.Node.{Node}
 use Rattle.vg_shapes.specs.declared.pack.Pack.{Pack}
 use Rattle.vg_shapes.specs.declared.ssa.Ssa.{Ssa}
-use Rattle.vg_shapes.specs.declared.ssa.SsaParam.{SsaParam}
-use Rattle.vg_shapes.specs.declared.ssa_unit.SsaUnit.{SsaUnit}
 use Rattle.vg_shapes.specs.Depends.{dependences}
 use Rattle.vg_shapes.specs.Description.{Description}
 use Rattle.vg_shapes.specs.Nodes.{nodes}
@@ -18,17 +18,18 @@ use Rattle.vg_order.proofs.OneOrder.{one-order}
 use Rattle.vg_gather.specs.Recipes.{planned_program}
 use Rattle.vg_match.specs.Laws.{HaveSameValues}
 use Rattle.vg_descriptions.specs.Descriptions.{descriptions}
-use Rattle.vg_compile.specs.Chosen.{cheaper, IsChosenFed, IsChosenFor, IsChosenMore, IsChosenWhole, IsChosenWide, KernelPlan, price_of}
-use Rattle.vg_compile.specs.Emitted.{IsEmitted}
-use Rattle.vg_compile.specs.OnePlan.{AreOnePlan, OneProgramIsCompiled}
-use Rattle.vg_compile.proofs.OnePlan.{one-fed, one-whole, one-wide, whole-values, wide-values}
+use Rattle.vg_compile.specs.Chosen.{AreWhole, cheaper, IsChosenMore, KernelPlan, price_of}
+use Rattle.vg_compile.specs.Compiled.{IsCompiled}
+use Rattle.vg_compile.specs.Emitted.{IsEmitted, with_scalar}
+use Rattle.vg_compile.specs.OnePlan.{CompileMoreCostsNoMore, OneProgramIsCompiled}
+use Rattle.vg_compile.proofs.More.{cheaper-below, more-below}
+use Rattle.vg_compile.proofs.OneList.{AreOneSource, one-list, seen_as}
+use Rattle.vg_compile.proofs.OnePlan.{one-over, whole-values}
 
 -- ---- the name, the parameters and the units of values are all that an order and a program see
 
-abbrev pub seen_as : Ssa → List ℕ → List SsaParam → List SsaUnit → Ssa
-seen_as a name params units = record { name = name; params = params; units = units; terms = a.terms; cuts = a.cuts }
-
-once-same : (a b : Ssa) (packs : List Pack) (order : List Node) → HaveSameValues a b → IsPermutation (nodes a packs) order → IsPermutation (nodes b packs) order
+once-same : (a b : Ssa) (packs : List Pack) (order : List Node) → HaveSameValues a b
+    → IsPermutation (nodes a packs) order → IsPermutation (nodes b packs) order
 once-same a b packs order same once =
     subst (λ us. IsPermutation (nodes (seen_as a a.name b.params us) packs) order) same.units
     (subst (λ ps. IsPermutation (nodes (seen_as a a.name ps a.units) packs) order) same.params once)
@@ -44,62 +45,16 @@ scheduled-same : (a b : Ssa) (matches : List Match) (packs : List Pack) (order :
 scheduled-same a b matches packs order same is =
     record { once = once-same a b packs order same is.once; next = next-same a b matches packs order same is.next }
 
-program-same : (ds : List Description) (a b : Ssa) (matches : List Match) (packs : List Pack) (order : List Node) → a.name ≡ b.name → HaveSameValues a b
+program-same : (ds : List Description) (a b : Ssa) (matches : List Match) (packs : List Pack) (order : List Node)
+    → a.name ≡ b.name → HaveSameValues a b
     → planned_program ds matches a packs order ≡ planned_program ds matches b packs order
 program-same ds a b matches packs order name same =
     λ i. planned_program ds matches (seen_as a (name i) (same.params i) (same.units i)) packs order
 
--- ---- one plan
-
--- two plans that are one, over the same values of one name
-pub record AreOneSource (ds : List Description) (a b : KernelPlan) : Type 0 where
-  pub plan : AreOnePlan ds a b
-  pub values : HaveSameValues a.ssa b.ssa
-  pub name : a.ssa.name ≡ b.ssa.name
-
-whole-source : (ds : List Description) (k : Tree) (width : ℕ) (a b : KernelPlan) → IsChosenWhole ds k width a → IsChosenWhole ds k width b → AreOneSource ds a b
-whole-source ds k width a b x y = record {
-  plan = one-whole ds k width a b x y;
-  values = whole-values k a.ssa b.ssa x.values y.values;
-  name = x.values.0.name ∙ sym y.values.0.name;
-}
-
-wide-source : (ds : List Description) (k : Tree) (width : ℕ) (a b : KernelPlan) → IsChosenWide ds k width a → IsChosenWide ds k width b → AreOneSource ds a b
-wide-source ds k width a b x y = record {
-  plan = one-wide ds k width a b x y;
-  values = wide-values k a.ssa b.ssa x.values y.values;
-  name = x.values.0.name ∙ sym y.values.0.name;
-}
-
-fed-source : (ds : List Description) (k : Tree) (width : ℕ) (a b : KernelPlan) → IsChosenFed ds k width a → IsChosenFed ds k width b → AreOneSource ds a b
-fed-source ds k width a b x y = record {
-  plan = one-fed ds k width a b x y;
-  values = wide-values k a.ssa b.ssa x.values y.values;
-  name = x.values.0.name ∙ sym y.values.0.name;
-}
-
-cheaper-source : (ds : List Description) (a b c d : KernelPlan) → AreOneSource ds a c → AreOneSource ds b d → AreOneSource ds (cheaper ds a b) (cheaper ds c d)
-cheaper-source ds a b c d x y =
-    subst (λ t. AreOneSource ds (cheaper ds a b) (if t then c else d)) (ap₂ nat_le x.plan.price y.plan.price) (by (nat_le (price_of ds a) (price_of ds b)))
-  where
-    by : (t : Bool) → AreOneSource ds (if t then a else b) (if t then c else d)
-    by true = x
-    by false = y
-
-more-source : (ds : List Description) (k : Tree) (width : ℕ) (a b : KernelPlan) → IsChosenMore ds k width a → IsChosenMore ds k width b → AreOneSource ds a b
-more-source ds k width a b x y =
-    let two = cheaper-source ds x.whole x.wide y.whole y.wide (whole-source ds k width x.whole y.whole x.whole_chosen y.whole_chosen)
-    (wide-source ds k width x.wide y.wide x.wide_chosen y.wide_chosen) in
-    let three = cheaper-source ds (cheaper ds x.whole x.wide) x.fed (cheaper ds y.whole y.wide) y.fed two (fed-source ds k width x.fed y.fed x.fed_chosen y.fed_chosen) in
-    subst (AreOneSource ds a) (sym y.is) (subst (λ p. AreOneSource ds p (cheaper ds (cheaper ds y.whole y.wide) y.fed)) (sym x.is) three)
-
-pub one-source : (ds : List Description) (k : Tree) (width : ℕ) (more : Bool) (a b : KernelPlan) → IsChosenFor more ds k width a → IsChosenFor more ds k width b → AreOneSource ds a b
-one-source ds k width false a b x y = whole-source ds k width a b x y
-one-source ds k width true a b x y = more-source ds k width a b x y
-
 -- ---- one program
 
-emitted-one : (ds : List Description) (a b : KernelPlan) (p q : Program) → AreOneSource ds a b → IsEmitted ds a.matches a.ssa a.packs p → IsEmitted ds b.matches b.ssa b.packs q → p ≡ q
+emitted-one : (ds : List Description) (a b : KernelPlan) (p q : Program) → AreOneSource ds a b
+    → IsEmitted ds a.matches a.ssa a.packs p → IsEmitted ds b.matches b.ssa b.packs q → p ≡ q
 emitted-one ds a b p q one (order, legal, put, e) (other, legal_too, put_too, f) =
     let packed : IsScheduled (dependences a.ssa) a.ssa b.matches b.packs order =
     subst (λ ps. IsScheduled (dependences a.ssa) a.ssa b.matches ps order) one.plan.packs (subst (λ ms. IsScheduled (dependences a.ssa) a.ssa ms a.packs order) one.plan.matches put) in
@@ -112,4 +67,32 @@ emitted-one ds a b p q one (order, legal, put, e) (other, legal_too, put_too, f)
 
 pub one-program : OneProgramIsCompiled
 one-program entries set k width more p q x y =
-    emitted-one (descriptions set entries) x.plan y.plan p q (one-source (descriptions set entries) k width more x.plan y.plan x.chosen y.chosen) x.program.emitted y.program.emitted
+    let ds = descriptions set entries in
+    let source = (one-list ds k width more x.rewriting y.rewriting x.plan y.plan x.chosen y.chosen).source in
+    x.program.is
+    ∙ ap (with_scalar (scalar_cost k)) (emitted-one ds x.plan y.plan x.program.program y.program.program source x.program.emitted y.program.emitted)
+    ∙ sym y.program.is
+
+-- ---- what is compiled costs
+
+pub compile-more-costs-no-more : CompileMoreCostsNoMore
+compile-more-costs-no-more = record { same = same; no_more = no_more }
+  where
+    same : (entries : List Entry) (set : ℕ) (k : Tree) (width : ℕ) (more : Bool) (p q : Program)
+        → IsCompiled entries set k width more p → IsCompiled entries set k width more q
+        → programs.cost_of p ≡ programs.cost_of q
+    same entries set k width more p q x y = ap programs.cost_of (one-program entries set k width more p q x y)
+
+    no_more : (entries : List Entry) (set : ℕ) (k : Tree) (width : ℕ) (p q : Program)
+        → IsCompiled entries set k width true p → IsCompiled entries set k width false q
+        → programs.cost_of p ≤ programs.cost_of q
+    no_more entries set k width p q x y =
+        let ds = descriptions set entries in
+        let more : IsChosenMore ds k width x.rewriting x.plan = x.chosen in
+        let own = more.own_chosen in
+        let plan = one-over AreWhole ds k width own.whole y.plan (whole-values k) own.whole_chosen y.chosen.1 in
+        let two = (cheaper-below ds own.whole own.wide).0 in
+        let three = (cheaper-below ds (cheaper ds own.whole own.wide) own.fed).0 in
+        let first = more-below ds k width x.rewriting x.plan more in
+        let is = ap (price_of ds) own.is in
+        omega (arith, x.program.cost, first, is, three, two, plan.price, y.program.cost)

@@ -40,7 +40,8 @@ names_lesser ssa deps e = subst NameLesser (sym e) (dependences-name_units ssa).
 pub names_earlier : (ssa : Ssa) (deps : List (ℕ × ℕ)) → deps ≡ dependences ssa → NameEarlierUnits ssa deps
 names_earlier ssa deps e = record { units = names_units ssa deps e; earlier = names_lesser ssa deps e }
 
-pub no_cycle : (ds : List Description) (matches : List Match) (ssa : Ssa) (deps : List (ℕ × ℕ)) (plan : List Pack) (units : List ℕ)
+pub no_cycle : (ds : List Description) (matches : List Match) (ssa : Ssa) (deps : List (ℕ × ℕ)) (plan : List Pack)
+    (units : List ℕ)
     → deps ≡ dependences ssa → IsFedPlanFor ds matches ssa deps plan → NamesCycle deps ssa matches plan units → ⊥
 no_cycle ds matches ssa deps plan units e is (cycle, closed, are, once) =
     plans-have-no-cycle ds matches ssa deps plan cycle (names_units ssa deps e) (names_lesser ssa deps e) is closed
@@ -54,26 +55,34 @@ pub are_packs : (ds : List Description) (matches : List Match) (ssa : Ssa) (deps
     → AreKnown ds matches ssa → IsFedPlanFor ds matches ssa deps plan → ArePacks ssa plan
 are_packs ds matches ssa deps plan known is = (packs-are-right ds matches ssa deps plan known is).0
 
-pub is_emitted : (ds : List Description) (matches : List Match) (ssa : Ssa) (plan : List Pack) (order : List Node) (p : Program)
-    → IsOrder ssa matches plan order → IsScheduled (dependences ssa) ssa matches plan order → p ≡ planned_program ds matches ssa plan order → IsEmitted ds matches ssa plan p
+pub is_emitted : (ds : List Description) (matches : List Match) (ssa : Ssa) (plan : List Pack) (order : List Node)
+    (p : Program)
+    → IsOrder ssa matches plan order → IsScheduled (dependences ssa) ssa matches plan order
+    → p ≡ planned_program ds matches ssa plan order → IsEmitted ds matches ssa plan p
 is_emitted ds matches ssa plan order p is put e = (order, is, put, e)
 
-pub known : (ds : List Description) (matches : List Match) (ssa : Ssa) → IsSound ssa → AllByRecursion IsCallable ds → AreMatches ds ssa matches → AreKnown ds matches ssa
+pub known : (ds : List Description) (matches : List Match) (ssa : Ssa) → IsSound ssa → AllByRecursion IsCallable ds
+    → AreMatches ds ssa matches → AreKnown ds matches ssa
 known ds matches ssa sound callable matched = record { sound = sound; described = callable; matched = matched }
 
-pub short_packs : (ds : List Description) (matches : List Match) (ssa : Ssa) (deps : List (ℕ × ℕ)) → AreKnown ds matches ssa → HaveShortPacks ds matches ssa deps
+pub short_packs : (ds : List Description) (matches : List Match) (ssa : Ssa) (deps : List (ℕ × ℕ))
+    → AreKnown ds matches ssa → HaveShortPacks ds matches ssa deps
 short_packs ds matches ssa deps k plan is = packs-are-short ds matches ssa deps plan k (may-be-fed ds matches ssa deps unfed plan is)
 
-pub short_fed : (ds : List Description) (matches : List Match) (ssa : Ssa) (deps : List (ℕ × ℕ)) → AreKnown ds matches ssa → HaveShortPacksBy fed_aligned ds matches ssa deps
+pub short_fed : (ds : List Description) (matches : List Match) (ssa : Ssa) (deps : List (ℕ × ℕ))
+    → AreKnown ds matches ssa → HaveShortPacksBy fed_aligned ds matches ssa deps
 short_fed ds matches ssa deps k plan is = packs-are-short ds matches ssa deps plan k (may-be-fed ds matches ssa deps fed_aligned plan is)
 
-pub plain_short : (ds : List Description) (matches : List Match) (ssa : Ssa) (deps : List (ℕ × ℕ)) (plan : List Pack) → AreKnown ds matches ssa
+pub plain_short : (ds : List Description) (matches : List Match) (ssa : Ssa) (deps : List (ℕ × ℕ)) (plan : List Pack)
+    → AreKnown ds matches ssa
     → plan ≡ plain_of ds matches ssa deps → AllByRecursion IsShort plan
 plain_short ds matches ssa deps plan k e = packs-are-short ds matches ssa deps plan k (may-be-fed ds matches ssa deps unfed plan (plain_is_plan ds matches ssa deps plan e))
 
 -- what the plain plan costs, by the list of all dependences
-pub plain-cost : (ds : List Description) (matches : List Match) (ssa : Ssa) (deps : List (ℕ × ℕ)) (plan : List Pack) (cost : ℕ)
-    → deps ≡ dependences ssa → plan ≡ plain_of ds matches ssa deps → cost ≡ plans.cost_of ds matches ssa (dependences ssa) plan
+pub plain-cost : (ds : List Description) (matches : List Match) (ssa : Ssa) (deps : List (ℕ × ℕ)) (plan : List Pack)
+    (cost : ℕ)
+    → deps ≡ dependences ssa → plan ≡ plain_of ds matches ssa deps
+    → cost ≡ plans.cost_of ds matches ssa (dependences ssa) plan
     → cost ≡ plans.cost_of ds matches ssa (dependences ssa) (plain_of ds matches ssa (dependences ssa))
 plain-cost ds matches ssa deps plan cost same is e =
     e ∙ ap (plans.cost_of ds matches ssa (dependences ssa)) (is ∙ ap (plain_of ds matches ssa) same)

@@ -1,6 +1,6 @@
 -- The chosen plan of the numbered values of a kernel, when its cost is optimal, and the plans that are
 -- chosen of a kernel.
-use Rattle.std.specs.Prelude.{◌≡◌, ◌≤◌, ◌<◌, ℕ, Bool, true, false, List, [], length, nat_le, if◌then◌else◌}
+use Rattle.std.specs.Prelude.{◌≡◌, ◌≤◌, ◌<◌, ℕ, Bool, true, false, List, [], length, nat_le, Option, Some, None, if◌then◌else◌}
 use Rattle.std.specs.List.{AllByRecursion}
 use Rattle.vg_kernel.specs.Tree.{Tree}
 use Rattle.vg_ssa.specs.Cuts.{HasCuts}
@@ -20,6 +20,9 @@ use Rattle.vg_kernel_plans.specs.Fed.{fed_aligned, packing_by}
 use Rattle.vg_kernel_plans.specs.Laws as plan
 use Rattle.vg_kernel_plans.specs.Packing.{chosen_of, packing, plain_of}
 use Rattle.vg_plan_relations.specs.Plans.{IsPlanByNodes, IsPlanByNodesBy}
+use Rattle.vg_compile.specs.declared.rewriting.Rewriting.{Rewriting}
+use Rattle.vg_compile.specs.declared.rewriting.Rewriting.TheVariants.{Own, Repeated, Narrowed, NarrowedRepeated}
+use Rattle.vg_compile.specs.Rewritten.{AreTooMany, AreWholeBy, AreWideBy}
 
 -- the table of all matches of descriptions with the values of a kernel, each with its leaves bound in order
 pub record IsTableOf (ds : List Description) (ssa : Ssa) (matches : List Match) : Type 0 where
@@ -143,26 +146,74 @@ IsChosenWhole ds k width plan = IsChosenOver AreWhole ds k width plan
 abbrev pub IsChosenWide : List Description → Tree → ℕ → KernelPlan → Type 0
 IsChosenWide ds k width plan = IsChosenOver AreWide ds k width plan
 
--- The chosen fed plan over the values of a kernel with their cut terms.
-pub record IsChosenFed (ds : List Description) (k : Tree) (width : ℕ) (plan : KernelPlan) : Type 0 where
-  pub values : AreWide k plan.ssa
+-- The chosen fed plan over the values of a kernel as they are numbered.
+pub record IsChosenFedOver
+    (numbered : Tree → Ssa → Type 0) (ds : List Description) (k : Tree) (width : ℕ) (plan : KernelPlan)
+    : Type 0 where
+  pub values : numbered k plan.ssa
   pub chosen : IsChosenFedPlan ds plan.matches plan.ssa width plan.packs
+
+-- the chosen fed plan, over the values with their cut terms
+abbrev pub IsChosenFed : List Description → Tree → ℕ → KernelPlan → Type 0
+IsChosenFed ds k width plan = IsChosenFedOver AreWide ds k width plan
 
 -- of two plans the first where it costs no more, else the second
 abbrev pub cheaper : List Description → KernelPlan → KernelPlan → KernelPlan
 cheaper ds first second = if nat_le (price_of ds first) (price_of ds second) then first else second
 
--- The first of the least cost of the chosen plan, the chosen wide plan and the chosen fed plan.
-pub record IsChosenMore (ds : List Description) (k : Tree) (width : ℕ) (plan : KernelPlan) : Type 0 where
+-- ---- with more plans
+
+-- The plan that is chosen over one list of the units of a kernel: the first of the least cost of the chosen
+-- plan, the chosen wide plan and the chosen fed plan.
+pub record IsChosenOf
+    (ds : List Description) (k : Tree) (width : ℕ) (rewriting : Rewriting) (plan : KernelPlan)
+    : Type 0 where
   pub whole : KernelPlan
   pub wide : KernelPlan
-  pub whole_chosen : IsChosenWhole ds k width whole
-  pub wide_chosen : IsChosenWide ds k width wide
+  pub whole_chosen : IsChosenOver (AreWholeBy rewriting) ds k width whole
+  pub wide_chosen : IsChosenOver (AreWideBy rewriting) ds k width wide
   pub fed : KernelPlan
-  pub fed_chosen : IsChosenFed ds k width fed
+  pub fed_chosen : IsChosenFedOver (AreWideBy rewriting) ds k width fed
   pub is : plan ≡ cheaper ds (cheaper ds whole wide) fed
 
--- the plan that is chosen of a kernel, with more plans or without
-abbrev pub IsChosenFor : Bool → List Description → Tree → ℕ → KernelPlan → Type 0
-IsChosenFor false ds k width plan = IsChosenWhole ds k width plan
-IsChosenFor true ds k width plan = IsChosenMore ds k width plan
+-- that of a list that is planned unless it is too long
+abbrev pub IsChosenIfFew : List Description → Tree → ℕ → Rewriting → Option KernelPlan → Type 0
+IsChosenIfFew ds k width rewriting None = AreTooMany rewriting k
+IsChosenIfFew ds k width rewriting (Some plan) = IsChosenOf ds k width rewriting plan
+
+-- a plan, and over which list of units
+pub record ListPlan : Type 0 where
+  pub rewriting : Rewriting
+  pub plan : KernelPlan
+
+-- the first, or the plan over another list where there is one and it costs less
+abbrev pub or_cheaper : List Description → ListPlan → Rewriting → Option KernelPlan → ListPlan
+or_cheaper ds first rewriting None = first
+or_cheaper ds first rewriting (Some plan) =
+    if nat_le (price_of ds first.plan) (price_of ds plan) then first
+    else record { rewriting = rewriting; plan = plan }
+
+-- The first of the least cost of the plans that are chosen over a kernel's own units, those repeated, those
+-- narrowed, and the narrowed ones repeated; and over which of them it is.
+pub record IsChosenMore
+    (ds : List Description) (k : Tree) (width : ℕ) (rewriting : Rewriting) (plan : KernelPlan)
+    : Type 0 where
+  pub own : KernelPlan
+  pub repeated : Option KernelPlan
+  pub narrowed : Option KernelPlan
+  pub both : Option KernelPlan
+  pub own_chosen : IsChosenOf ds k width Own own
+  pub repeated_chosen : IsChosenIfFew ds k width Repeated repeated
+  pub narrowed_chosen : IsChosenIfFew ds k width Narrowed narrowed
+  pub both_chosen : IsChosenIfFew ds k width NarrowedRepeated both
+  pub is :
+      record { rewriting = rewriting; plan = plan }
+      ≡ or_cheaper ds
+      (or_cheaper ds (or_cheaper ds (record { rewriting = Own; plan = own }) Repeated repeated)
+      Narrowed narrowed)
+      NarrowedRepeated both
+
+-- the plan that is chosen of a kernel, with more plans or without: then over its own units
+abbrev pub IsChosenFor : Bool → List Description → Tree → ℕ → Rewriting → KernelPlan → Type 0
+IsChosenFor false ds k width rewriting plan = (rewriting ≡ Own) × IsChosenWhole ds k width plan
+IsChosenFor true ds k width rewriting plan = IsChosenMore ds k width rewriting plan

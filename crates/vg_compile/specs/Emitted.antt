@@ -1,6 +1,8 @@
 -- What is emitted for the numbered values of a kernel.
 use Rattle.std.specs.Prelude.{◌≡◌, ◌≤◌, ℕ, List, length, map}
 use Rattle.std.specs.List.{AllByRecursion}
+use Rattle.vg_kernel.specs.Cost.{scalar_cost}
+use Rattle.vg_kernel.specs.Tree.{Tree}
 use Rattle.vg_pseudo.specs.declared.header.Header.{Header}
 use Rattle.vg_program.specs.declared.program.Program.{Program}
 use Rattle.vg_program.specs.Cost.{cost_of}
@@ -30,9 +32,17 @@ IsEmitted ds matches ssa packs p =
     × IsScheduled (dependences ssa) ssa matches packs order
     × (p ≡ planned_program ds matches ssa packs order)
 
--- the program of a plan of a kernel, in its order, and what it costs
-pub record IsProgramOf (ds : List Description) (plan : KernelPlan) (p : Program) : Type 0 where
-  pub emitted : IsEmitted ds plan.matches plan.ssa plan.packs p
+-- a program that states another scalar cost
+abbrev pub with_scalar : ℕ → Program → Program
+with_scalar scalar p =
+    record { name = p.name; params = p.params; lines = p.lines; cost = p.cost; scalar = scalar }
+
+-- the program of a plan of a kernel, in its order, but that it states the kernel's scalar cost; and what it
+-- costs
+pub record IsProgramOf (ds : List Description) (k : Tree) (plan : KernelPlan) (p : Program) : Type 0 where
+  pub program : Program
+  pub emitted : IsEmitted ds plan.matches plan.ssa plan.packs program
+  pub is : p ≡ with_scalar (scalar_cost k) program
   pub cost : cost_of p ≡ price_of ds plan
 
 -- The program of the chosen plan, which is the one that is told of a kernel, in its order; and what it costs.

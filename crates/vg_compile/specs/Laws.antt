@@ -16,21 +16,20 @@ use Rattle.vg_plans.specs.World.{follows, plan_cost, same_packs}
 use Rattle.vg_kernel_plans.specs.Completed.{careful_of, completed_of}
 use Rattle.vg_kernel_plans.specs.Fed.{fed_aligned, packing_by}
 use Rattle.vg_kernel_plans.specs.Packing.{sizes_of}
-use Rattle.vg_ssa.specs.Numbering.{IsNumbering}
-use Rattle.vg_ssa.specs.StandsFor.{StandsFor}
 use Rattle.vg_emission.specs.Laws.{MeansUnits}
 use Rattle.vg_emission.specs.Program.{param_of}
 use Rattle.vg_compile.specs.Chosen.{KernelPlan, price_of, plain_of_units, IsChosenWhole, IsChosenWide, IsChosenFed, IsOptimalCost, IsOptimalFedCost}
 use Rattle.vg_compile.specs.Chosen as plans
 use Rattle.vg_compile.specs.Compiled.{IsCompiled}
 use Rattle.vg_compile.specs.Means.{Means}
+use Rattle.vg_compile.specs.Rewritten.{StandIn}
 
--- a program that means the units of the numbered values of a kernel, and has their name and parameters,
--- means the kernel
+-- a program that means units which do as a kernel does in each layout that respects its noalias, and has
+-- its name and parameters, means the kernel
 abbrev pub UnitsMeanKernels : Type 0
 UnitsMeanKernels =
     (called : Instructions) (k : Tree) (ssa : Ssa) (p : Program) →
-    IsNumbering k ssa → StandsFor k ssa →
+    StandIn k ssa →
     p.name ≡ ssa.name → p.params ≡ map param_of ssa.params → MeansUnits called p ssa →
     Means called p k
 

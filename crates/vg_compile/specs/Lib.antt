@@ -3,6 +3,9 @@ pub mod Compiled
 pub mod Described
 pub mod Emitted
 pub mod Laws
+pub mod Listed
 pub mod Means
 pub mod OnePlan
 pub mod Planned
+pub mod Rewritten
+pub mod SameUnits

@@ -11,13 +11,13 @@ ghost use Rattle.vg_kernel.specs.Tree.{tree_of};
 ghost use Rattle.vg_kernel.specs.WellFormed.{IsWellFormed};
 ghost use Rattle.vg_shapes.specs.Description.{description_of};
 
-use crate::emitting::emit_plan;
+use crate::emitting::{emit_plan, with_scalar};
 use crate::more_plans::plan_more;
 use crate::units::compile_units;
 use std::alloc::{AllocError, Global};
 use vg_catalog::{Catalog, Extensions};
 use vg_descriptions::descriptions_of;
-use vg_kernel::Kernel;
+use vg_kernel::{Kernel, scalar_cost};
 use vg_program::Program;
 use vg_shapes::Description;
 use vg_ssa::number_values;
@@ -38,7 +38,7 @@ fn compile_chosen(
     compile_units(alloc, descriptions, &ssa, width)
 }
 
-/// The program of the cheapest of the three plans of a kernel, by the descriptions of instances.
+/// The program of the cheapest plan of a kernel with more plans, by the descriptions of instances.
 fn compile_cheapest(
     alloc: Global,
     descriptions: &[Description],
@@ -51,16 +51,17 @@ fn compile_cheapest(
         width true) }
 {
     let planned = plan_more(alloc, descriptions, kernel, width)?;
-    let values = &planned.values;
+    let values = &planned.best.values;
     let chosen = &values.planned.chosen;
-    emit_plan(
+    let program = emit_plan(
         alloc,
         descriptions,
         &chosen.plan,
         &chosen.table,
         &values.ssa,
         &chosen.deps,
-    )
+    )?;
+    Ok(with_scalar(program, scalar_cost(kernel)))
 }
 
 /// What `compile_by` gives of a catalogue and a set of extensions, by their descriptions, as
@@ -115,8 +116,9 @@ pub fn compile(
 /// The same with more plans: the program of the first of the least cost of the plan that `compile`
 /// chooses, the wide plan that it would choose if lanes fitted cut terms too, as they are or turned,
 /// and the fed plan that it would then choose of aligned store groups if load groups could feed
-/// operands. Each of the three searches keeps `width` plans of each size. So the program costs at
-/// most what `compile` gives for the same.
+/// operands; and of these three over the units of the kernel repeated, narrowed, and both, each list
+/// where it has at most 8,192 loads and operations. Each search keeps `width` plans of each size. So
+/// the program costs at most what `compile` gives for the same.
 ///
 /// Fails for want of memory, also at the bounds of `compile`.
 pub fn compile_more(

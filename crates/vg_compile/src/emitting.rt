@@ -1,7 +1,7 @@
 //! The program of a plan.
 
 ghost use Rattle.std.specs.Prelude.{◌≡◌, IfOk, map};
-ghost use Rattle.vg_compile.specs.Emitted.{IsEmitted};
+ghost use Rattle.vg_compile.specs.Emitted.{IsEmitted, with_scalar};
 ghost use Rattle.vg_kernel_plans.specs.Fed.{IsFedPlanFor};
 ghost use Rattle.vg_order.specs.Scheduled.{IsScheduled};
 ghost use Rattle.vg_plan_laws.specs.Laws.{AreKnown};
@@ -57,4 +57,13 @@ pub(crate) fn emit_plan(
 {
     let order = order_of(alloc, descriptions, plan, table, ssa, deps)?;
     emit_described(alloc, ssa, plan, &order, descriptions, table)
+}
+
+/// A program that states another scalar cost.
+pub(crate) fn with_scalar(program: Program, scalar: u32) -> Program
+    ensures { result ≡ with_scalar scalar program }
+{
+    let mut program = program;
+    program.scalar = scalar;
+    program
 }

@@ -1,12 +1,12 @@
 //! What is told of the plan of a kernel.
 
-ghost use Rattle.std.specs.Prelude.{◌≡◌, true, false, IfOk, map};
+ghost use Rattle.std.specs.Prelude.{◌≡◌, ◌++◌, true, false, IfOk, OnOk, map};
 ghost use Rattle.std.specs.List.{AllByRecursion};
 ghost use Rattle.vg_catalog.specs.Catalogs.{entries_in};
 ghost use Rattle.vg_catalog.specs.Extensions.{bits_in};
 ghost use Rattle.vg_compile.specs.Described.{IsExplainedBy};
 ghost use Rattle.vg_compile.specs.Means.{param_of};
-ghost use Rattle.vg_compile.specs.Planned.{IsExplained, costs_told};
+ghost use Rattle.vg_compile.specs.Planned.{IsExplained, costs_told, rewriting_line};
 ghost use Rattle.vg_emission.specs.Truth.{IsCallable};
 ghost use Rattle.vg_kernel.specs.Tree.{tree_of};
 ghost use Rattle.vg_kernel.specs.WellFormed.{IsWellFormed};
@@ -16,6 +16,7 @@ ghost use Rattle.vg_shapes.specs.Description.{description_of};
 use crate::more_plans::plan_more;
 use crate::params::params_of;
 use crate::planning::{Planned, plan_units};
+use crate::rewriting::Rewriting;
 use std::alloc::{AllocError, Global};
 use vg_catalog::{Catalog, Extensions};
 use vg_descriptions::descriptions_of;
@@ -71,7 +72,19 @@ fn explain_chosen(
     lines_on(alloc, kernel, descriptions, &ssa, &planned, planned.plain)
 }
 
-/// The lines on the cheapest of the three plans of a kernel, by the descriptions of instances.
+/// Appends the line on the units that a plan is over.
+fn put_rewriting(to: &mut Vec<u8>, rewriting: Rewriting) -> Result<(), AllocError>
+    ensures { OnOk result (to.new.items ≡ to.old.items ++ rewriting_line rewriting) }
+{
+    match rewriting {
+        Rewriting::Own => Ok(()),
+        Rewriting::Repeated => to.extend_from_slice(b"rewritten repeated\n"),
+        Rewriting::Narrowed => to.extend_from_slice(b"rewritten narrowed\n"),
+        Rewriting::NarrowedRepeated => to.extend_from_slice(b"rewritten narrowed repeated\n"),
+    }
+}
+
+/// The lines on the cheapest plan of a kernel with more plans, by the descriptions of instances.
 fn explain_cheapest(
     alloc: Global,
     descriptions: &[Description],
@@ -84,15 +97,19 @@ fn explain_cheapest(
         (tree_of kernel.now) width true text.items) }
 {
     let more = plan_more(alloc, descriptions, kernel, width)?;
-    let values = &more.values;
-    lines_on(
+    let values = &more.best.values;
+    let lines = lines_on(
         alloc,
         kernel,
         descriptions,
         &values.ssa,
         &values.planned,
         more.plain,
-    )
+    )?;
+    let mut text = Vec::new(alloc);
+    put_rewriting(&mut text, more.best.rewriting)?;
+    text.extend_from_slice(lines.as_slice())?;
+    Ok(text)
 }
 
 /// What `explain_by` gives of a catalogue and a set of extensions, by their descriptions, as
@@ -135,8 +152,9 @@ pub fn explain(
     explain_by(alloc, catalog, allowed, kernel, width, false)
 }
 
-/// The lines on the plan of a kernel that `compile_more` emits: the cost of the plain plan, in
-/// which lanes fit whole alone, is that which `explain` tells. Fails for want of memory, also at
+/// The lines on the plan of a kernel that `compile_more` emits: first, where it is not over the kernel's
+/// own units, over which. The cost of the plain plan, over the kernel's own units and with lanes that
+/// fit whole alone, is that which `explain` tells. Fails for want of memory, also at
 /// the bounds of `compile`.
 pub fn explain_more(
     alloc: Global,

@@ -3,8 +3,8 @@
 ghost use Rattle.vg_compile.specs.Laws.{MorePlansCostNoMore, UnitsMeanKernels};
 ghost use Rattle.vg_compile.specs.OnePlan.{CompileMoreCostsNoMore, OneChosenPlan, OneProgramIsCompiled, OneTextIsExplained};
 
-/// A law that costs nothing to call: a program that means the units of the numbered values of a kernel,
-/// and has their name and parameters, means the kernel.
+/// A law that costs nothing to call: a program that means units which do as a kernel does in each layout
+/// that respects its noalias, and has its name and parameters, means the kernel.
 pub fn units_mean_kernels()
     ensures { UnitsMeanKernels }
 {}

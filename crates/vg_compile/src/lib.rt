@@ -2,10 +2,11 @@
 //!
 //! `specs/Compiled.antt` says what is compiled of a kernel, `specs/Means.antt` when a program means it,
 //! `specs/Chosen.antt` which plan is chosen for its numbered values, and which of a kernel with more
-//! plans, `specs/Emitted.antt` what is emitted for it by the descriptions of instances, and
-//! `specs/Planned.antt` what is told of it. `specs/Described.antt` says the same by descriptions that are
-//! made once for many kernels. `specs/OnePlan.antt` says that the chosen plan of a kernel is one, and so is
-//! the program that is compiled of it, and that more plans cost no more.
+//! plans, `specs/Rewritten.antt` over which units that may be, `specs/Emitted.antt` what is emitted for
+//! it by the descriptions of instances, and `specs/Planned.antt` what is told of it.
+//! `specs/Described.antt` says the same by descriptions that are made once for many kernels.
+//! `specs/OnePlan.antt` says that the chosen plan of a kernel is one, and so is the program that is
+//! compiled of it, and that more plans cost no more.
 #![tactic(auto)]
 
 mod choosing;
@@ -13,9 +14,13 @@ mod compiling;
 mod emitting;
 mod explaining;
 mod law;
+mod lists;
 mod more_plans;
 mod params;
 mod planning;
+mod rewriting;
+mod same_units;
+mod uncut;
 mod units;
 
 pub use compiling::{compile, compile_by, compile_described, compile_more};

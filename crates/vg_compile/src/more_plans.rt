@@ -1,25 +1,29 @@
-//! The plan that is chosen of a kernel with more plans: the cheapest of the chosen plan, the chosen wide
-//! plan and the chosen fed plan.
+//! The plan that is chosen of a kernel with more plans: over each list of its units the cheapest of the
+//! chosen plan, the chosen wide plan and the chosen fed plan, and of these the cheapest.
 
-ghost use Rattle.std.specs.Prelude.{◌≡◌, ◌&&◌, IfOk, map, nat_le, nat_lt, if◌then◌else◌};
+ghost use Rattle.std.specs.Prelude.{◌≡◌, ◌&&◌, IfOk, Option, map, nat_le, nat_lt, if◌then◌else◌};
 ghost use Rattle.std.specs.List.{AllByRecursion};
 ghost use Rattle.vg_compile.specs.Chosen.{IsChosenFedPlan, IsTableOf, cost_of};
+ghost use Rattle.vg_compile.specs.Listed.{IsBetter, IsPlannedList};
 ghost use Rattle.vg_compile.specs.Planned.{IsPlanned, IsPlannedMore, with_plan};
 ghost use Rattle.vg_emission.specs.Truth.{IsCallable};
 ghost use Rattle.vg_kernel.specs.Tree.{tree_of};
 ghost use Rattle.vg_kernel.specs.WellFormed.{IsWellFormed};
+ghost use Rattle.vg_rewrite.specs.Rewritten.{IsSoundIfSome};
 ghost use Rattle.vg_shapes.specs.Depends.{dependences};
 ghost use Rattle.vg_shapes.specs.Description.{description_of};
 ghost use Rattle.vg_shapes.specs.Sound.{IsSound};
 
 use crate::choosing::ChosenPlan;
+use crate::lists::{Lists, lists_of};
 use crate::planning::{Planned, plan_units};
+use crate::rewriting::Rewriting;
+use crate::uncut::uncut;
 use std::alloc::{AllocError, Global};
 use vg_beam::choose_fed;
 use vg_cost::plan_cost;
 use vg_kernel::Kernel;
 use vg_shapes::{Description, Plan, Ssa};
-use vg_ssa::{number_more, number_values};
 
 /// A chosen plan with the values that it is of, and what is told of it.
 #[derive(Drop)]
@@ -28,11 +32,26 @@ pub(crate) struct PlannedValues {
     pub(crate) planned: Planned,
 }
 
-/// The plan that is chosen of a kernel with more plans, and what the plain plan costs, over values which
+/// The plan that is chosen over one list of units, and what the plain plan costs, over values which
 /// lanes fit whole alone.
 #[derive(Drop)]
-pub(crate) struct PlannedMore {
+pub(crate) struct PlannedList {
     pub(crate) values: PlannedValues,
+    pub(crate) plain: u64,
+}
+
+/// The best of the plans over several lists of units, and over which.
+#[derive(Drop)]
+pub(crate) struct BestPlan {
+    pub(crate) rewriting: Rewriting,
+    pub(crate) values: PlannedValues,
+}
+
+/// The plan that is chosen of a kernel with more plans, and what the plain plan costs, over a kernel's
+/// own units.
+#[derive(Drop)]
+pub(crate) struct PlannedMore {
+    pub(crate) best: BestPlan,
     pub(crate) plain: u64,
 }
 
@@ -126,8 +145,82 @@ fn cheapest(whole: PlannedValues, wide: PlannedValues, fed: FedPlan) -> PlannedV
     }
 }
 
-/// The plan that is chosen of a kernel with more plans, where each of the three searches keeps `width` plans
-/// of each size, and what is told of it.
+/// The plan that is chosen over one list of units, whose values with cut terms these are, where each of
+/// the three searches keeps `width` plans of each size.
+fn plan_list(
+    alloc: Global,
+    descriptions: &[Description],
+    values: Ssa,
+    width: u32,
+) -> Result<PlannedList, AllocError>
+    requires sound { IsSound values }
+    requires callable { AllByRecursion IsCallable (map description_of descriptions.now) }
+    ensures { IfOk result (λ l. IsPlannedList (map description_of descriptions.now) values width
+        l.values l.plain) }
+{
+    let whole_values = uncut(alloc, &values)?;
+    let whole = plan_values(alloc, descriptions, whole_values, width)?;
+    let wide = plan_values(alloc, descriptions, values, width)?;
+    let fed = plan_fed(alloc, descriptions, &wide, width)?;
+    let plain = whole.planned.plain;
+    let values = cheapest(whole, wide, fed);
+    Ok(PlannedList { values, plain })
+}
+
+/// The first where it costs no more, else the second.
+fn cheaper(best: BestPlan, other: BestPlan) -> BestPlan
+    ensures { result ≡ (if nat_le best.values.planned.cost other.values.planned.cost then best
+        else other) }
+{
+    if best.values.planned.cost <= other.values.planned.cost {
+        best
+    } else {
+        other
+    }
+}
+
+/// The best plan so far, or that over another list where it costs less.
+fn or_list(
+    alloc: Global,
+    descriptions: &[Description],
+    best: BestPlan,
+    rewriting: Rewriting,
+    values: Ssa,
+    width: u32,
+) -> Result<BestPlan, AllocError>
+    requires sound { IsSound values }
+    requires callable { AllByRecursion IsCallable (map description_of descriptions.now) }
+    ensures { IfOk result
+        (IsBetter (map description_of descriptions.now) width best rewriting (Option.Some values)) }
+{
+    let list = plan_list(alloc, descriptions, values, width)?;
+    let PlannedList { values, plain: _ } = list;
+    let other = BestPlan { rewriting, values };
+    Ok(cheaper(best, other))
+}
+
+/// The same where there is another list.
+fn or_cheaper(
+    alloc: Global,
+    descriptions: &[Description],
+    best: BestPlan,
+    rewriting: Rewriting,
+    values: Option<Ssa>,
+    width: u32,
+) -> Result<BestPlan, AllocError>
+    requires sound { IsSoundIfSome values }
+    requires callable { AllByRecursion IsCallable (map description_of descriptions.now) }
+    ensures { IfOk result
+        (IsBetter (map description_of descriptions.now) width best rewriting values) }
+{
+    match values {
+        None => Ok(best),
+        Some(ssa) => or_list(alloc, descriptions, best, rewriting, ssa, width),
+    }
+}
+
+/// The plan that is chosen of a kernel with more plans, where each search keeps `width` plans of each
+/// size, and what is told of it.
 pub(crate) fn plan_more(
     alloc: Global,
     descriptions: &[Description],
@@ -137,14 +230,26 @@ pub(crate) fn plan_more(
     requires kernel { IsWellFormed (tree_of kernel.now) }
     requires callable { AllByRecursion IsCallable (map description_of descriptions.now) }
     ensures { IfOk result (λ m. IsPlannedMore (map description_of descriptions.now)
-        (tree_of kernel.now) width m.values m.plain) }
+        (tree_of kernel.now) width m.best.rewriting m.best.values m.plain) }
 {
-    let whole_values = number_values(alloc, kernel)?;
-    let wide_values = number_more(alloc, kernel)?;
-    let whole = plan_values(alloc, descriptions, whole_values, width)?;
-    let wide = plan_values(alloc, descriptions, wide_values, width)?;
-    let fed = plan_fed(alloc, descriptions, &wide, width)?;
-    let plain = whole.planned.plain;
-    let values = cheapest(whole, wide, fed);
-    Ok(PlannedMore { values, plain })
+    let lists = lists_of(alloc, kernel)?;
+    let Lists {
+        own,
+        repeated,
+        narrowed,
+        both,
+    } = lists;
+    let list = plan_list(alloc, descriptions, own, width)?;
+    let PlannedList { values, plain } = list;
+    let first = BestPlan {
+        rewriting: Rewriting::Own,
+        values,
+    };
+    let kind = Rewriting::Repeated;
+    let second = or_cheaper(alloc, descriptions, first, kind, repeated, width)?;
+    let kind = Rewriting::Narrowed;
+    let third = or_cheaper(alloc, descriptions, second, kind, narrowed, width)?;
+    let kind = Rewriting::NarrowedRepeated;
+    let best = or_cheaper(alloc, descriptions, third, kind, both, width)?;
+    Ok(PlannedMore { best, plain })
 }

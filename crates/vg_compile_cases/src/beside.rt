@@ -290,6 +290,19 @@ pub fn expect_more_told(
     expect_told(rt, alloc, case, true, line)
 }
 
+/// Asserts what a program of more plans costs, and the first line on its plan.
+pub fn expect_more_starts(
+    rt: &impl Abort,
+    alloc: Global,
+    case: &Case,
+    line: &[u8],
+) -> Result<(), Fail> {
+    let made = Beside::made(alloc, case.instructions, case.allowed, case.kernel, true)?;
+    made.expect_costs(rt, case);
+    assert!(rt; made.plan.as_slice().starts_with(line));
+    Ok(())
+}
+
 /// Asserts that a program and its kernel trap.
 pub fn expect_trap(
     rt: &impl Abort,

@@ -189,3 +189,45 @@ FOR j := 0 to 3
 ENDFOR
 END
 ";
+
+/// Sums, products and shifts of eight words, of bytes that are widened, and words that are cut to bytes.
+pub const WORDS: &[u8] = b"INSTRUCTION _mm_cvtepu8_epi16 PARAM a 128 UI8
+RESULT dst 128 UI16 EXTENSION SSE4.1 COST 1 OPERATION
+FOR j := 0 to 7
+ dst.word[j] := ZeroExtend16(a.byte[j])
+ENDFOR
+END
+INSTRUCTION _mm_add_epi16 PARAM a 128 SI16 PARAM b 128 SI16
+RESULT dst 128 SI16 EXTENSION SSE2 COST 1 OPERATION
+FOR j := 0 to 7
+ dst.word[j] := a.word[j] + b.word[j]
+ENDFOR
+END
+INSTRUCTION _mm_mullo_epi16 PARAM a 128 SI16 PARAM b 128 SI16
+RESULT dst 128 SI16 EXTENSION SSE2 COST 1 OPERATION
+FOR j := 0 to 7
+ dst.word[j] := a.word[j] * b.word[j]
+ENDFOR
+END
+INSTRUCTION _mm_srli_epi16 PARAM a 128 UI16 IMM imm8 1 to 15
+RESULT dst 128 UI16 EXTENSION SSE2 COST 1 OPERATION
+FOR j := 0 to 7
+ dst.word[j] := a.word[j] >> imm8
+ENDFOR
+END
+INSTRUCTION x_trunc16_8 PARAM a 128 UI16 RESULT dst 128 UI8 EXTENSION SSSE3 COST 1 OPERATION
+FOR j := 0 to 7
+ dst.byte[j] := Truncate8(a.word[j])
+ENDFOR
+dst[MAX:64] := 0
+END
+";
+
+/// The rounded mean of bytes.
+pub const MEAN: &[u8] = b"INSTRUCTION _mm_avg_epu8 PARAM a 128 UI8 PARAM b 128 UI8
+RESULT dst 128 UI8 EXTENSION SSE2 COST 1 OPERATION
+FOR j := 0 to 15
+ dst.byte[j] := (a.byte[j] + b.byte[j] + 1) >> 1
+ENDFOR
+END
+";

@@ -430,3 +430,79 @@ pub const SIXTY_EIGHT_SUMS: &[u8] = b"kernel sums(d: noalias ptr, p: ptr, q: ptr
   store32(d + 268, load32(p + 268) + load32(q + 268));
 }
 ";
+
+/// A quarter of three times a byte and a byte, in double words.
+pub const WEIGHED: &[u8] = b"kernel weighed(d: noalias ptr, p: ptr, q: ptr) {
+  store8(d + 0, trunc8(lshr(zext32(load8(p + 0)) * 3i32 + zext32(load8(q + 0)), 2)));
+  store8(d + 1, trunc8(lshr(zext32(load8(p + 1)) * 3i32 + zext32(load8(q + 1)), 2)));
+  store8(d + 2, trunc8(lshr(zext32(load8(p + 2)) * 3i32 + zext32(load8(q + 2)), 2)));
+  store8(d + 3, trunc8(lshr(zext32(load8(p + 3)) * 3i32 + zext32(load8(q + 3)), 2)));
+  store8(d + 4, trunc8(lshr(zext32(load8(p + 4)) * 3i32 + zext32(load8(q + 4)), 2)));
+  store8(d + 5, trunc8(lshr(zext32(load8(p + 5)) * 3i32 + zext32(load8(q + 5)), 2)));
+  store8(d + 6, trunc8(lshr(zext32(load8(p + 6)) * 3i32 + zext32(load8(q + 6)), 2)));
+  store8(d + 7, trunc8(lshr(zext32(load8(p + 7)) * 3i32 + zext32(load8(q + 7)), 2)));
+}
+";
+
+/// Sums of neighbours, each of them loaded once.
+pub const NEIGHBOURS: &[u8] = b"kernel neighbours(d: noalias ptr, p: ptr) {
+  a0 = load32(p + 0);
+  a1 = load32(p + 4);
+  a2 = load32(p + 8);
+  a3 = load32(p + 12);
+  a4 = load32(p + 16);
+  store32(d + 0, a0 + a1);
+  store32(d + 4, a1 + a2);
+  store32(d + 8, a2 + a3);
+  store32(d + 12, a3 + a4);
+}
+";
+
+/// The same where what is stored may be what is loaded.
+pub const NEIGHBOURS_THAT_MEET: &[u8] = b"kernel neighbours(d: ptr, p: ptr) {
+  a0 = load32(p + 0);
+  a1 = load32(p + 4);
+  a2 = load32(p + 8);
+  a3 = load32(p + 12);
+  a4 = load32(p + 16);
+  store32(d + 0, a0 + a1);
+  store32(d + 4, a1 + a2);
+  store32(d + 8, a2 + a3);
+  store32(d + 12, a3 + a4);
+}
+";
+
+/// Rounded means of neighbours, in double words.
+pub const MEANS: &[u8] = b"kernel means(d: noalias ptr, p: ptr) {
+  a0 = zext32(load8(p + 0));
+  a1 = zext32(load8(p + 1));
+  a2 = zext32(load8(p + 2));
+  a3 = zext32(load8(p + 3));
+  a4 = zext32(load8(p + 4));
+  a5 = zext32(load8(p + 5));
+  a6 = zext32(load8(p + 6));
+  a7 = zext32(load8(p + 7));
+  a8 = zext32(load8(p + 8));
+  store8(d + 0, trunc8(lshr(a0 + a1 + 1i32, 1)));
+  store8(d + 1, trunc8(lshr(a1 + a2 + 1i32, 1)));
+  store8(d + 2, trunc8(lshr(a2 + a3 + 1i32, 1)));
+  store8(d + 3, trunc8(lshr(a3 + a4 + 1i32, 1)));
+  store8(d + 4, trunc8(lshr(a4 + a5 + 1i32, 1)));
+  store8(d + 5, trunc8(lshr(a5 + a6 + 1i32, 1)));
+  store8(d + 6, trunc8(lshr(a6 + a7 + 1i32, 1)));
+  store8(d + 7, trunc8(lshr(a7 + a8 + 1i32, 1)));
+}
+";
+
+/// Halves of signed bytes, rounded up: the low bits of a negative number come from above.
+pub const HALVES: &[u8] = b"kernel halves(d: noalias ptr, p: ptr) {
+  store8(d + 0, trunc8(lshr(sext32(load8(p + 0)) + 1i32, 1)));
+  store8(d + 1, trunc8(lshr(sext32(load8(p + 1)) + 1i32, 1)));
+  store8(d + 2, trunc8(lshr(sext32(load8(p + 2)) + 1i32, 1)));
+  store8(d + 3, trunc8(lshr(sext32(load8(p + 3)) + 1i32, 1)));
+  store8(d + 4, trunc8(lshr(sext32(load8(p + 4)) + 1i32, 1)));
+  store8(d + 5, trunc8(lshr(sext32(load8(p + 5)) + 1i32, 1)));
+  store8(d + 6, trunc8(lshr(sext32(load8(p + 6)) + 1i32, 1)));
+  store8(d + 7, trunc8(lshr(sext32(load8(p + 7)) + 1i32, 1)));
+}
+";

@@ -18,3 +18,5 @@ mod more_plans;
 mod moves;
 #[cfg(test)]
 mod plans;
+#[cfg(test)]
+mod rewritten_plans;

@@ -10,7 +10,7 @@ returns c =
     let ds = map description_of c.args.descriptions.now in
     IfOk-weaker c.compile_units.result _ _
     (λ p is entries set described. compiled-whole entries set (tree_of c.args.kernel.now) c.args.width
-    c.in_ok-ssa.ssa ds ds p refl (c.in_ok-ssa.ensures.exact, c.in_ok-ssa.ensures.uncut)
+    c.in_ok-ssa.ssa ds ds p refl c.requires.kernel (c.in_ok-ssa.ensures.exact, c.in_ok-ssa.ensures.uncut)
     c.in_ok-ssa.ensures.stands_for c.in_ok-ssa.ensures.sound
     described.all described.each described.proper is)
     c.compile_units.ensures

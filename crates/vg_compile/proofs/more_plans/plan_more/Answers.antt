@@ -1,33 +1,36 @@
-use Rattle.std.proofs.Common.{◌∙◌, ap, map, subst, sym}
+use Rattle.std.proofs.Common.{◌≡◌, ◌⊎◌, map}
+use Rattle.std.specs.Prelude.{Some}
 use Rattle.vg_kernel.specs.Tree.{tree_of}
+use Rattle.vg_shapes.specs.declared.ssa.Ssa.{Ssa}
 use Rattle.vg_shapes.specs.Description.{description_of}
-use Rattle.vg_shapes.specs.Depends.{dependences}
-use Rattle.vg_shapes.specs.Sound.{IsSound}
-use Rattle.vg_compile.specs.Chosen.{AreWhole, AreWide, IsTableOf}
-use Rattle.vg_compile.proofs.More.{more-is, valued}
+use Rattle.vg_compile.specs.declared.rewriting.Rewriting.TheVariants.{Repeated, Narrowed, NarrowedRepeated}
+use Rattle.vg_compile.specs.Rewritten.{units_by}
+use Rattle.vg_compile.proofs.Listing.{listed-sound, more-is}
 use Rattle.vg_compile.proofs.more_plans.plan_more.Goals as goal
 
-pub plan_fed-requires-clause-sound : goal.plan_fed-requires-clause-sound
-plan_fed-requires-clause-sound c = subst IsSound (sym c.in_ok-wide.ensures.ssa) c.in_ok-wide_values.ensures.sound
+pub or_cheaper-requires-clause-sound : goal.or_cheaper-requires-clause-sound
+or_cheaper-requires-clause-sound c =
+    let own = c.in_ok-lists.lists.own in
+    listed-sound (tree_of c.args.kernel.now) own (λ (s : Ssa). s ≡ own) (units_by Repeated own)
+    c.in_ok-lists.lists.repeated c.in_ok-lists.ensures.repeated
 
-pub plan_fed-requires-clause-table : goal.plan_fed-requires-clause-table
-plan_fed-requires-clause-table c =
-    let ds = map description_of c.args.descriptions.now in
-    subst (λ s. IsTableOf ds s c.in_ok-wide.wide.planned.chosen.table) (sym c.in_ok-wide.ensures.ssa) c.in_ok-wide.ensures.planned.chosen.table
+pub or_cheaper-requires-2-clause-sound : goal.or_cheaper-requires-2-clause-sound
+or_cheaper-requires-2-clause-sound c =
+    let own = c.in_ok-lists.lists.own in
+    let repeated = c.in_ok-lists.lists.repeated in
+    listed-sound (tree_of c.args.kernel.now) own (λ (s : Ssa). (s ≡ own) ⊎ (repeated ≡ Some s)) (units_by Narrowed own)
+    c.in_ok-lists.lists.narrowed c.in_ok-lists.ensures.narrowed
 
-pub plan_fed-requires-clause-deps : goal.plan_fed-requires-clause-deps
-plan_fed-requires-clause-deps c = c.in_ok-wide.ensures.deps ∙ ap dependences (sym c.in_ok-wide.ensures.ssa)
+pub or_cheaper-requires-3-clause-sound : goal.or_cheaper-requires-3-clause-sound
+or_cheaper-requires-3-clause-sound c =
+    let own = c.in_ok-lists.lists.own in
+    let repeated = c.in_ok-lists.lists.repeated in
+    let narrowed = c.in_ok-lists.lists.narrowed in
+    listed-sound (tree_of c.args.kernel.now) own (λ (s : Ssa). ((s ≡ own) ⊎ (repeated ≡ Some s)) ⊎ (narrowed ≡ Some s)) (units_by NarrowedRepeated own)
+    c.in_ok-lists.lists.both c.in_ok-lists.ensures.both
 
 pub returns : goal.returns
 returns c =
-    let ds = map description_of c.args.descriptions.now in
-    let k = tree_of c.args.kernel.now in
-    let whole = c.in_ok-whole_values.ensures in
-    let wide = c.in_ok-wide_values.ensures in
-    more-is ds k c.args.width c.in_ok-whole.whole c.in_ok-wide.wide c.in_ok-fed.fed
-    (valued AreWhole ds k c.args.width c.in_ok-whole_values.whole_values c.in_ok-whole.whole (whole.exact, whole.uncut) whole.exact whole.sound whole.stands_for
-    c.in_ok-whole.ensures.ssa c.in_ok-whole.ensures.planned c.in_ok-whole.ensures.deps)
-    (valued AreWide ds k c.args.width c.in_ok-wide_values.wide_values c.in_ok-wide.wide (wide.exact, wide.cuts) wide.exact wide.sound wide.stands_for
-    c.in_ok-wide.ensures.ssa c.in_ok-wide.ensures.planned c.in_ok-wide.ensures.deps)
-    (record { chosen = c.in_ok-fed.ensures.chosen; cost = c.in_ok-fed.ensures.cost })
-    c.cheapest-values.result c.cheapest-values.ensures
+    more-is (map description_of c.args.descriptions.now) (tree_of c.args.kernel.now) c.args.width c.in_ok-lists.lists
+    c.in_ok-list.list.values c.in_ok-list.list.plain c.in_ok-second.second c.in_ok-third.third c.in_ok-best.best
+    c.in_ok-lists.ensures c.in_ok-list.ensures c.in_ok-second.ensures c.in_ok-third.ensures c.in_ok-best.ensures
