@@ -146,6 +146,7 @@ export class Panes {
   note(costs, program) {
     const words = [];
     if (costs.packs) words.push(`${costs.packs.length} packs`);
+    if (costs.rewritten) words.push(`units ${costs.rewritten}`);
     if (costs.cost) words.push(`${(costs.scalar / costs.cost).toFixed(1)} times less than scalar`);
     if (program) words.push(`search ${program.seconds.toFixed(2)} s`);
     if (program && program.costs.length > 1) words.push(`programs of the text: ${program.costs.map(([cost]) => cost).join(', ')}`);
@@ -174,7 +175,8 @@ export class Panes {
 
   planText() {
     const { plan } = this.parts;
-    return plan ? [...plan.packs, `plan cost ${plan.cost} plain ${plan.plain} scalar ${plan.scalar}`, ''].join('\n') : '';
+    const first = plan && plan.rewritten ? [plan.rewritten] : [];
+    return plan ? [...first, ...plan.packs, `plan cost ${plan.cost} plain ${plan.plain} scalar ${plan.scalar}`, ''].join('\n') : '';
   }
 
   legend() {

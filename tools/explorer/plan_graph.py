@@ -1,7 +1,8 @@
 """A plan as a graph for a picture: what each line of its program is of the kernel, and what goes into it.
 
 `explain` tells the packs and not their units, so both texts are run on some numbers (`units.py`, `registers.py`), and a lane is the unit
-that has its number on all of them. A pack is a `vload`, a `vstore` or a call that is no shuffle.
+that has its number on all of them; of a plan of rewritten units also one that is wider and has it as its low bits, or one that another line
+has already. A pack is a `vload`, a `vstore` or a call that is no shuffle.
 """
 import collections
 
@@ -31,8 +32,13 @@ class Free:
     """Which units are taken by no line yet, by what they are on the samples, and loads and stores by their place."""
 
     def __init__(self, all_units):
-        self.by_sample, self.by_place, self.taken = {}, {}, set()
+        self.by_sample, self.by_place, self.low, self.taken = {}, {}, {}, set()
         for unit in all_units:
+            for width in (8, 16, 32, 64):
+                if unit.sample and width < unit.width:
+                    self.low.setdefault((unit.kind, width, tuple(number % 2**width for number in unit.sample)), unit.number)
+            if unit.place:
+                self.low.setdefault((unit.kind, unit.width, unit.place, unit.sample), unit.number)
             self.by_sample.setdefault((unit.kind, unit.width, unit.sample), collections.deque()).append(unit.number)
             if unit.place:
                 self.by_place.setdefault((unit.kind, unit.width, unit.place, unit.sample), collections.deque()).append(unit.number)
@@ -42,7 +48,7 @@ class Free:
         line = table.get(key)
         while line and line[0] in self.taken:
             line.popleft()
-        return line[0] if line else None
+        return line[0] if line else self.low.get(key)
 
     def take(self, number):
         if number is not None:

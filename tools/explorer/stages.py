@@ -263,8 +263,9 @@ class Run:
         if ended is None:
             return
         *packs, last = ended.text().splitlines()
+        rewritten = packs.pop(0) if packs and packs[0].startswith('rewritten ') else ''
         cost, plain, scalar = map(int, re.match(r'plan cost (\d+) plain (\d+) scalar (\d+)', last).groups())
-        self.tell('plan', packs=packs, cost=cost, plain=plain, scalar=scalar, seconds=round(ended.seconds, 3))
+        self.tell('plan', rewritten=rewritten, packs=packs, cost=cost, plain=plain, scalar=scalar, seconds=round(ended.seconds, 3))
 
     def rows(self):
         """What tools/why says, which makes many searches."""
