@@ -89,11 +89,14 @@ multiply (plus k i f r) q = do
 abbrev pub product : Polynomial → Polynomial → Option Polynomial
 product p q = if nat_le (size p * size q) most_products then multiply p q else None
 
+-- a sum with each coefficient changed
+abbrev pub changed : (ℤ → ℤ) → Polynomial → Polynomial
+changed f (number z) = number (f z)
+changed f (plus k i g r) = joined k i (changed f g) (changed f r)
+
 -- the sum of the coefficients over 2 ^ k, rounded down, and that of what is left of them
 abbrev pub quotient : ℕ → Polynomial → Polynomial
-quotient k (number z) = number (floor_shift z k)
-quotient k (plus l i f r) = joined l i (quotient k f) (quotient k r)
+quotient k p = changed (λ z. floor_shift z k) p
 
 abbrev pub remainder : ℕ → Polynomial → Polynomial
-remainder k (number z) = number (pos (residue k z))
-remainder k (plus l i f r) = joined l i (remainder k f) (remainder k r)
+remainder k p = changed (λ z. pos (residue k z)) p

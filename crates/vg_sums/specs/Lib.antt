@@ -1,6 +1,7 @@
 pub mod Arithmetic
 pub mod Atoms
 pub mod Bitwise
+pub mod Changes
 pub mod Choices
 pub mod Gives
 pub mod Laws

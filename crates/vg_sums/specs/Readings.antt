@@ -6,7 +6,7 @@ use Rattle.vg_base.specs.Bits.{signed_at}
 use Rattle.vg_base.specs.Number.{floor_shift, residue}
 use Rattle.vg_sums.specs.declared.kind.Kind.TheVariants.{Floor}
 use Rattle.vg_sums.specs.declared.span.Span.{Span}
-use Rattle.vg_sums.specs.Arithmetic.{add, add_number, fit, joined, quotient, remainder, scale}
+use Rattle.vg_sums.specs.Arithmetic.{add, add_number, changed, fit, quotient, remainder, scale}
 use Rattle.vg_sums.specs.Spans.{span}
 use Rattle.vg_sums.specs.Sums.{Polynomial, nothing, number, plus}
 
@@ -43,8 +43,7 @@ less_multiple w multiple p = scale (negsuc (2 ^ w - 1)) multiple >>= λ m. add p
 
 -- each coefficient as the number of w bits in two's complement that it is modulo 2 ^ w
 abbrev pub balanced : ℕ → Polynomial → Polynomial
-balanced w (number z) = number (signed_at w (residue w z))
-balanced w (plus k i f r) = joined k i (balanced w f) (balanced w r)
+balanced w p = changed (λ z. signed_at w (residue w z)) p
 
 -- by the floor that the span shows, else by an atom
 abbrev pub reading_by : Option ℤ → ℕ → Polynomial → Option Polynomial

@@ -5,6 +5,7 @@
 #![tactic(auto)]
 
 mod arithmetic;
+mod change;
 mod choices;
 mod kind;
 mod law;

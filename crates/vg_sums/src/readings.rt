@@ -6,10 +6,10 @@ ghost use Rattle.vg_sums.specs.Readings.{floor_atom, floor_by, floored, less_mul
 ghost use Rattle.vg_sums.specs.Sums.{polynomial};
 
 use crate::arithmetic::{add, add_number, scale};
+use crate::change::{Change, changed};
 use crate::kind::Kind;
 use crate::lost::Lost;
 use crate::number::power;
-use crate::products::{balanced, quotient, remainder};
 use crate::span_of::shown_floor;
 use crate::sum::{Sum, make_atom, make_number};
 use std::alloc::Global;
@@ -33,8 +33,8 @@ pub(crate) fn floored(alloc: Global, places: u32, p: &Sum) -> Result<Sum, Lost>
     if places == 0 {
         return p.copy(alloc);
     }
-    let whole = quotient(alloc, places, p)?;
-    let rest = remainder(alloc, places, p)?;
+    let whole = changed(alloc, Change::Quotient { places }, p)?;
+    let rest = changed(alloc, Change::Remainder { places }, p)?;
     let shown = shown_floor(places, &rest);
     let floor = floor_by(alloc, shown, places, rest)?;
     add(alloc, &whole, &floor)
@@ -79,7 +79,7 @@ pub(crate) fn unsigned(alloc: Global, width: u32, p: &Sum) -> Result<Sum, Lost>
     match shown_floor(width, p) {
         Some(z) => less_multiple(alloc, width, &make_number(z), p),
         None => {
-            let p = balanced(alloc, width, p)?;
+            let p = changed(alloc, Change::Balanced { width }, p)?;
             reading_balanced(alloc, width, &p)
         }
     }
