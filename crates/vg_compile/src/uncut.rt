@@ -7,25 +7,9 @@ ghost use Rattle.vg_terms.specs.Term.{tree};
 
 use std::alloc::{AllocError, Global};
 use vg_base::Items;
-use vg_shapes::{Ssa, SsaParam};
+use vg_rewrite::copy_params;
+use vg_shapes::Ssa;
 use vg_terms::Term;
-
-// The parameters a second time.
-fn copy_params(alloc: Global, params: &[SsaParam]) -> Result<Vec<SsaParam>, AllocError>
-    ensures { IfOk result (λ all. all.items ≡ params.now) }
-{
-    let mut all = Vec::new(alloc);
-    let mut rest = params;
-    'params: while let [param, behind @ ..] = rest {
-        let name = param.name.copy(alloc)?;
-        all.push(SsaParam {
-            name,
-            kind: param.kind,
-        })?;
-        rest = behind;
-    }
-    Ok(all)
-}
 
 // The terms a second time.
 fn copy_terms(alloc: Global, terms: &[Term]) -> Result<Vec<Term>, AllocError>

@@ -34,6 +34,6 @@ pub use law::{
     standing_is_apart,
 };
 pub use narrow::narrowed_units;
-pub use renumbered::{narrowed, narrowed_repeated, repeated};
+pub use renumbered::{copy_params, narrowed, narrowed_repeated, repeated};
 pub use repeat::repeated_units;
 pub use standing::Standing;

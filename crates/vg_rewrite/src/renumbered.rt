@@ -40,8 +40,8 @@ fn are_few(units: &[SsaUnit]) -> bool
     count_uses(units) <= MOST_USES
 }
 
-// The parameters a second time.
-fn copy_params(alloc: Global, params: &[SsaParam]) -> Result<Vec<SsaParam>, AllocError>
+/// The parameters of numbered values a second time. Fails for want of memory alone.
+pub fn copy_params(alloc: Global, params: &[SsaParam]) -> Result<Vec<SsaParam>, AllocError>
     ensures { IfOk result (λ all. all.items ≡ params.now) }
 {
     let mut all = Vec::new(alloc);
