@@ -8,15 +8,16 @@ SIGNS = ['+', '-', '&', '|', '^', 'smin', 'smax', 'umin', 'umax', '*']
 class RandomKernel:
     """A kernel or a loop by a seed, with its statements one by one, so that it can be made smaller."""
 
-    def __init__(self, seed):
+    def __init__(self, seed, kinds=None):
+        """Of all kinds, or a kernel of the kinds that are named (`promoted`, `shared`, ..)."""
         self.rng = rng = random.Random(seed)
         self.width = rng.choice([8, 8, 16, 16, 32, 32, 64])
-        self.is_loop = rng.random() < 0.2
+        self.is_loop = rng.random() < 0.2 and not kinds
         self.lanes = rng.choice([1, 2, 4]) if self.is_loop else rng.choice([1, 2, 4, 8, 128 // self.width, 256 // self.width])
         self.used, self.names, self.statements = 0, 0, []
         alone = rng.choice([[True, False, False], [False] * 3, [True] * 3, [rng.random() < 0.5 for _ in range(3)]])
         self.parameters = [f'{p}: {"noalias " if a else ""}ptr' for p, a in zip('dpq', alone)] + [f'k: i{self.width}', 'n: i32']
-        rng.choice([self.rows, self.rows, self.promoted, self.shared, self.in_place, self.loose])()
+        rng.choice([getattr(self, kind) for kind in kinds or ['rows', 'rows', 'promoted', 'shared', 'in_place', 'loose']])()
 
     def text(self, statements=None):
         """The text, of these statements or of all."""
