@@ -1,25 +1,28 @@
 -- What holds where there is no difference.
 use Rattle.std.proofs.Common.{◌≡◌, ℕ, zero, suc, ◌+◌, ◌-◌, ◌<◌, ◌≤◌, Bool, true, false, List, [], ◌∷◌, ◌++◌, length, map, Option, Some, None, refl, sym, ap, ◌∙◌, inl, inr, arith}
-use Rattle.std.specs.Prelude.{filter, nat_eq, nat_lt, not, slice_get, ◌&&◌}
+use Rattle.std.specs.Prelude.{◌||◌, if◌then◌else◌, filter, nat_eq, nat_lt, not, slice_get, ◌&&◌}
 use Rattle.std.specs.List.{find, list_any}
 use Rattle.std.specs.Option.{option_map, option_or}
 use Rattle.std.proofs.lemmas.Bool.{cases_Bool, cases_lt, cond-true, cond-false, eqb-true, le-ltb, lt-ltb, ltb-true}
 use Rattle.vg_base.specs.Trap.{◌>>=◌}
 use Rattle.vg_program.specs.declared.program.Program.{Program}
+use Rattle.vg_terms.specs.Term.{Tree}
 use Rattle.vg_shapes.specs.declared.access.Access.{Access}
 use Rattle.vg_shapes.specs.declared.ssa.Ssa.{Ssa}
 use Rattle.vg_shapes.specs.declared.ssa_unit.SsaUnit.{SsaUnit}
 use Rattle.vg_shapes.specs.Depends.{conflict_at, conflict_of}
 use Rattle.vg_shapes.specs.Layout.{access_at, access_of, noalias_flags}
 use Rattle.vg_shapes.specs.Order.{numbers_from, one_if, Stands}
-use Rattle.vg_shapes.specs.Units.{arguments}
+use Rattle.vg_shapes.specs.Units.{arguments, unit_at}
 use Rattle.vg_catalog.specs.Entries.{Entry}
 use Rattle.vg_events.specs.Events.{kernel_labels, Label}
 use Rattle.vg_events.specs.Lines.{line_labels}
 use Rattle.vg_events.specs.Ranks.{count_label, SameCounts, same_label}
 use Rattle.vg_events.specs.UnitOrder.{is_late, is_out_of_order, unit_events}
 use Rattle.vg_events.proofs.Ranks.{numbers-inside, same-labels}
-use Rattle.vg_known.specs.Difference.{difference, first_of, is_uneven, opaque_line, other_value, params, lines_by_rank, sides_of, turned_units, uneven_label, unit_numbers, unit_pairs, value_at}
+use Rattle.vg_known.specs.Difference.{Difference, difference_by, Equality, equal_terms, first_of, is_uneven, opaque_line, other_value, own_term, params, put_term, lines_by_rank, Sides, sides_of, turned_units, uneven_label, unit_numbers, unit_pairs, value as differs, value_by}
+use Rattle.vg_known.specs.Laws.{SameIsSameWithMore}
+use Rattle.vg_known.specs.WiderDifference.{equal_wholes, equal_wider, wholes_of}
 use Rattle.vg_known.specs.Labels.{least_label}
 use Rattle.vg_known.specs.Params.{same_head}
 
@@ -33,25 +36,40 @@ mapped-none : {A B : Type 0} (f : A → B) (x : Option A) → option_map f x ≡
 mapped-none f None h = refl
 mapped-none f (Some a) h = absurd (cc)
 
-pub record Absent (entries : List Entry) (ssa : Ssa) (p : Program) : Type 0 where
+pub record Absent (equal : Equality) (entries : List Entry) (ssa : Ssa) (p : Program) : Type 0 where
   pub head : same_head ssa p ≡ true
   pub opaque_none : opaque_line entries p ≡ None
   pub uneven : uneven_label (kernel_labels ssa) (line_labels p.lines) ≡ None
   pub turned : turned_units ssa (lines_by_rank ssa p) ≡ None
-  pub values : other_value entries ssa p (lines_by_rank ssa p) ≡ None
+  pub values : other_value equal entries ssa p (lines_by_rank ssa p) ≡ None
 
-pub absent : (entries : List Entry) (ssa : Ssa) (p : Program) → difference entries ssa p ≡ None → Absent entries ssa p
-unfolding difference
-absent entries ssa p h = elim (cases_Bool (same_head ssa p)) [
+pub absent : (equal : Equality) (entries : List Entry) (ssa : Ssa) (p : Program)
+    → difference_by equal entries ssa p ≡ None → Absent equal entries ssa p
+unfolding difference_by
+absent equal entries ssa p h = elim (cases_Bool (same_head ssa p)) [
   | inr f ↦ absurd (let some : Some params ≡ None = sym (cond-false _ _ _ f) ∙ h in cc)
   | inl t ↦
-      let all : first_of (opaque_line entries p ∷ uneven_label (kernel_labels ssa) (line_labels p.lines) ∷ turned_units ssa (lines_by_rank ssa p) ∷ other_value entries ssa p (lines_by_rank ssa p) ∷ []) ≡ None = sym (cond-true _ _ _ t) ∙ h in
-      let one = both-none (opaque_line entries p) (first_of (uneven_label (kernel_labels ssa) (line_labels p.lines) ∷ turned_units ssa (lines_by_rank ssa p) ∷ other_value entries ssa p (lines_by_rank ssa p) ∷ [])) all in
-      let two = both-none (uneven_label (kernel_labels ssa) (line_labels p.lines)) (first_of (turned_units ssa (lines_by_rank ssa p) ∷ other_value entries ssa p (lines_by_rank ssa p) ∷ [])) one.1 in
-      let three = both-none (turned_units ssa (lines_by_rank ssa p)) (first_of (other_value entries ssa p (lines_by_rank ssa p) ∷ [])) two.1 in
-      let four = both-none (other_value entries ssa p (lines_by_rank ssa p)) None three.1 in
+      let all : first_of (opaque_line entries p ∷ uneven_label (kernel_labels ssa) (line_labels p.lines) ∷ turned_units
+      ssa (lines_by_rank ssa p) ∷ other_value equal entries ssa p (lines_by_rank ssa p) ∷ []) ≡ None = sym
+      (cond-true _ _ _ t) ∙ h in
+      let one = both-none (opaque_line entries p)
+      (first_of (uneven_label (kernel_labels ssa) (line_labels p.lines) ∷ turned_units ssa (lines_by_rank ssa p) ∷
+      other_value equal entries ssa p (lines_by_rank ssa p) ∷ [])) all in
+      let two = both-none (uneven_label (kernel_labels ssa) (line_labels p.lines))
+      (first_of (turned_units ssa (lines_by_rank ssa p) ∷ other_value equal entries ssa p (lines_by_rank ssa p) ∷
+      [])) one.1 in
+      let three = both-none (turned_units ssa (lines_by_rank ssa p))
+      (first_of (other_value equal entries ssa p (lines_by_rank ssa p) ∷ [])) two.1 in
+      let four = both-none (other_value equal entries ssa p (lines_by_rank ssa p)) None three.1 in
       record { head = t; opaque_none = one.0; uneven = two.0; turned = three.0; values = four.0 }
 ]
+
+pub present : (equal : Equality) (entries : List Entry) (ssa : Ssa) (p : Program) → Absent equal entries ssa p
+    → difference_by equal entries ssa p ≡ None
+unfolding difference_by
+present equal entries ssa p h =
+    cond-true _ _ _ h.head
+    ∙ (λ i. first_of (h.opaque_none i ∷ h.uneven i ∷ h.turned i ∷ h.values i ∷ []))
 
 -- ---- counts
 
@@ -175,5 +193,50 @@ first-none f first (suc n) v h low high =
       | inr here ↦ (let is : v ≡ first = omega arith in ap f is ∙ parts.0)
     ]
 
-pub none-other : (entries : List Entry) (ssa : Ssa) (p : Program) (lines : List (List ℕ)) → other_value entries ssa p lines ≡ None → (v : ℕ) → arguments ssa ≤ v → v < arguments ssa + length ssa.units → value_at (sides_of entries ssa p lines) ssa v ≡ None
-none-other entries ssa p lines h v low high = first-none (value_at (sides_of entries ssa p lines) ssa) (arguments ssa) (length ssa.units) v h low high
+pub none-other : (equal : Equality) (entries : List Entry) (ssa : Ssa) (p : Program) (lines : List (List ℕ))
+    → other_value equal entries ssa p lines ≡ None →
+    (v : ℕ) → arguments ssa ≤ v → v < arguments ssa + length ssa.units → value_by equal (sides_of entries ssa p lines)
+    ssa v ≡ None
+none-other equal entries ssa p lines h v low high =
+    first-none (value_by equal (sides_of entries ssa p lines) ssa) (arguments ssa) (length ssa.units) v h low high
+
+-- ---- with more
+
+first-absent : {A : Type 0} (f g : ℕ → Option A) (vs : List ℕ) → ((v : ℕ) → f v ≡ None → g v ≡ None)
+    → first_of (map f vs) ≡ None → first_of (map g vs) ≡ None
+first-absent f g [] h e = refl
+first-absent f g (v ∷ vs) h e =
+    let parts = both-none (f v) (first_of (map f vs)) e in
+    (λ i. option_or (h v parts.0 i) (first_of (map g vs))) ∙ first-absent f g vs h parts.1
+
+-- a store whose terms are equal as they stand has none with more
+wider-value : (s : Sides) (ssa : Ssa) (v : ℕ) → value_by equal_terms s ssa v ≡ None
+    → value_by equal_wider s ssa v ≡ None
+wider-value s ssa v h = by (unit_at ssa v >>= own_term s) h
+  where
+    told : Equality → Tree → Option Difference
+    told equal own = if equal s.known.met own (put_term s ssa v) then None else Some (differs v own (put_term s ssa v))
+
+    by : (o : Option Tree) → (o >>= told equal_terms) ≡ None → (o >>= told equal_wider) ≡ None
+    by None e = refl
+    by (Some own) e = elim (cases_Bool (equal_terms s.known.met own (put_term s ssa v))) [
+      | inl t ↦
+          let wider : equal_wider s.known.met own (put_term s ssa v) ≡ true = ap
+          (λ b. b || equal_wholes (wholes_of s.known.met) own (put_term s ssa v)) t in
+          cond-true _ _ _ wider
+      | inr f ↦ absurd (let there : Some (differs v own (put_term s ssa v)) ≡ None = sym (cond-false _ _ _ f) ∙ e in cc)
+    ]
+
+pub same-is-same-with-more : SameIsSameWithMore
+same-is-same-with-more entries ssa p h =
+    let a = absent equal_terms entries ssa p h in
+    present equal_wider entries ssa p (record {
+      head = a.head;
+      opaque_none = a.opaque_none;
+      uneven = a.uneven;
+      turned = a.turned;
+      values =
+          first-absent (value_by equal_terms (sides_of entries ssa p (lines_by_rank ssa p)) ssa)
+          (value_by equal_wider (sides_of entries ssa p (lines_by_rank ssa p)) ssa)
+          (unit_numbers ssa) (wider-value (sides_of entries ssa p (lines_by_rank ssa p)) ssa) a.values;
+    })

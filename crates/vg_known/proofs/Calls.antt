@@ -46,7 +46,8 @@ use Rattle.vg_known.specs.Laws.{CallsAreTold}
 use Rattle.vg_known.proofs.Below.{canonical-each}
 use Rattle.vg_known.proofs.Follow.{CallFits, formed-append, HasBits, KnownFits, vector-at, VectorsFit, whole-image}
 use Rattle.vg_known.proofs.Means.{IsBits-image}
-use Rattle.vg_known.proofs.Values.{built-means, ClassesMean, cut_bits-formed, cut_bits-image, gather-made, image, Made, Means}
+use Rattle.vg_known.specs.Classes.{AllFormed, ClassesMean}
+use Rattle.vg_known.proofs.Values.{built-means, cut_bits-formed, cut_bits-image, gather-made, image, Made, Means}
 
 -- ---- terms with replaced leaves
 
@@ -188,6 +189,7 @@ pub record LanesAre (env : Env) (w n : ℕ) (register : List ℕ) (ts : List Tre
   pub is : drop (n * w) register ≡ image env (bits_of_terms w ts)
   pub long : length (bits_of_terms w ts) ≡ count * w
   pub formed : BitsFormed [] (bits_of_terms w ts)
+  pub terms : AllFormed ts
 
 lanes-are : (env : Env) (met : List Tree) (h : Header) (regs : List (List ℕ)) (rs : List (List Bit)) (n : ℕ) (register : List ℕ) (ls : List Lane) → Reads env [] → ClassesMean env met → AllBits regs → Hold env (registers h) regs rs → IsBits register
     → AllByRecursion (MayBeLane h) ls → list_any is_opaque ls ≡ false → LanesMean (env_of regs) h.lane_width n (terms_of (map canonical_lane ls)) register → length register ≡ (n + length ls) * h.lane_width
@@ -196,6 +198,7 @@ lanes-are env met h regs rs n register [] nothing classes are hold bits may plai
   is = all-dropped register (n * h.lane_width) (long ∙ ap (λ k. k * h.lane_width) (let e : n + 0 ≡ n = omega arith in e));
   long = (let e : 0 ≡ 0 * h.lane_width = omega arith in e);
   formed = tt;
+  terms = tt;
 }
 lanes-are env met h regs rs n register (big ∷ ls) nothing classes are hold bits may plain means long = absurd (cc)
 lanes-are env met h regs rs n register (dynamic ∷ ls) nothing classes are hold bits may plain means long = absurd (cc)
@@ -212,6 +215,7 @@ lanes-are env met h regs rs n register (known t ∷ ls) nothing classes are hold
       is = sym (range-halves w (drop (n * w) register)) ∙ (λ i. here i ++ behind i) ∙ sym (map-append (bit_value env []) (bits_from u 0 w) (bits_of_terms w (flat_map (term_on met rs) ls)));
       long = length-append (bits_from u 0 w) (bits_of_terms w (flat_map (term_on met rs) ls)) ∙ (λ i. length-bits_from u 0 w i + rest.long i) ∙ (let e : w + length ls * w ≡ suc (length ls) * w = omega arith in e);
       formed = formed-append (bits_from u 0 w) (bits_of_terms w (flat_map (term_on met rs) ls)) (bits_from-formed [] u 0 w lane.is.well_formed (omega (arith, lane.is.width))) rest.formed;
+      terms = (lane.is.well_formed, rest.terms);
     }
 
 -- ---- the entry of a call
@@ -308,4 +312,5 @@ call-fits called env g b name vs imm long cost k nothing told same valid plain f
         let bits_are : bits_of_terms (lane_bits g.entries name) (call_terms g.entries k.met name imm rs) ≡ bits_of_terms h.lane_width terms = (λ i. bits_of_terms (wide i) (terms_are i)) in (
           subst (HasBits long) (sym bits_are) (all.long ∙ tell.lanes.fill ∙ sym call.width, all.formed),
           (let zero_lanes : 0 * h.lane_width ≡ 0 = omega arith in ap (λ j. drop j result) (sym zero_lanes)) ∙ all.is ∙ ap (image env) (sym bits_are),
+          subst AllFormed (sym terms_are) all.terms,
         )

@@ -14,7 +14,7 @@ use Rattle.vg_terms.proofs.Values.{value-below}
 use Rattle.vg_shapes.specs.Sound.{cut_key}
 use Rattle.vg_ssa.specs.ValueTerm.{no_term}
 use Rattle.vg_known.proofs.Below.{AreClasses, Below, TermBelow}
-use Rattle.vg_known.proofs.Values.{ClassesMean}
+use Rattle.vg_known.specs.Classes.{ClassesMean}
 
 -- the leaves of classes from this one on stand for these numbers
 abbrev pub class_pairs : ℕ → List ℕ → List (LeafKey × ℕ)

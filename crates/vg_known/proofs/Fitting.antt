@@ -40,7 +40,8 @@ use Rattle.vg_known.specs.Cuts.{computed, gathered}
 use Rattle.vg_known.specs.Kernels.{bits_at, pairs_of}
 use Rattle.vg_known.specs.Known.{event_bits, Given, know, Known, known_bits, operand_term, read_bits, with_met, with_puts, with_scalar, with_vector}
 use Rattle.vg_known.proofs.Follow.{bytes-fit, change-is, clears-formed, constant-wide, eight-size, few-bits, formed-append, HasBits, KnownFits, labelled-writes, lane-inside, length-clears, operand-fits, scalar-push, ScalarsFit, some-bits, some-there, vector-at, vector-push}
-use Rattle.vg_known.proofs.Values.{ClassesMean, computed-means, gathered-means, Means}
+use Rattle.vg_known.specs.Classes.{ClassesMean}
+use Rattle.vg_known.proofs.Values.{computed-means, gathered-means, Means}
 
 -- eight bits of well-formed terms
 abbrev pub IsByte : List Bit → Type 0

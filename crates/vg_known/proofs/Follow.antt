@@ -67,7 +67,8 @@ use Rattle.vg_known.specs.Calls.{bits_of_terms, call_terms, lane_bits, met_with_
 use Rattle.vg_known.specs.Cuts.{computed, gathered}
 use Rattle.vg_known.specs.Kernels.{bits_at}
 use Rattle.vg_known.specs.Known.{event_bits, Given, know, Known, known_bits, operand_term, read_bits, with_met, with_puts, with_scalar, with_vector}
-use Rattle.vg_known.proofs.Values.{ClassesMean, computed-means, gathered-means, image, Means}
+use Rattle.vg_known.specs.Classes.{AllFormed, ClassesMean}
+use Rattle.vg_known.proofs.Values.{computed-means, gathered-means, image, Means}
 
 -- ---- what is known fits what is defined
 
@@ -361,6 +362,7 @@ CallFits env called g b (Call name vs imm bits cost) k =
     let terms = call_terms g.entries k.met name imm (map (known_bits k) vs) in
     HasBits bits (bits_of_terms (lane_bits g.entries name) terms)
     × (called name (map (image env) (map (known_bits k) vs)) imm ≡ image env (bits_of_terms (lane_bits g.entries name) terms))
+    × AllFormed terms
 CallFits env called g b (Load w a) k = Unit {0}
 CallFits env called g b (Store w a x) k = Unit {0}
 CallFits env called g b (Two op w x y) k = Unit {0}

@@ -1,3 +1,4 @@
+pub mod Formed
 pub mod Values
 pub mod Follow
 pub mod Walk
@@ -9,6 +10,7 @@ pub mod Naming
 pub mod Fitting
 pub mod Means
 pub mod Absent
+pub mod Wholes
 pub mod Begin
 pub mod Reading
 pub mod Calls

@@ -1,5 +1,5 @@
 -- A word that is stored byte by byte: all that the law wants is met.
-use Rattle.std.proofs.Common.{◌≡◌, ℕ, zero, suc, ◌<◌, ◌⊎◌, inl, inr, List, [], ◌∷◌, length, take, Some, None, refl, sym, ap, ◌∙◌, arith, lit<, lit≤}
+use Rattle.std.proofs.Common.{false, ◌≡◌, ℕ, zero, suc, ◌<◌, ◌⊎◌, inl, inr, List, [], ◌∷◌, length, take, Some, None, refl, sym, ap, ◌∙◌, arith, lit<, lit≤}
 use Rattle.std.specs.Prelude.{codes, slice_index}
 use Rattle.std.specs.List.{IsDistinct}
 use Rattle.std.specs.Str.{bytes_eq}
@@ -18,7 +18,7 @@ use Rattle.vg_program.specs.Valid.{KeepsRules}
 use Rattle.vg_shapes.specs.RunUnits.{Reached, reached, run_units, start_of}
 use Rattle.vg_shapes.specs.Sound.{environment, IsSound, term_at, TermsMean}
 use Rattle.vg_order_laws.proofs.Runs.{went_well}
-use Rattle.vg_known.specs.Difference.{difference}
+use Rattle.vg_known.specs.Difference.{difference, difference_by}
 use Rattle.vg_known.specs.Laws.{CallsAreTold}
 use Rattle.vg_known.specs.OneWord.{at, BytesMeanTheWord, one_word, two_bytes}
 use Rattle.vg_known.proofs.Same.{same-means-units}
@@ -84,11 +84,12 @@ no-calls : (called : Instructions) → CallsAreTold called []
 no-calls called name e imm none is plain = absurd (cc)
 
 same : difference [] one_word two_bytes ≡ None
-unfolding difference canonical canonical_within first_rule bits num bytes fold_constants merge_constants neutral_or_absorbing same_operands sort_chain extend_extend first_row narrow_extended_sum narrow_product part_of_concatenation shift_by_zero shift_of_extension shift_of_shift sign_of_nonnegative truncate_arithmetic_shift truncate_extension truncate_logical_shift truncate_operation truncate_selection truncate_truncate zero_on_top known_selection narrow_comparison narrow_least_or_greatest negated_selection selection_is_least_or_greatest
+unfolding difference_by canonical canonical_within first_rule bits num bytes fold_constants merge_constants neutral_or_absorbing same_operands sort_chain extend_extend first_row narrow_extended_sum narrow_product part_of_concatenation shift_by_zero shift_of_extension shift_of_shift sign_of_nonnegative truncate_arithmetic_shift truncate_extension truncate_logical_shift truncate_operation truncate_selection truncate_truncate zero_on_top known_selection narrow_comparison narrow_least_or_greatest negated_selection selection_is_least_or_greatest
 same = refl
 
 pub bytes-mean-the-word : BytesMeanTheWord
 bytes-mean-the-word = record {
   same = same;
-  means = λ called. same-means-units called [] one_word two_bytes one_word-sound two_bytes-keep (no-calls called) same;
+  means = λ called. same-means-units false called [] one_word two_bytes one_word-sound two_bytes-keep (no-calls called)
+      same;
 }

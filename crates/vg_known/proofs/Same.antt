@@ -57,10 +57,11 @@ use Rattle.vg_events.proofs.Runs.{IsBytes-append, runs-are-events}
 use Rattle.vg_events.proofs.Steps.{at-seam}
 use Rattle.vg_events.proofs.Traps.{trap-together}
 use Rattle.vg_events.proofs.UnitOrder.{unit-order-is-by-events}
-use Rattle.vg_known.specs.Difference.{is_opaque_call, lines_by_rank, opaque, opaque_line, sides_of}
+use Rattle.vg_known.specs.Classes.{AllFormed}
+use Rattle.vg_known.specs.Difference.{Equality, is_opaque_call, lines_by_rank, opaque, opaque_line, sides_of}
 use Rattle.vg_known.specs.Kernels.{argument_leaves, bits_at, kernel_reads, kernel_terms, reads_from, Terms, terms_behind, unit_term, with_term}
 use Rattle.vg_known.specs.Known.{Given, know_all, Known}
-use Rattle.vg_known.specs.Laws.{CallsAreTold, SameMeansUnits}
+use Rattle.vg_known.specs.Laws.{CallsAreTold, IsSoundEquality, SameMeansUnits}
 use Rattle.vg_known.specs.Params.{same_kind, same_params}
 use Rattle.vg_known.proofs.Absent.{absent, Absent, none-other, none-turned, same-counts}
 use Rattle.vg_known.proofs.Begin.{argument_bits, arguments-long, arguments-mean, arguments-stand, bits_behind, units-in}
@@ -73,7 +74,9 @@ use Rattle.vg_known.proofs.Naming.{know_all-named, leaves-named, Named, reads-be
 use Rattle.vg_known.proofs.Reading.{argument-reads, loads-stand, reads-nothing, run_env, run_pairs}
 use Rattle.vg_known.proofs.Stored.{calls-fit, puts-there, Stored, stores-have, StoresMean, walk-formed}
 use Rattle.vg_known.proofs.Terms.{AllMean, Each, terms-mean}
+use Rattle.vg_known.specs.WiderDifference.{equality}
 use Rattle.vg_known.proofs.Values.{image}
+use Rattle.vg_known.proofs.Wholes.{equalities-are-sound}
 use Rattle.vg_known.proofs.Walk.{classes-front, Grows, grows-not, grows-on, know_all-grows, lines-follow}
 
 -- ---- lists
@@ -253,9 +256,22 @@ pub record Done (ssa : Ssa) (places memory args : List ℕ) (t : Reached) : Type
 abbrev env_of_run : List Entry → Ssa → Program → List ℕ → Reached → Env
 env_of_run entries ssa p args t = run_env ssa args t.numbers (final entries ssa p).met
 
--- the terms of the kernel have the numbers of the run
+-- the leaves of arguments are well-formed
+leaves-formed : (ps : List SsaParam) (ts : List Tree) → Stand (argument_bits ps) ts → AllFormed ts
+leaves-formed [] [] h = tt
+leaves-formed [] (t ∷ ts) h = absurd (let l = h.long in omega arith)
+leaves-formed (p ∷ ps) [] h = absurd (let l = h.long in omega arith)
+leaves-formed (p ∷ ps) (t ∷ ts)
+    h = (
+      (h.each 0 (kind_bits p.kind) refl).1.well_formed,
+      leaves-formed ps ts
+          (record { long = (let l = h.long in omega arith); each = λ v. h.each (suc v) }),
+    )
+
+-- the terms of the kernel have the numbers of the run, and what was met of them is well-formed
 all-mean : (entries : List Entry) (ssa : Ssa) (p : Program) (places memory args : List ℕ) (t : Reached) → IsSound ssa → Done ssa places memory args t
     → AllMean (env_of_run entries ssa p args t) (bits_behind ssa ssa.units) (kernel_terms ssa).terms t.numbers
+    × AllFormed (kernel_terms ssa).met
 unfolding run_units
 all-mean entries ssa p places memory args t sound h =
     let b = start_of memory args in
@@ -272,13 +288,19 @@ all-mean entries ssa p places memory args t sound h =
     let units = units-in ssa [] ssa.units refl (subst (λ k. TakeEarlier k ssa.units) (let e : arguments ssa ≡ arguments ssa + 0 = omega arith in e) sound.earlier) sound.units in
     let units_here = subst (λ l. UnitsIn (length (pointers ssa)) l ssa.units) (append-nil (argument_bits (integers ssa))) units in
     let size : length args ≡ length (begin_terms ssa).terms = many ∙ sym ((arguments-stand ssa).long ∙ length-map (integers ssa) _) in
-    terms-mean env (noalias_flags ssa) (arguments ssa) (length (pointers ssa)) places (argument_bits (integers ssa)) [] (begin_terms ssa) ssa.units b t begins size units_here classes loads h.runs
+    let all =
+    terms-mean env (noalias_flags ssa) (arguments ssa) (length (pointers ssa)) places (argument_bits (integers ssa)) []
+    (begin_terms ssa) ssa.units b t begins size units_here classes loads h.runs in
+    (all.0, all.1 (leaves-formed (integers ssa) (begin_terms ssa).terms (arguments-stand ssa)))
 
 -- where the kernel's run is done, the program's is, with the same memory
-when-done : (called : Instructions) (entries : List Entry) (ssa : Ssa) (p : Program) (places memory args : List ℕ) (t : Reached) → IsSound ssa → KeepsRules (headers_of entries) p → CallsAreTold called entries → Absent entries ssa p → Done ssa places memory args t
+when-done : (equal : Equality) (called : Instructions) (entries : List Entry) (ssa : Ssa) (p : Program)
+    (places memory args : List ℕ) (t : Reached) → IsSoundEquality equal → IsSound ssa
+    → KeepsRules (headers_of entries) p → CallsAreTold called entries → Absent equal entries ssa p
+    → Done ssa places memory args t
     → meaning called p memory places args ≡ Some t.memory
 unfolding meaning
-when-done called entries ssa p places memory args t sound rules told none h =
+when-done equal called entries ssa p places memory args t equal_sound sound rules told none h =
     let ls = kernel_labels ssa in
     let lines = lines_by_rank ssa p in
     let g = given_of entries ssa in
@@ -290,7 +312,8 @@ when-done called entries ssa p places memory args t sound rules told none h =
     let many = arguments-long (integers ssa) args h.arguments_are in
     let all = all_bytes numbers (length args) ssa.units in
     let byte = slice_index all in
-    let mean = all-mean entries ssa p places memory args t sound h in
+    let means = all-mean entries ssa p places memory args t sound h in
+    let mean = means.0 in
     let nothing = reads-nothing ssa args t.numbers known.met in
     let classes = classes-mean (run_pairs ssa args t.numbers) known.met (final-classes entries ssa p) in
     let pairs = equal-counts-pair ls (map line_access p.lines) (same-counts ls (line_labels p.lines) none.uneven) in
@@ -315,19 +338,24 @@ when-done called entries ssa p places memory args t sound rules told none h =
     let b = nothing_before (headers_of entries) p.params in
     let calls = calls-fit called env g b p.lines lines (nothing_known ssa) nothing told refl rules.lines (none-opaque entries p none.opaque_none) in
     let fits : KnownFits b (nothing_known ssa) = record { scalars = refl; vectors = refl } in
-    let formed = walk-formed called env g b ls p.lines lines (nothing_known ssa) (record { nothing_read = nothing; arguments = fit; reads = λ e l r. ((has e l r).long, (has e l r).formed) }) (record { fits = fits; puts = tt }) classes rules.lines pairs.paired inside calls in
+    let formed = walk-formed called env g b ls p.lines lines (nothing_known ssa)
+    (record { nothing_read = nothing; arguments = fit; reads = λ e l r. ((has e l r).long, (has e l r).formed) })
+    (record { fits = fits; puts = tt }) classes rules.lines pairs.paired inside calls means.1 in
     let standing : (e : ℕ) → e < length ls → Stands e (joined lines) = λ e l. (let k = pairs.once e in let one = numbers-inside e 0 (length ls) (omega arith) (omega arith) in omega arith) in
-    let stored : Stored env ssa (sides_of entries ssa p lines) numbers = record {
+    let stored : Stored env equal ssa (sides_of entries ssa p lines) numbers = record {
       nothing_read = nothing;
       classes = classes;
-      formed = λ e l w. found-formed known.puts e formed (puts-there g ls p.lines lines (nothing_known ssa) e pairs.paired (standing e l) w);
-      same = none-other entries ssa p lines none.values;
+      formed = λ e l w. found-formed known.puts e formed.0
+          (puts-there g ls p.lines lines (nothing_known ssa) e pairs.paired (standing e l) w);
+      same = none-other equal entries ssa p lines none.values;
+      sound = λ x y f. equal_sound env known.met x y formed.1 classes f;
     } in
     let units = units-in ssa [] ssa.units refl (subst (λ k. TakeEarlier k ssa.units) (let e : a ≡ a + 0 = omega arith in e) sound.earlier) sound.units in
     let units_here = subst (λ l. UnitsIn (length (pointers ssa)) l ssa.units) (append-nil (argument_bits (integers ssa))) units in
     let stores = stores-mean env (length (pointers ssa)) (bits_behind ssa ssa.units) ts t.numbers (argument_bits (integers ssa)) ssa.units mean refl units_here in
     let put_bytes : (e : ℕ) → Stands e (joined lines) → (label_at ls e).writes ≡ true → image env (bits_at known.puts e) ≡ bits 8 (byte e) =
-    λ e s w. stores-have env ssa (sides_of entries ssa p lines) numbers all [] ssa.units [] (length args) stored refl stores refl refl e (omega arith) (inside e s) w in
+    λ e s w. stores-have env equal ssa (sides_of entries ssa p lines) numbers all [] ssa.units [] (length args) stored
+    refl stores refl refl e (omega arith) (inside e s) w in
     let i : Inputs = record { places = places; args = args } in
     let follow = lines-follow env called g i b ls byte known.puts p.lines lines (nothing_known ssa) [] memory t.memory (record {
       given = record { nothing_read = nothing; arguments = fit; args = args_are; small = λ e. each-small all e (IsBytes-all numbers (length args) ssa.units); reads = has };
@@ -353,15 +381,17 @@ no-memory None h = refl
 no-memory (Some m) h = absurd (cc)
 
 pub same-means-units : SameMeansUnits
-same-means-units called entries ssa p sound rules told none memory places args bytes are respects = by (run_units places ssa.units (start_of memory args)) refl
+same-means-units more called entries ssa p sound rules told none memory places args bytes are respects = by
+    (run_units places ssa.units (start_of memory args)) refl
   where
-    gone : Absent entries ssa p
-    gone = absent entries ssa p none
+    gone : Absent (equality more) entries ssa p
+    gone = absent (equality more) entries ssa p none
 
     by : (o : Option Reached) → run_units places ssa.units (start_of memory args) ≡ o → meaning called p memory places args ≡ (run_units places ssa.units (start_of memory args) >>= λ last. Some last.memory)
     by None e =
         let both = trap-together called p ssa.units memory places args (same-counts (kernel_labels ssa) (line_labels p.lines) gone.uneven) in
         no-memory (meaning called p memory places args) (both ∙ ap is_some e) ∙ sym (ap (λ o. o >>= λ (last : Reached). Some last.memory) e)
     by (Some t) e =
-        when-done called entries ssa p places memory args t sound rules told gone (record { bytes = bytes; arguments_are = are; respects = respects; runs = e })
+        when-done (equality more) called entries ssa p places memory args t (equalities-are-sound more) sound rules
+        told gone (record { bytes = bytes; arguments_are = are; respects = respects; runs = e })
         ∙ sym (ap (λ o. o >>= λ (last : Reached). Some last.memory) e)

@@ -27,7 +27,9 @@ use Rattle.vg_ssa.proofs.Typing.{UnitIn, UnitsIn}
 use Rattle.vg_known.specs.Cuts.{computed}
 use Rattle.vg_known.specs.FirstLoads.{first_load}
 use Rattle.vg_known.specs.Kernels.{Terms, terms_behind, unit_term, with_term}
-use Rattle.vg_known.proofs.Values.{ClassesMean, computed-means}
+use Rattle.vg_known.specs.Classes.{AllFormed, ClassesMean}
+use Rattle.vg_known.proofs.Formed.{formed-with}
+use Rattle.vg_known.proofs.Values.{computed-means}
 use Rattle.vg_known.proofs.Walk.{classes-front, Grows, grows-not, grows-on, met-grows}
 
 -- ---- what was met stays
@@ -149,13 +151,25 @@ behind-loads env flags first all done (Load a w) us v h = h.1
 behind-loads env flags first all done (Store a w x) us v h = h
 behind-loads env flags first all done (Operation op w k xs) us v h = h
 
+-- what a unit meets is well-formed
+unit-met : (env : Env) (s : Terms) (u : SsaUnit) (t : Tree) (n : ℕ) → Stands env u n t → AllFormed s.met
+    → AllFormed (with_term s u t).met
+unit-met env s (Load a w) t n stands met = formed-with s.met t met (stands.width (bits_of w) refl).1.well_formed
+unit-met env s (Store a w x) t n stands met = met
+unit-met env s (Operation op w k xs) t n stands met = formed-with s.met t met
+    (stands.width (result_bits op w) refl).1.well_formed
+
 pub terms-mean : (env : Env) (flags : List Bool) (first count : ℕ) (places : List ℕ) (bits : List (Option ℕ)) (done : List SsaUnit) (s : Terms) (us : List SsaUnit) (r t : Reached) → AllMean env bits s.terms r.numbers → length r.numbers ≡ length s.terms → UnitsIn count bits us
     → ClassesMean env (terms_behind flags first done s us).met → LoadsStand env flags first (slice_index t.numbers) done us (length r.numbers) → run_units places us r ≡ Some t
     → AllMean env (bits ++ map unit_bits us) (terms_behind flags first done s us).terms t.numbers
+    × (AllFormed s.met → AllFormed (terms_behind flags first done s us).met)
 unfolding run_units
 terms-mean env flags first count places bits done s [] r t h long units classes loads run =
-    let same : r ≡ t = cc in
-    subst (λ (q : Reached). AllMean env (bits ++ []) s.terms q.numbers) same (subst (λ l. AllMean env l s.terms r.numbers) (sym (append-nil bits)) h)
+    let same : r ≡ t = cc in (
+      subst (λ (q : Reached). AllMean env (bits ++ []) s.terms q.numbers) same
+          (subst (λ l. AllMean env l s.terms r.numbers) (sym (append-nil bits)) h),
+      λ met. met,
+    )
 terms-mean env flags first count places bits done s (u ∷ us) r t h long units classes loads run =
     let went = went_well (unit_run places u r) (run_units places us) run in
     let mid = went.0 in
@@ -177,6 +191,12 @@ terms-mean env flags first count places bits done s (u ∷ us) r t h long units 
       };
       each = subst (Each env (s.terms ++ own ∷ [])) (sym g.numbers) (each-more env s.terms r.numbers own g.given long h.each stands.means);
     } in
-    subst (λ l. AllMean env l rest.terms t.numbers) (append_assoc bits (unit_bits u ∷ []) (map unit_bits us))
-    (terms-mean env flags first count places (bits ++ unit_bits u ∷ []) (done ++ u ∷ []) next us mid t after (let b = length_push s.terms own in omega arith) units.1 classes
-    (subst (LoadsStand env flags first (slice_index t.numbers) (done ++ u ∷ []) us) (sym size) (behind-loads env flags first (slice_index t.numbers) done u us v loads)) went.2)
+    let behind =
+    terms-mean env flags first count places (bits ++ unit_bits u ∷ []) (done ++ u ∷ []) next us mid t after
+    (let b = length_push s.terms own in omega arith) units.1 classes
+    (subst (LoadsStand env flags first (slice_index t.numbers) (done ++ u ∷ []) us) (sym size)
+    (behind-loads env flags first (slice_index t.numbers) done u us v loads)) went.2 in (
+      subst (λ l. AllMean env l rest.terms t.numbers) (append_assoc bits (unit_bits u ∷ []) (map unit_bits us))
+          behind.0,
+      (λ met. behind.1 (unit-met env s u own g.given stands met)),
+    )

@@ -26,17 +26,12 @@ use Rattle.vg_ssa.proofs.Terms.{leaf-term}
 use Rattle.vg_lift.specs.Gather.{Bit, clear, input, of_term, gather}
 use Rattle.vg_lift.proofs.Gathering.{gather-formed, gather-value, gather-width}
 use Rattle.vg_lift.proofs.Stands.{BitFormed, BitsFormed, bit_value}
+use Rattle.vg_known.specs.Classes.{ClassesMean}
 use Rattle.vg_known.specs.Cuts.{built, computed, cut, cut_bit, cut_bits, gathered, is_atom, leaf_for, small_or}
 
 -- the bits that bits of terms have in an environment
 abbrev pub image : Env → List Bit → List ℕ
 image env bs = map (bit_value env []) bs
-
--- The leaf of each class has the value of the class's term.
-abbrev pub ClassesMean : Env → List Tree → Type 0
-ClassesMean env met =
-    (c : ℕ) → c < length met → WellFormed (get_or met c no_term) →
-    value env (leaf (width_of (get_or met c no_term)) (cut_key c)) ≡ value env (get_or met c no_term)
 
 -- what is known of a term: it is canonical, of this width, and has this number
 pub record Means (env : Env) (w n : ℕ) (t : Tree) : Type 0 where

@@ -37,7 +37,8 @@ use Rattle.vg_known.specs.Cuts.{met_with}
 use Rattle.vg_known.specs.Kernels.{bits_at, pairs_of}
 use Rattle.vg_known.specs.Known.{event_bits, Given, know, know_all, Known, known_bits, operand_term}
 use Rattle.vg_known.proofs.Follow.{bytes-fit, CallFits, eight-size, GivenFits, KnownFits, line-does, Puts, shown, vector-at}
-use Rattle.vg_known.proofs.Values.{ClassesMean, image}
+use Rattle.vg_known.specs.Classes.{ClassesMean}
+use Rattle.vg_known.proofs.Values.{image}
 
 -- ---- what was met stays
 

@@ -89,6 +89,14 @@ turned_units ssa lines =
 
 -- ---- values
 
+-- whether two terms count as equal, where these terms were met
+abbrev pub Equality : Type 0
+Equality = List Tree → Tree → Tree → Bool
+
+-- as they stand
+abbrev pub equal_terms : Equality
+equal_terms met t u = is_same_term t u
+
 -- what is known of both sides: the terms of the kernel, and what the walk over the program leaves
 pub record Sides : Type 0 where
   pub terms : List Tree
@@ -119,19 +127,19 @@ abbrev pub put_term : Sides → Ssa → ℕ → Tree
 put_term s ssa v =
     gathered s.known.met (event_bits (bits_at s.known.puts) (unit_events ssa v))
 
-abbrev pub value_at : Sides → Ssa → ℕ → Option Difference
-value_at s ssa v =
+abbrev pub value_by : Equality → Sides → Ssa → ℕ → Option Difference
+value_by equal s ssa v =
     (unit_at ssa v >>= own_term s) >>= λ own.
-    if is_same_term own (put_term s ssa v) then None else Some (value v own (put_term s ssa v))
+    if equal s.known.met own (put_term s ssa v) then None else Some (value v own (put_term s ssa v))
 
 -- the first that there is
 abbrev pub first_of : {A : Type 0} → List (Option A) → Option A
 first_of [] = None
 first_of (x ∷ xs) = option_or x (first_of xs)
 
-abbrev pub other_value : List Entry → Ssa → Program → List (List ℕ) → Option Difference
-other_value entries ssa p lines =
-    first_of (map (value_at (sides_of entries ssa p lines) ssa) (unit_numbers ssa))
+abbrev pub other_value : Equality → List Entry → Ssa → Program → List (List ℕ) → Option Difference
+other_value equal entries ssa p lines =
+    first_of (map (value_by equal (sides_of entries ssa p lines) ssa) (unit_numbers ssa))
 
 -- ---- the first difference
 
@@ -139,13 +147,17 @@ other_value entries ssa p lines =
 abbrev pub lines_by_rank : Ssa → Program → List (List ℕ)
 lines_by_rank ssa p = by_rank (kernel_labels ssa) (map line_access p.lines)
 
-unfoldable pub difference : List Entry → Ssa → Program → Option Difference
-difference entries ssa p =
+-- where terms are told to differ that do not count as equal
+unfoldable pub difference_by : Equality → List Entry → Ssa → Program → Option Difference
+difference_by equal entries ssa p =
     if same_head ssa p
     then first_of
     (opaque_line entries p
     ∷ uneven_label (kernel_labels ssa) (line_labels p.lines)
     ∷ turned_units ssa (lines_by_rank ssa p)
-    ∷ other_value entries ssa p (lines_by_rank ssa p)
+    ∷ other_value equal entries ssa p (lines_by_rank ssa p)
     ∷ [])
     else Some params
+
+abbrev pub difference : List Entry → Ssa → Program → Option Difference
+difference entries ssa p = difference_by equal_terms entries ssa p

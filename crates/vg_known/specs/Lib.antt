@@ -1,4 +1,5 @@
 pub mod Cuts
+pub mod Classes
 pub mod FirstLoads
 pub mod Kernels
 pub mod Calls
@@ -6,5 +7,6 @@ pub mod Known
 pub mod Labels
 pub mod Params
 pub mod Difference
+pub mod WiderDifference
 pub mod Laws
 pub mod OneWord

@@ -45,7 +45,7 @@ use Rattle.vg_events.specs.Ranks.{by_rank, count_label}
 use Rattle.vg_events.specs.UnitOrder.{is_out_of_order, spans, unit_events}
 use Rattle.vg_events.proofs.UnitOrder.{event-order-is-by-units}
 use Rattle.vg_known.specs.Cuts.{gathered}
-use Rattle.vg_known.specs.Difference.{access, Difference, difference, first_of, is_opaque_call, is_uneven, lines_by_rank, opaque, opaque_line, order, other_value, own_term, put_term, Sides, sides_of, turned_units, uneven_label, unit_numbers, unit_pairs, value_at}
+use Rattle.vg_known.specs.Difference.{access, Difference, difference, difference_by, equal_terms, first_of, is_opaque_call, is_uneven, lines_by_rank, opaque, opaque_line, order, other_value, own_term, put_term, Sides, sides_of, turned_units, uneven_label, unit_numbers, unit_pairs, value_by}
 use Rattle.vg_known.specs.Difference.{value as differs}
 use Rattle.vg_known.specs.Kernels.{argument_leaves, bits_at, kernel_terms, Terms, terms_behind, unit_term, with_term}
 use Rattle.vg_known.specs.Known.{event_bits, operand_term}
@@ -254,7 +254,7 @@ labels-push (d ∷ done) u =
     let rest = labels-push done u in
     omega (arith, own, old, rest)
 
-unit-same : (ssa : Ssa) (s : Sides) (f v : ℕ) (done : List SsaUnit) (u : SsaUnit) (us : List SsaUnit) → ssa.units ≡ done ++ u ∷ us → length (unit_labels done) ≡ f → arguments ssa + length done ≡ v → AllPut (bits_at s.known.puts) s.terms f (u ∷ us) → value_at s ssa v ≡ None
+unit-same : (ssa : Ssa) (s : Sides) (f v : ℕ) (done : List SsaUnit) (u : SsaUnit) (us : List SsaUnit) → ssa.units ≡ done ++ u ∷ us → length (unit_labels done) ≡ f → arguments ssa + length done ≡ v → AllPut (bits_at s.known.puts) s.terms f (u ∷ us) → value_by equal_terms s ssa v ≡ None
 unit-same ssa s f v done u us whole long at put = ap (λ (o : Option SsaUnit). (o >>= own_term s) >>= tested) there ∙ by u put.0 events
   where
     tested : Tree → Option Difference
@@ -275,14 +275,14 @@ unit-same ssa s f v done u us whole long at put = ap (λ (o : Option SsaUnit). (
         let equal : gathered s.known.met (bits_from (kernel.operand_term s.terms x) 0 (bits_of w)) ≡ put_term s ssa v = sym (ap (gathered s.known.met) (ap (event_bits (bits_at s.known.puts)) e ∙ p)) in
         cond-true _ _ _ ((same_term-means _ _).1 equal)
 
-values-same : (ssa : Ssa) (s : Sides) (f v : ℕ) (done us : List SsaUnit) → ssa.units ≡ done ++ us → length (unit_labels done) ≡ f → arguments ssa + length done ≡ v → AllPut (bits_at s.known.puts) s.terms f us → first_of (map (value_at s ssa) (numbers_from v (length us))) ≡ None
+values-same : (ssa : Ssa) (s : Sides) (f v : ℕ) (done us : List SsaUnit) → ssa.units ≡ done ++ us → length (unit_labels done) ≡ f → arguments ssa + length done ≡ v → AllPut (bits_at s.known.puts) s.terms f us → first_of (map (value_by equal_terms s ssa) (numbers_from v (length us))) ≡ None
 values-same ssa s f v done [] whole long at put = refl
 values-same ssa s f v done (u ∷ us) whole long at put =
     let here = unit-same ssa s f v done u us whole long at put in
     let rest = values-same ssa s (f + count_in u) (v + 1) (done ++ u ∷ []) us (whole ∙ sym (append_assoc done (u ∷ []) us)) (labels-push done u ∙ ap (λ n. n + count_in u) long) (let l = length_push done u in omega (arith, l, at)) put.1 in
     (λ i. option_or (here i) (rest i))
 
-none-other : (entries : List Entry) (ssa : Ssa) → IsSound ssa → other_value entries ssa (scalar_program ssa) (spans 0 (accesses_of ssa)) ≡ None
+none-other : (entries : List Entry) (ssa : Ssa) → IsSound ssa → other_value equal_terms entries ssa (scalar_program ssa) (spans 0 (accesses_of ssa)) ≡ None
 none-other entries ssa sound =
     let s = sides entries ssa in
     let walked = followed entries ssa sound in
@@ -292,11 +292,11 @@ none-other entries ssa sound =
 -- ---- no difference
 
 pub scalar-programs-are-same : ScalarProgramsAreSame
-unfolding difference
+unfolding difference_by
 scalar-programs-are-same entries ssa sound =
     let p = scalar_program ssa in
     let none_opaque = none-opaque entries ssa in
     let none_uneven = none-uneven (kernel_labels ssa) (labels (accesses_of ssa)) (same-labels ssa) in
     let none_turned = ap (turned_units ssa) (rows ssa) ∙ none-turned ssa in
-    let none_other = ap (other_value entries ssa p) (rows ssa) ∙ none-other entries ssa sound in
+    let none_other = ap (other_value equal_terms entries ssa p) (rows ssa) ∙ none-other entries ssa sound in
     cond-true _ _ _ (head-itself ssa) ∙ (λ i. first_of (none_opaque i ∷ none_uneven i ∷ none_turned i ∷ none_other i ∷ []))
