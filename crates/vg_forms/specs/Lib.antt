@@ -5,3 +5,4 @@ pub mod Gathered
 pub mod Lanes
 pub mod Laws
 pub mod Runs
+pub mod Wholes

@@ -2,10 +2,12 @@
 
 ghost use Rattle.std.specs.Prelude.{◌≡◌, [], IfOk, OnOk, Some};
 ghost use Rattle.vg_known.specs.Cuts.{cut, is_atom, leaf_for, met_with};
+ghost use Rattle.vg_known.specs.WiderDifference.{wholes_of};
 ghost use Rattle.vg_shapes.specs.Sound.{cut_key};
 ghost use Rattle.vg_terms.specs.Term.{tree};
 
 use crate::form::Form;
+use crate::wholes::Wholes;
 use indexmap::IndexSet;
 use std::alloc::{AllocError, Global};
 use std::marker::Model;
@@ -73,6 +75,18 @@ impl Classes {
         let t = t.share()?;
         self.met.insert(t)?;
         Ok(())
+    }
+
+    /// The terms that were met as whole terms. Fails for want of memory, also past 2^24 nodes.
+    pub(crate) fn wholes(&self, alloc: Global) -> Result<Wholes, AllocError>
+        ensures { IfOk result (λ w. w ≡ wholes_of self.now) }
+    {
+        let mut wholes = Wholes::new(alloc);
+        let all = self.met.as_slice();
+        'classes: for t in all {
+            wholes.push(t)?;
+        }
+        Ok(wholes)
     }
 
     /// The leaf of the class of a term that was met; leaves, constants and terms that were not met stay.

@@ -10,6 +10,7 @@ mod leaves;
 mod maker;
 mod operation;
 mod run;
+mod wholes;
 
 pub use classes::Classes;
 pub use form::Form;
@@ -17,3 +18,4 @@ pub use lane::Inputs;
 pub use leaves::{argument_key, load_key};
 pub use maker::Maker;
 pub use run::{Run, push_range};
+pub use wholes::Wholes;

@@ -4,12 +4,14 @@ ghost use Rattle.std.specs.Prelude.{◌≡◌, [], IfOk, OnOk, unwrap_or};
 ghost use Rattle.vg_base.specs.Width.{bits_of};
 ghost use Rattle.vg_canon.specs.Canonical.{canonical};
 ghost use Rattle.vg_known.specs.Cuts.{built, computed, cut, met_with};
+ghost use Rattle.vg_known.specs.WiderDifference.{wholes_of};
 ghost use Rattle.vg_ssa.specs.ValueTerm.{operation_term};
 ghost use Rattle.vg_terms.specs.Term.{Tree, tree};
 
 use crate::classes::Classes;
 use crate::form::Form;
 use crate::operation::operation_term;
+use crate::wholes::Wholes;
 use std::alloc::{AllocError, Global};
 use vg_base::Width;
 use vg_canon::canon;
@@ -53,6 +55,13 @@ impl Maker {
         ensures { OnOk result (self.new.classes ≡ met_with self.old.classes t.now) }
     {
         self.classes.meet(t)
+    }
+
+    /// The whole terms of what was met. Fails for want of memory, also past 2^24 nodes.
+    pub fn wholes(&self, alloc: Global) -> Result<Wholes, AllocError>
+        ensures { IfOk result (λ w. w ≡ wholes_of self.now.classes) }
+    {
+        self.classes.wholes(alloc)
     }
 
     /// The canonical form of a term. Fails for want of memory, also past the bounds on nodes, and where a
