@@ -15,7 +15,7 @@ use Rattle.vg_shapes.specs.declared.ssa.SsaParamKind.{SsaParamKind}
 use Rattle.vg_shapes.specs.declared.ssa.SsaParamKind.TheVariants.{Pointer, Integer}
 use Rattle.vg_catalog.specs.Entries.{Entry}
 use Rattle.vg_emission.specs.Program.{kind_of, param_of}
-use Rattle.vg_known.specs.Difference.{difference}
+use Rattle.vg_known.specs.Difference.{difference_by, Equality}
 use Rattle.vg_known.specs.Params.{same_head, same_kind, same_params}
 use Rattle.vg_known.proofs.Absent.{absent}
 use Rattle.vg_verify.specs.declared.verdict.Verdict.{Verdict}
@@ -53,5 +53,7 @@ head_is ssa p t =
       params = params-same ssa.params p.params both.1;
     }
 
-pub head_same : (entries : List Entry) (ssa : Ssa) (p : Program) (v : Verdict) → verdict_of v ≡ difference entries ssa p → v ≡ Same → HasHead ssa p
-head_same entries ssa p v exact same = head_is ssa p (absent entries ssa p (sym exact ∙ ap verdict_of same)).head
+pub head_same : (equal : Equality) (entries : List Entry) (ssa : Ssa) (p : Program) (v : Verdict)
+    → verdict_of v ≡ difference_by equal entries ssa p → v ≡ Same → HasHead ssa p
+head_same equal entries ssa p v exact same = head_is ssa p
+    (absent equal entries ssa p (sym exact ∙ ap verdict_of same)).head

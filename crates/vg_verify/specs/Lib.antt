@@ -1,5 +1,6 @@
 pub mod Beginning
 pub mod Coded
+pub mod Comparers
 pub mod Finding
 pub mod Forms
 pub mod Heads

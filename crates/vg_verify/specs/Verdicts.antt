@@ -27,16 +27,16 @@ verdict_of (Differs d) = Some (difference_of d)
 
 -- ---- the difference from each test on
 
-abbrev pub ordered_difference : List Entry → Ssa → Program → Option known.Difference
-ordered_difference entries ssa p =
+abbrev pub ordered_difference : known.Equality → List Entry → Ssa → Program → Option known.Difference
+ordered_difference equal entries ssa p =
     option_or (known.turned_units ssa (known.lines_by_rank ssa p))
-    (known.other_value entries ssa p (known.lines_by_rank ssa p))
+    (known.other_value equal entries ssa p (known.lines_by_rank ssa p))
 
-abbrev pub event_difference : List Entry → Ssa → Program → Option known.Difference
-event_difference entries ssa p =
+abbrev pub event_difference : known.Equality → List Entry → Ssa → Program → Option known.Difference
+event_difference equal entries ssa p =
     option_or (known.uneven_label (kernel_labels ssa) (line_labels p.lines))
-    (ordered_difference entries ssa p)
+    (ordered_difference equal entries ssa p)
 
-abbrev pub inner_difference : List Entry → Ssa → Program → Option known.Difference
-inner_difference entries ssa p =
-    option_or (known.opaque_line entries p) (event_difference entries ssa p)
+abbrev pub inner_difference : known.Equality → List Entry → Ssa → Program → Option known.Difference
+inner_difference equal entries ssa p =
+    option_or (known.opaque_line entries p) (event_difference equal entries ssa p)

@@ -6,7 +6,8 @@ ghost use Rattle.vg_catalog.specs.Called.{called_by, headers_of};
 ghost use Rattle.vg_catalog.specs.Catalogs.{entries_in};
 ghost use Rattle.vg_emission.specs.Laws.{MeansUnits};
 ghost use Rattle.vg_emission.specs.Scalar.{scalar_program};
-ghost use Rattle.vg_known.specs.Difference.{difference, other_value};
+ghost use Rattle.vg_known.specs.Difference.{difference_by, other_value};
+ghost use Rattle.vg_known.specs.WiderDifference.{equality};
 ghost use Rattle.vg_program.specs.Valid.{KeepsRules};
 ghost use Rattle.vg_shapes.specs.Sound.{IsSound};
 ghost use Rattle.vg_verify.specs.Heads.{HasHead};
@@ -21,7 +22,7 @@ use crate::verdict::{Difference, Verdict};
 use std::alloc::{AllocError, Global};
 use vg_base::Items;
 use vg_catalog::Catalog;
-use vg_known::same_means_units;
+use vg_known::{same_is_same_with_more, same_means_units};
 use vg_known_scalar::scalar_programs_are_same;
 use vg_paired::{lines_by_rank, turned_units, uneven_label};
 use vg_program::Program;
@@ -35,12 +36,13 @@ fn valued_difference(
     ssa: &Ssa,
     program: &Program,
     lines: &[Items<usize>],
+    more: bool,
 ) -> Result<Option<Difference>, AllocError>
     ensures { IfOk result (λ found. option_map difference_of found
-        ≡ other_value called.now ssa.now program.now lines.now) }
+        ≡ other_value (equality more) called.now ssa.now program.now lines.now) }
 {
     let sides = sides_of(alloc, called, ssa, program, lines)?;
-    other_value(alloc, ssa, sides)
+    other_value(alloc, ssa, sides, more)
 }
 
 // The first difference after the numbers of events: of order, then of values.
@@ -49,16 +51,17 @@ fn ordered_difference(
     called: &Called,
     ssa: &Ssa,
     program: &Program,
+    more: bool,
 ) -> Result<Option<Difference>, AllocError>
     requires { IsSound ssa.now }
     ensures { IfOk result (λ found. option_map difference_of found
-        ≡ ordered_difference called.now ssa.now program.now) }
+        ≡ ordered_difference (equality more) called.now ssa.now program.now) }
 {
     let events = lines_by_rank(alloc, ssa, program)?;
     let lines = events.as_slice();
     match turned_units(alloc, ssa, lines)? {
         Some(turned) => Ok(Some(Difference::Order(turned))),
-        None => valued_difference(alloc, called, ssa, program, lines),
+        None => valued_difference(alloc, called, ssa, program, lines, more),
     }
 }
 
@@ -68,14 +71,15 @@ fn event_difference(
     called: &Called,
     ssa: &Ssa,
     program: &Program,
+    more: bool,
 ) -> Result<Option<Difference>, AllocError>
     requires { IsSound ssa.now }
     ensures { IfOk result (λ found. option_map difference_of found
-        ≡ event_difference called.now ssa.now program.now) }
+        ≡ event_difference (equality more) called.now ssa.now program.now) }
 {
     match uneven_label(alloc, ssa, program)? {
         Some(uneven) => Ok(Some(Difference::Access(uneven))),
-        None => ordered_difference(alloc, called, ssa, program),
+        None => ordered_difference(alloc, called, ssa, program, more),
     }
 }
 
@@ -85,15 +89,16 @@ fn inner_difference(
     catalog: &Catalog,
     ssa: &Ssa,
     program: &Program,
+    more: bool,
 ) -> Result<Option<Difference>, AllocError>
     requires sound { IsSound ssa.now }
     ensures { IfOk result (λ found. option_map difference_of found
-        ≡ inner_difference (entries_in catalog.now) ssa.now program.now) }
+        ≡ inner_difference (equality more) (entries_in catalog.now) ssa.now program.now) }
 {
     let called = Called::new(alloc, catalog, program)?;
     match opaque_line(&called, program)? {
         Some(line) => Ok(Some(Difference::Opaque { line })),
-        None => event_difference(alloc, &called, ssa, program),
+        None => event_difference(alloc, &called, ssa, program, more),
     }
 }
 
@@ -103,13 +108,14 @@ fn first_difference(
     catalog: &Catalog,
     ssa: &Ssa,
     program: &Program,
+    more: bool,
 ) -> Result<Option<Difference>, AllocError>
     requires sound { IsSound ssa.now }
     ensures { IfOk result (λ found. option_map difference_of found
-        ≡ difference (entries_in catalog.now) ssa.now program.now) }
+        ≡ difference_by (equality more) (entries_in catalog.now) ssa.now program.now) }
 {
     if same_head(ssa, program) {
-        inner_difference(alloc, catalog, ssa, program)
+        inner_difference(alloc, catalog, ssa, program, more)
     } else {
         Ok(Some(Difference::Params))
     }
@@ -132,17 +138,22 @@ fn verdict_for(found: Option<Difference>) -> Verdict
 /// text of its entry means; of a difference nothing is promised. The scalar program of a kernel has no
 /// difference to it.
 ///
-/// Fails for want of memory, also past 2^24 nodes of terms that are made canonical, where a term made of cut
-/// parts has more than 4,096 nodes, and at the bounds of `vg_lift::lift_entry`.
+/// With `more` terms are held against each other as whole terms and as sums, too (`WiderDifference` of
+/// `vg_known`): each program without a difference has none with `more`.
+///
+/// Fails for want of memory, also past 2^24 nodes of terms that are made canonical, with `more` past as many
+/// of whole terms, where a term made of cut parts has more than 4,096 nodes, and at the bounds of
+/// `vg_lift::lift_entry`.
 pub fn verify(
     alloc: Global,
     catalog: &Catalog,
     ssa: &Ssa,
     program: &Program,
+    more: bool,
 ) -> Result<Verdict, AllocError>
     requires sound { IsSound ssa.now }
     ensures exact { IfOk result
-        (λ v. verdict_of v ≡ difference (entries_in catalog.now) ssa.now program.now) }
+        (λ v. verdict_of v ≡ difference_by (equality more) (entries_in catalog.now) ssa.now program.now) }
     ensures same { IfOk result (λ v. v ≡ Verdict.Same →
         KeepsRules (headers_of (entries_in catalog.now)) program.now →
         MeansUnits (called_by (entries_in catalog.now)) program.now ssa.now) }
@@ -152,6 +163,7 @@ pub fn verify(
     same_means_units();
     catalogs_are_told();
     scalar_programs_are_same();
-    let found = first_difference(alloc, catalog, ssa, program)?;
+    same_is_same_with_more();
+    let found = first_difference(alloc, catalog, ssa, program, more)?;
     Ok(verdict_for(found))
 }

@@ -10,6 +10,7 @@
 mod both_sides;
 mod call;
 mod called;
+mod comparer;
 mod comparison;
 mod constant;
 mod earlier_loads;

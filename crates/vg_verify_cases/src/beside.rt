@@ -71,16 +71,18 @@ fn numbered(alloc: Global, text: &[u8]) -> Result<Ssa, Fail>
     Ok(ssa)
 }
 
-/// What the comparison of a kernel's text with a program's text ends with, over the entries of a file's text.
+/// What the comparison of a kernel's text with a program's text ends with, over the entries of a file's text,
+/// with `more` or without.
 pub fn compared(
     alloc: Global,
     entries: &[u8],
     kernel: &[u8],
     program: &[u8],
+    more: bool,
 ) -> Result<Expected, Fail> {
     let ssa = numbered(alloc, kernel)?;
     let catalog = parse_file(alloc, entries)?;
     let program = parse_program(alloc, program, catalog.headers())?;
-    let verdict = verify(alloc, &catalog, &ssa, &program)?;
+    let verdict = verify(alloc, &catalog, &ssa, &program, more)?;
     Ok(expected_of(&verdict))
 }

@@ -53,17 +53,51 @@ end cost 134 scalar 134
     )?)
 }
 
-fn compared_by(alloc: Global, last: &str) -> Result<Expected, Fail> {
+/// A program that adds the bytes from the last one down.
+fn sum_from_behind(alloc: Global) -> Result<String, Fail> {
+    let loads = loads(alloc)?;
+    let mut sums = String::new(alloc);
+    for i in 0..65u64 {
+        write!(sums, "%s{}:i8 = add %s{} %s{}\n", i + 68, i + 67, 64 - i)?;
+    }
+    Ok(format!(in alloc;
+        "program large(d: ptr, p: ptr)
+{loads}%s67:i8 = add %s66 %s65
+{sums}store d+0 %s132
+end cost 134 scalar 134
+"
+    )?)
+}
+
+fn compared_by(alloc: Global, last: &str, more: bool) -> Result<Expected, Fail> {
     let kernel = sum_of_bytes(alloc)?;
     let program = sum_by_lines(alloc, last)?;
-    compared(alloc, b"", kernel.as_bytes(), program.as_bytes())
+    compared(alloc, b"", kernel.as_bytes(), program.as_bytes(), more)
+}
+
+fn expect_by_classes(rt: &impl Abort, alloc: Global, more: bool) -> Result<(), Fail> {
+    let same = compared_by(alloc, "add", more)?;
+    assert!(rt; same == Expected::Same);
+    let other = compared_by(alloc, "sub", more)?;
+    assert!(rt; other == Expected::Value { unit: 133 });
+    Ok(())
 }
 
 #[test]
 fn large_values_are_the_same_by_their_classes(rt: HostRuntime) -> Result<(), Fail> {
-    let same = compared_by(rt.alloc(), "add")?;
-    assert!(rt; same == Expected::Same);
-    let other = compared_by(rt.alloc(), "sub")?;
-    assert!(rt; other == Expected::Value { unit: 133 });
+    expect_by_classes(&rt, rt.alloc(), false)?;
+    expect_by_classes(&rt, rt.alloc(), true)
+}
+
+/// The program adds the last two bytes first: their sum is met nowhere in the kernel.
+#[test]
+fn large_values_of_one_sum_are_the_same_with_more(rt: HostRuntime) -> Result<(), Fail> {
+    let kernel = sum_of_bytes(rt.alloc())?;
+    let program = sum_from_behind(rt.alloc())?;
+    let text = program.as_bytes();
+    let found = compared(rt.alloc(), b"", kernel.as_bytes(), text, false)?;
+    assert!(rt; found == Expected::Value { unit: 133 });
+    let wider = compared(rt.alloc(), b"", kernel.as_bytes(), text, true)?;
+    assert!(rt; wider == Expected::Same);
     Ok(())
 }

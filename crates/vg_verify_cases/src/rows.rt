@@ -131,6 +131,7 @@ store d+1 %s0
 end cost 4 scalar 4
 ";
 
+/// Asserts what the comparison ends with, without `more` and with it.
 fn expect(
     rt: &impl Abort,
     alloc: Global,
@@ -139,8 +140,10 @@ fn expect(
     program: &[u8],
     expected: Expected,
 ) -> Result<(), Fail> {
-    let found = compared(alloc, entries, kernel, program)?;
+    let found = compared(alloc, entries, kernel, program, false)?;
     assert!(rt; found == expected);
+    let wider = compared(alloc, entries, kernel, program, true)?;
+    assert!(rt; wider == expected);
     Ok(())
 }
 
