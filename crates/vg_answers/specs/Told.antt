@@ -1,5 +1,5 @@
 -- What each request on texts is told: as of files that hold them, by the definitions of the commands.
-use Rattle.std.specs.Prelude.{◌≡◌, ℕ, List, map, Option, Some, None, Result, Err, nat_le, if◌then◌else◌}
+use Rattle.std.specs.Prelude.{◌≡◌, ℕ, false, List, map, Option, Some, None, Result, Err, nat_le, if◌then◌else◌}
 use Rattle.vg_base.specs.Bind.{◌>>=◌}
 use Rattle.vg_catalog.specs.Called.{headers_of}
 use Rattle.vg_catalog.specs.Entries.{Entry}
@@ -44,14 +44,14 @@ written_told task entries choices text = do
   t ← judged second_file kernel_limit (Some text)
   told_of task entries choices t
 
--- `check`
+-- `check`, without `--more`
 abbrev pub checked_told : List Entry → List ℕ → List ℕ → Result Outcome Ending
 checked_told entries kernel program = do
   t ← judged second_file kernel_limit (Some kernel)
   k ← kernel_or_refusal second_file (kernel_alone t)
   b ← judged third_file program_limit (Some program)
   p ← program_or_refusal third_file (read (headers_of entries) b)
-  compared entries k p
+  compared entries k p false
 
 -- `eval`, with the values of the parameters
 abbrev pub evaluated_by : Option InputLists → KernelFile → List ℕ → Result (List ℕ) Ending

@@ -42,7 +42,7 @@ fn checked(
         Ok(lines) => lines,
         Err(ending) => return Err(ending),
     };
-    compared(alloc, catalog, &tree, &lines)
+    compared(alloc, catalog, &tree, &lines, false)
 }
 
 /// Lays what `check` writes of a kernel and a program with these texts into the front of `out`, and gives

@@ -1,1 +1,2 @@
 pub mod Numbered
+mod WithMore

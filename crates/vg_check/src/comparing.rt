@@ -29,7 +29,8 @@ pub enum Comparison {
 }
 
 /// Whether a program that keeps the rules, and may call the instructions of a catalogue, has no
-/// difference to a kernel, and the text of the first one where it has.
+/// difference to a kernel, and the text of the first one where it has; with `more` no wider one, and
+/// the text of the first wider one.
 ///
 /// Where there is none, it has the kernel's name and parameters, leaves the memory that the kernel
 /// leaves and traps where the kernel traps, in each layout that respects noalias, each call giving
@@ -41,16 +42,17 @@ pub fn compare(
     catalog: &Catalog,
     kernel: &Kernel,
     program: &Program,
+    more: bool,
 ) -> Result<Comparison, AllocError>
     requires kernel { IsWellFormed (tree_of kernel.now) }
     requires rules { KeepsRules (headers_of (entries_in catalog.now)) program.now }
     ensures exact { IfOk result (λ c. text_in c
-        ≡ told_difference (entries_in catalog.now) (tree_of kernel.now) program.now) }
+        ≡ told_difference (entries_in catalog.now) (tree_of kernel.now) program.now more) }
     ensures means { IfOk result (λ c. c ≡ Comparison.Same
         → Means (called_by (entries_in catalog.now)) program.now (tree_of kernel.now)) }
 {
     let ssa = number_values(alloc, kernel)?;
-    let verdict = verify(alloc, catalog, &ssa, program)?;
+    let verdict = verify(alloc, catalog, &ssa, program, more)?;
     match verdict {
         Verdict::Same => Ok(Comparison::Same),
         Verdict::Differs(difference) => {

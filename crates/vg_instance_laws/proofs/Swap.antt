@@ -27,13 +27,11 @@ use Rattle.vg_kernel.specs.Words.{is_reserved, plain_named}
 use Rattle.vg_catalog.specs.Called.{called_by, entry_named, headers_of}
 use Rattle.vg_catalog.specs.Entries.{Entry}
 use Rattle.vg_program.specs.Valid.{KeepsRules}
-use Rattle.vg_known.specs.Difference.{difference}
-use Rattle.vg_known.specs.Laws.{CallsAreTold}
-use Rattle.vg_known.proofs.Same.{same-means-units}
+use Rattle.vg_known.specs.Difference.{difference, difference_by}
+use Rattle.vg_known.specs.Laws.{CallsAreTold, SameMeansUnits}
 use Rattle.vg_told.proofs.Accepted.{accepts, Accepts}
 use Rattle.vg_told.proofs.Told.{Found, told}
 use Rattle.vg_compile.specs.Means.{Means}
-use Rattle.vg_check.specs.Compared.{told_difference}
 use Rattle.vg_check.proofs.Numbered.{means_kernel, told_numbered}
 use Rattle.vg_instance_laws.specs.Swap.{at, swap_entries, swap_header, swap_kernel, swap_operation, swap_program, SwapIsSame}
 
@@ -57,7 +55,7 @@ lanes = record { width = (lit< tt, lit≤ tt); fill = refl }
 abbrev the-entry : Entry
 the-entry = record { header = swap_header; operation = swap_operation }
 
-calls-told : ResolvedAreProper → CallsAreTold (called_by swap_entries) swap_entries
+pub calls-told : ResolvedAreProper → CallsAreTold (called_by swap_entries) swap_entries
 calls-told proper name e imm is at clear = elim (cases_Bool (bytes_eq (codes "swap") name)) [
   | inl t ↦
       let same : the-entry ≡ e = same_Some _ _ (let f = rw t at is in f) in
@@ -73,7 +71,7 @@ calls-told proper name e imm is at clear = elim (cases_Bool (bytes_eq (codes "sw
 
 -- ---- the kernel
 
-names : IsDistinct bytes_eq (codes "d" ∷ codes "p" ∷ [])
+pub names : IsDistinct bytes_eq (codes "d" ∷ codes "p" ∷ [])
 unfolding IsDistinct
 names = ((refl, tt), ((tt), tt))
 
@@ -146,18 +144,21 @@ rules = record {
 -- ---- both
 
 no-difference : difference swap_entries swap_ssa swap_program ≡ None
-unfolding difference canonical canonical_within first_rule bits num bytes fit checked fold_constants merge_constants neutral_or_absorbing same_operands sort_chain extend_extend first_row narrow_extended_sum narrow_product part_of_concatenation shift_by_zero shift_of_extension shift_of_shift sign_of_nonnegative truncate_arithmetic_shift truncate_extension truncate_logical_shift truncate_operation truncate_selection truncate_truncate zero_on_top known_selection narrow_comparison narrow_least_or_greatest negated_selection selection_is_least_or_greatest
+unfolding difference_by canonical canonical_within first_rule bits num bytes fit checked fold_constants merge_constants neutral_or_absorbing same_operands sort_chain extend_extend first_row narrow_extended_sum narrow_product part_of_concatenation shift_by_zero shift_of_extension shift_of_shift sign_of_nonnegative truncate_arithmetic_shift truncate_extension truncate_logical_shift truncate_operation truncate_selection truncate_truncate zero_on_top known_selection narrow_comparison narrow_least_or_greatest negated_selection selection_is_least_or_greatest
 no-difference = refl
 
-pub swap-is-same : ResolvedAreProper → SwapIsSame
-unfolding told_difference
-swap-is-same proper =
+pub swap-is-same : ResolvedAreProper → SameMeansUnits → SwapIsSame
+swap-is-same proper law =
     record {
       accepted = accepted;
       formed = formed;
       rules = rules;
-      same = sym (told_numbered swap_entries swap_kernel swap_ssa swap_program None numbering (sym no-difference));
+      same = sym (told_numbered swap_entries swap_kernel swap_ssa swap_program false None numbering
+          (sym no-difference));
       means =
-          means_kernel swap_entries swap_kernel swap_ssa swap_program numbering (stands-for swap_kernel swap_ssa formed numbering) (sym no-difference)
-          (same-means-units (called_by swap_entries) swap_entries swap_ssa swap_program sound rules (calls-told proper) no-difference);
+          means_kernel swap_entries swap_kernel swap_ssa swap_program numbering
+          (stands-for swap_kernel swap_ssa formed numbering)
+          (record { name = refl; params = refl })
+          (law false (called_by swap_entries) swap_entries swap_ssa swap_program sound rules (calls-told proper)
+          no-difference);
     }

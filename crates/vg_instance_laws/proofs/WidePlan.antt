@@ -84,7 +84,8 @@ differences-packable = record {
   apart = refl;
 }
 
-callable : (d : Description) → IsPackable d → d.params ≡ 128 ∷ 128 ∷ [] → d.register ≡ 128 → d.lane_width ≡ 64 → IsCallable d
+callable : (d : Description) → IsPackable d → d.params ≡ 128 ∷ 128 ∷ [] → d.register ≡ 128 → d.lane_width ≡ 64
+    → IsCallable d
 callable d packable params register width = record {
   packable = packable;
   lane = rw width refl;
@@ -271,7 +272,8 @@ module _ (terms cuts : List Term) (ds : List Declared)
   needs-differences x h =
       stand 9 (node_depends ssa wide_matches wide_plan (PackAt 1)) (2 ∷ 3 ∷ 4 ∷ []) refl x (unit-low x (both-true (is_unit ssa x) _ h).0) h
 
-  needs-stores : (x : ℕ) → node_depends ssa wide_matches wide_plan (PackAt 0) x ≡ true → Stands x (2 ∷ 3 ∷ 4 ∷ 5 ∷ 7 ∷ [])
+  needs-stores : (x : ℕ) → node_depends ssa wide_matches wide_plan (PackAt 0) x ≡ true
+      → Stands x (2 ∷ 3 ∷ 4 ∷ 5 ∷ 7 ∷ [])
   needs-stores x h =
       stand 9 (node_depends ssa wide_matches wide_plan (PackAt 0)) (2 ∷ 3 ∷ 4 ∷ 5 ∷ 7 ∷ []) refl x (low h) h
     where

@@ -1,2 +1,3 @@
+pub mod SummedSwap
 pub mod Swap
 pub mod WidePlan

@@ -94,5 +94,5 @@ pub record SwapIsSame : Type 0 where
   pub accepted : is_ok (checked swap_header swap_operation) ≡ true
   pub formed : IsWellFormed swap_kernel
   pub rules : KeepsRules (headers_of swap_entries) swap_program
-  pub same : told_difference swap_entries swap_kernel swap_program ≡ None
+  pub same : told_difference swap_entries swap_kernel swap_program false ≡ None
   pub means : Means (called_by swap_entries) swap_program swap_kernel

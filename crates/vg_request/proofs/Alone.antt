@@ -1,11 +1,11 @@
--- A kernel alone, and `--more`: what is asked for by what `clap` finds.
+-- Files, and `--more`: what is asked for by what `clap` finds.
 use Rattle.std.proofs.Common.{◌≡◌, ◌∙◌, ℕ, Bool, true, false, List, [], ◌∷◌, Option, Some, None, refl, codes, ap, sym}
 use Rattle.std.specs.Prelude.{◌&&◌, if◌then◌else◌}
 use Rattle.std.specs.Option.{option_map, option_and_then}
 use Rattle.std.proofs.lemmas.Bool.{and_parts}
 use Rattle.clap.specs.declared.parser.matches.ArgMatches.{ArgMatches}
 use Rattle.vg_request.specs.Found.{HasParts, alone_found}
-use Rattle.vg_request.specs.Options.{AloneAsked, alone_asked, flag_of, more_alone, one_file}
+use Rattle.vg_request.specs.Options.{AloneAsked, alone_asked, flag_of, more_alone}
 use Rattle.vg_request.specs.declared.part.Flag.TheVariants.{Guard, More}
 use Rattle.vg_request.specs.Parts.{Part, parts_of, widths_in, extensions_in, flags_in, words_in}
 use Rattle.vg_request.specs.Readable.{at_most_one, is_nothing, are_few, may_follow, free_first, are_options}
@@ -13,7 +13,7 @@ use Rattle.vg_request.proofs.Asked.{Says, few_parts, flag_is, no_flag}
 
 -- what parts ask for
 abbrev asked_of : Option (List Part) → Option AloneAsked
-asked_of o = option_and_then (λ parts. if more_alone parts then option_and_then (λ more. one_file more (words_in parts)) (flag_of true (flags_in More parts)) else None) o
+asked_of o = option_and_then (λ parts. if more_alone parts then option_map (λ more. record { files = words_in parts; more = more }) (flag_of true (flags_in More parts)) else None) o
 
 -- where `--guard` does not stand, the other options decide
 without_guard : (a b c : Bool) {X : Type 0} (x y : X) → c ≡ true → (if a && (b && c) then x else y) ≡ (if a && b then x else y)
@@ -26,7 +26,7 @@ found_is more None m few h says = absurd h
 found_is more (Some ps) m few h says =
     let parts = few_parts false ps few in
     let mores = flag_is (codes "more") true more (flags_in More ps) m parts.2 h.4 says in
-    let asked : option_and_then (λ more. one_file more (words_in ps)) (flag_of true (flags_in More ps)) ≡ one_file more (words_in ps) = rw mores refl in
+    let asked : option_map (λ b. record { files = words_in ps; more = b }) (flag_of true (flags_in More ps)) ≡ Some (record { files = words_in ps; more = more }) = rw mores refl in
     rw (h.0, h.1, h.2) (sym (without_guard (is_nothing (widths_in ps)) (is_nothing (extensions_in ps)) (is_nothing (flags_in Guard ps)) _ None parts.1 ∙ ap (λ x. if is_nothing (widths_in ps) && is_nothing (extensions_in ps) then x else None) asked))
 
 pub found_is_alone : (more : Bool) (ws : List (List ℕ)) (m : ArgMatches) → are_options false ws ≡ true → HasParts (parts_of ws) m → Says (codes "more") m more → alone_found more m ≡ alone_asked ws

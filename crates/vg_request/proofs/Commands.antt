@@ -36,7 +36,7 @@ trial_read ws w e h lift explain is = sym (ap are_read (begun ws w e) ∙ rw (h.
 pub check_at : (ws : List (List ℕ)) (w : List ℕ) → slice_get ws 0 ≡ Some w → IsBehindEval w → bytes_eq w (codes "lift") ≡ false → bytes_eq w (codes "explain") ≡ false → bytes_eq w (codes "trial") ≡ false → bytes_eq w (codes "check") ≡ true → request_of ws ≡ check_words (drop 1 ws)
 check_at ws w e h lift explain trial is = ap request_of (begun ws w e) ∙ rw (h.compile, h.run, h.eval, lift, explain, trial, is) refl
 
-pub check_read : (ws : List (List ℕ)) (w : List ℕ) → slice_get ws 0 ≡ Some w → IsBehindEval w → bytes_eq w (codes "lift") ≡ false → bytes_eq w (codes "explain") ≡ false → bytes_eq w (codes "trial") ≡ false → bytes_eq w (codes "check") ≡ true → are_plain (drop 1 ws) ≡ are_read ws
+pub check_read : (ws : List (List ℕ)) (w : List ℕ) → slice_get ws 0 ≡ Some w → IsBehindEval w → bytes_eq w (codes "lift") ≡ false → bytes_eq w (codes "explain") ≡ false → bytes_eq w (codes "trial") ≡ false → bytes_eq w (codes "check") ≡ true → are_options false (drop 1 ws) ≡ are_read ws
 check_read ws w e h lift explain trial is = sym (ap are_read (begun ws w e) ∙ rw (h.compile, h.run, h.eval, lift, explain, trial, is) refl)
 
 pub terms_at : (ws : List (List ℕ)) (w : List ℕ) → slice_get ws 0 ≡ Some w → IsBehindEval w → bytes_eq w (codes "lift") ≡ false → bytes_eq w (codes "explain") ≡ false → bytes_eq w (codes "trial") ≡ false → bytes_eq w (codes "check") ≡ false → bytes_eq w (codes "terms") ≡ true → request_of ws ≡ terms_words (drop 1 ws)

@@ -7,12 +7,12 @@ use Rattle.std.specs.Str.{bytes_eq, is_utf8}
 use Rattle.std.proofs.lemmas.Bool.{and_parts}
 use Rattle.clap.specs.declared.parser.matches.ArgMatches.{ArgMatches}
 use Rattle.vg_request.specs.Binding.{is_binding, bindings_in}
-use Rattle.vg_request.specs.Found.{HasParts, values_of, run_found, eval_found, lift_found, trial_found, check_found}
+use Rattle.vg_request.specs.Found.{HasParts, values_of, run_found, eval_found, lift_found, trial_found}
 use Rattle.vg_request.specs.declared.part.Flag.{Flag}
 use Rattle.vg_request.specs.declared.part.Flag.TheVariants.{Guard, More}
 use Rattle.vg_request.specs.Parts.{Part, word, parts_of, part_of, begins, widths_in, flags_in, words_in}
 use Rattle.vg_request.specs.Readable.{are_options, are_plain}
-use Rattle.vg_request.specs.Request.{Asked, run_words, eval_words, lift_words, trial_words, trial_number, check_words}
+use Rattle.vg_request.specs.Request.{Asked, run_words, eval_words, lift_words, trial_words, trial_number}
 use Rattle.vg_request.specs.Word.{plain_word, is_plain}
 use Rattle.vg_request.proofs.Spelled.{bindings_plain, trial_plain}
 
@@ -167,29 +167,3 @@ trial_none (a ∷ d ∷ []) e = by (plain_word a) refl (trial_number d) refl
         let bad : true ≡ false = rw (p, trial_plain d n t) at e in
         cc
 trial_none (a ∷ d ∷ b ∷ ws) e = refl
-
-pub check_is : (ws : List (List ℕ)) → are_plain ws ≡ true → check_found ws ≡ check_words ws
-check_is [] e = refl
-check_is (a ∷ []) e = refl
-check_is (a ∷ b ∷ []) e = refl
-check_is (a ∷ b ∷ c ∷ []) e =
-    let one = and_parts (is_plain a) (are_plain (b ∷ c ∷ [])) e in
-    let two = and_parts (is_plain b) (are_plain (c ∷ [])) one.1 in
-    let three = and_parts (is_plain c) true two.1 in
-    rw ((plain_is a one.0).1, (plain_is b two.0).1, (plain_is c three.0).1) refl
-check_is (a ∷ b ∷ c ∷ d ∷ ws) e = refl
-
-pub check_none : (ws : List (List ℕ)) → are_plain ws ≡ false → check_words ws ≡ None
-check_none [] e = refl
-check_none (a ∷ []) e = refl
-check_none (a ∷ b ∷ []) e = refl
-check_none (a ∷ b ∷ c ∷ []) e = by (plain_word a) refl (plain_word b) refl (plain_word c) refl
-  where
-    by : (x : Option (List ℕ)) → plain_word a ≡ x → (y : Option (List ℕ)) → plain_word b ≡ y → (z : Option (List ℕ)) → plain_word c ≡ z → check_words (a ∷ b ∷ c ∷ []) ≡ None
-    by None p y q z r = rw p refl
-    by (Some x) p None q z r = rw (p, q) refl
-    by (Some x) p (Some y) q None r = rw (p, q, r) refl
-    by (Some x) p (Some y) q (Some z) r =
-        let bad : true ≡ false = rw (p, q, r) at e in
-        cc
-check_none (a ∷ b ∷ c ∷ d ∷ ws) e = refl

@@ -5,11 +5,12 @@ use Rattle.std.specs.Option.{option_and_then, option_map}
 use Rattle.clap.specs.Words.{found_of, matched_of, one_text, raw_values}
 use Rattle.clap.specs.declared.parser.matches.ArgMatches.{ArgMatches}
 use Rattle.vg_request.specs.Binding.{is_binding, bindings_in}
-use Rattle.vg_request.specs.Options.{AloneAsked, KernelAsked, width_of, allowed_of, one_file, two_files}
+use Rattle.vg_request.specs.Options.{AloneAsked, KernelAsked, width_of, allowed_of, two_files}
+use Rattle.vg_request.specs.declared.reading.FilesAlone.{FilesAlone}
 use Rattle.vg_request.specs.declared.part.Flag.TheVariants.{Guard, More}
 use Rattle.vg_request.specs.Parts.{Part, widths_in, extensions_in, flags_in, words_in}
 use Rattle.vg_request.specs.Readable.{is_nothing}
-use Rattle.vg_request.specs.Request.{Asked, run, eval, lift, trial, check, trial_number}
+use Rattle.vg_request.specs.Request.{Asked, run, eval, lift, trial, trial_number}
 
 -- all values of an argument, in their order
 abbrev pub values_of : List ℕ → ArgMatches → List (List ℕ)
@@ -44,8 +45,12 @@ kernel_found guard more m = kernel_by guard more (values_of (codes "width") m)
 abbrev pub alone_found : Bool → ArgMatches → Option AloneAsked
 alone_found more m =
     if is_nothing (values_of (codes "width") m) && is_nothing (values_of (codes "with") m)
-    then one_file more (values_of (codes "files") m)
+    then Some (record { files = values_of (codes "files") m; more = more })
     else None
+
+-- the files that the code's value has, and whether `--more` stands beside them
+abbrev pub alone_seen : FilesAlone → AloneAsked
+alone_seen f = record { files = values_of (codes "files") f.matches; more = f.more }
 
 -- what the values ask for after each other command, and the words after its files
 abbrev pub run_found : List (List ℕ) → List (List ℕ) → Option Asked
@@ -65,7 +70,3 @@ lift_found _ = None
 abbrev pub trial_found : List (List ℕ) → Option Asked
 trial_found (a ∷ digits ∷ []) = option_map (λ number. trial a number) (trial_number digits)
 trial_found _ = None
-
-abbrev pub check_found : List (List ℕ) → Option Asked
-check_found (a ∷ b ∷ c ∷ []) = Some (check a b c)
-check_found _ = None

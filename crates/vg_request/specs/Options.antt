@@ -4,7 +4,6 @@ use Rattle.std.specs.Option.{option_and_then, option_map}
 use Rattle.vg_text.specs.Number.{decimal_value}
 use Rattle.vg_catalog.specs.Extensions.{all_extensions, extension_place, bits_in}
 use Rattle.vg_request.specs.declared.options.Options.{Options}
-use Rattle.vg_request.specs.declared.reading.KernelAlone.{KernelAlone}
 use Rattle.vg_request.specs.declared.reading.OnKernel.{OnKernel}
 use Rattle.vg_request.specs.declared.part.Flag.TheVariants.{Guard, More}
 use Rattle.vg_request.specs.Parts.{Part, parts_of, widths_in, extensions_in, flags_in, words_in}
@@ -87,14 +86,10 @@ kernel_asked free words =
     option_and_then (λ choices. two_files guard choices (words_in parts))
     (choices_of parts)) (flag_of free (flags_in Guard parts))) (parts_of words)
 
--- a kernel, and whether `--more` stands beside it
+-- files, and whether `--more` stands beside them
 pub record AloneAsked : Type 0 where
-  pub kernel : List ℕ
+  pub files : List (List ℕ)
   pub more : Bool
-
-abbrev pub one_file : Bool → List (List ℕ) → Option AloneAsked
-one_file more (kernel ∷ []) = Some (record { kernel = kernel; more = more })
-one_file more _ = None
 
 -- no option stands there, but for `--more`
 abbrev pub more_alone : List Part → Bool
@@ -102,12 +97,12 @@ more_alone parts =
     is_nothing (widths_in parts)
     && (is_nothing (extensions_in parts) && is_nothing (flags_in Guard parts))
 
--- `KERNEL`, with `--more` at most once before or behind it
+-- files, with `--more` at most once anywhere among them
 abbrev pub alone_asked : List (List ℕ) → Option AloneAsked
 alone_asked words =
     option_and_then (λ parts.
     if more_alone parts
-    then option_and_then (λ more. one_file more (words_in parts))
+    then option_map (λ more. record { files = words_in parts; more = more })
     (flag_of true (flags_in More parts))
     else None) (parts_of words)
 
@@ -122,6 +117,3 @@ kernel_seen k = record {
   choices = choices_seen k.options;
   guard = k.guard;
 }
-
-abbrev pub alone_seen : KernelAlone → AloneAsked
-alone_seen k = record { kernel = k.kernel.now; more = k.more }

@@ -54,7 +54,7 @@ are_options guard_free words = may_follow (free_first guard_free) (parts_of word
 abbrev pub are_plain : List (List ℕ) → Bool
 are_plain words = list_all is_plain words
 
--- after `compile`, `explain` and `terms` options may stand, and `--guard` after `compile` alone
+-- after `compile`, `explain`, `check` and `terms` options may stand, and `--guard` after `compile` alone
 abbrev pub are_read : List (List ℕ) → Bool
 are_read [] = false
 are_read (command ∷ words) =
@@ -64,6 +64,6 @@ are_read (command ∷ words) =
     else if bytes_eq command (codes "lift") then are_plain words
     else if bytes_eq command (codes "explain") then are_options false words
     else if bytes_eq command (codes "trial") then are_plain words
-    else if bytes_eq command (codes "check") then are_plain words
+    else if bytes_eq command (codes "check") then are_options false words
     else if bytes_eq command (codes "terms") then are_options false words
     else false

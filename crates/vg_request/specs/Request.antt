@@ -18,7 +18,7 @@ pub data Asked : Type 0 where
   lift : List ℕ → Asked
   explain : List ℕ → List ℕ → Choices → Asked
   trial : List ℕ → ℕ → Asked
-  check : List ℕ → List ℕ → List ℕ → Asked
+  check : List ℕ → List ℕ → List ℕ → Bool → Asked
   terms : List ℕ → Bool → Asked
 
 -- the names of its files, in the order in which they are read
@@ -29,7 +29,7 @@ files_of (eval kernel memory bindings) = kernel ∷ memory ∷ []
 files_of (lift instructions) = instructions ∷ []
 files_of (explain instructions kernel choices) = instructions ∷ kernel ∷ []
 files_of (trial instructions number) = instructions ∷ []
-files_of (check instructions kernel program) = instructions ∷ kernel ∷ program ∷ []
+files_of (check instructions kernel program more) = instructions ∷ kernel ∷ program ∷ []
 files_of (terms kernel more) = kernel ∷ []
 
 -- words that are no request name no file
@@ -97,18 +97,24 @@ trial_words (a ∷ digits ∷ []) =
     option_map (λ number. trial instructions number) (trial_number digits)) (plain_word a)
 trial_words _ = None
 
--- the words after `check INSTRUCTIONS KERNEL PROGRAM`
-abbrev pub check_words : List (List ℕ) → Option Asked
-check_words (a ∷ b ∷ c ∷ []) =
-    option_and_then (λ instructions.
-    option_and_then (λ kernel.
-    option_map (λ program. check instructions kernel program)
-    (plain_word c)) (plain_word b)) (plain_word a)
-check_words _ = None
+-- the three files of `check`
+abbrev pub check_of : Bool → List (List ℕ) → Option Asked
+check_of more (instructions ∷ kernel ∷ program ∷ []) =
+    Some (check instructions kernel program more)
+check_of more _ = None
 
--- the words after `terms KERNEL`, with `--more` anywhere among them
+-- the words after `check INSTRUCTIONS KERNEL PROGRAM`, with `--more` anywhere among them
+abbrev pub check_words : List (List ℕ) → Option Asked
+check_words words = option_and_then (λ a. check_of a.more a.files) (alone_asked words)
+
+-- the file of `terms`
+abbrev pub terms_of : Bool → List (List ℕ) → Option Asked
+terms_of more (kernel ∷ []) = Some (terms kernel more)
+terms_of more _ = None
+
+-- the words after `terms KERNEL`, with `--more` before or behind it
 abbrev pub terms_words : List (List ℕ) → Option Asked
-terms_words words = option_map (λ k. terms k.kernel k.more) (alone_asked words)
+terms_words words = option_and_then (λ a. terms_of a.more a.files) (alone_asked words)
 
 -- the command, and what stands after it; all other words are no request
 abbrev pub request_of : List (List ℕ) → Option Asked
@@ -132,5 +138,5 @@ asked_of (Eval a b words) = eval a.now b.now (bindings_in words.now)
 asked_of (Lift a) = lift a.now
 asked_of (Explain a b options) = explain a.now b.now (choices_seen options)
 asked_of (Trial a number) = trial a.now number
-asked_of (Check a b c) = check a.now b.now c.now
+asked_of (Check a b c more) = check a.now b.now c.now more
 asked_of (Terms a more) = terms a.now more

@@ -3,9 +3,9 @@
 ghost use Rattle.std.specs.Prelude.{◌≡◌, [], true, false, codes, Ok, None, IfOk, IfErr, option_map, unwrap_or};
 ghost use Rattle.clap.specs.Words.{kind_of};
 ghost use Rattle.vg_request.specs.Parts.{parts_of, part_seen};
-ghost use Rattle.vg_request.specs.Options.{alone_asked, alone_seen, kernel_asked, kernel_seen, one_file, two_files, choices_seen};
+ghost use Rattle.vg_request.specs.Options.{alone_asked, kernel_asked, kernel_seen, two_files, choices_seen};
 ghost use Rattle.vg_request.specs.Readable.{is_one_more, free_behind, are_options, are_plain};
-ghost use Rattle.vg_request.specs.Found.{HasParts, values_of, alone_found, kernel_found};
+ghost use Rattle.vg_request.specs.Found.{HasParts, values_of, alone_found, alone_seen, kernel_found};
 ghost use Rattle.vg_request.specs.Texts.{texts_of};
 
 use crate::options::{Options, allowed_of, width_of};
@@ -220,44 +220,41 @@ pub(crate) fn on_kernel<'a>(
     Ok(kernel_found(guard, more, &matches))
 }
 
-/// A kernel, and whether `--more` stands beside it.
-#[derive(Clone, Copy)]
-pub(crate) struct KernelAlone<'a> {
-    pub(crate) kernel: &'a str,
+/// What `clap` reads of files, and whether `--more` stands beside them.
+#[derive(Drop)]
+pub(crate) struct FilesAlone<'a> {
+    matches: ArgMatches<'a>,
     pub(crate) more: bool,
 }
 
-fn one_file<'a>(more: bool, files: &[&'a str]) -> Option<KernelAlone<'a>>
-    ensures { option_map alone_seen result ≡ one_file more (texts_of files.now) }
-{
-    match files {
-        [kernel] => Some(KernelAlone {
-            kernel: *kernel,
-            more,
-        }),
-        _ => None,
+impl<'a> FilesAlone<'a> {
+    /// The files, in their order.
+    pub(crate) fn names(&self) -> &[&'a str]
+        ensures { texts_of result.now ≡ (alone_seen self.now).files }
+    {
+        values_of(&self.matches, "files")
     }
 }
 
-fn alone_found<'a>(more: bool, matches: &ArgMatches<'a>) -> Option<KernelAlone<'a>>
-    ensures { option_map alone_seen result ≡ alone_found more matches.now }
+fn alone_found<'a>(more: bool, matches: ArgMatches<'a>) -> Option<FilesAlone<'a>>
+    ensures { option_map alone_seen result ≡ alone_found more matches.entry }
 {
-    if !values_of(matches, "width").is_empty() {
+    if !values_of(&matches, "width").is_empty() {
         return None;
     }
-    if !values_of(matches, "with").is_empty() {
+    if !values_of(&matches, "with").is_empty() {
         return None;
     }
-    one_file(more, values_of(matches, "files"))
+    Some(FilesAlone { matches, more })
 }
 
-/// `KERNEL`, with `--more` at most once before or behind it. Fails for want of memory alone, and
-/// takes none for words that are no options and files.
+/// Files, with `--more` at most once anywhere among them. Fails for want of memory alone, and takes
+/// none for words that are no options and files.
 #[tactic(auto, using(crate::proofs::Alone::no_options_alone, crate::proofs::Asked::are_free))]
-pub(crate) fn kernel_alone<'a>(
+pub(crate) fn files_alone<'a>(
     alloc: Global,
     words: &'a [Bytes],
-) -> Result<Option<KernelAlone<'a>>, AllocError>
+) -> Result<Option<FilesAlone<'a>>, AllocError>
     ensures asked { IfOk result (λ r. option_map alone_seen r ≡ alone_asked words.now) }
     ensures refused { are_options false words.now ≡ false → result ≡ Ok None }
 {
@@ -266,5 +263,5 @@ pub(crate) fn kernel_alone<'a>(
     }
     let matches = matched(alloc, words)?;
     let more = matches.get_flag("more");
-    Ok(alone_found(more, &matches))
+    Ok(alone_found(more, matches))
 }

@@ -1,14 +1,14 @@
 //! What the words of a command line ask for.
 
 ghost use Rattle.std.specs.Prelude.{◌≡◌, true, false, Ok, None, option_map, IfOk, drop, length, ◌≤◌};
-ghost use Rattle.vg_request.specs.Found.{run_found, eval_found, lift_found, trial_found, check_found};
+ghost use Rattle.vg_request.specs.Found.{run_found, eval_found, lift_found, trial_found};
 ghost use Rattle.vg_request.specs.Readable.{are_options, are_plain, are_read};
-ghost use Rattle.vg_request.specs.Request.{run_words, eval_words, lift_words, compile_words, explain_words, trial_number, trial_words, check_words, terms_words, request_of, files_of, file_name, asked_of};
+ghost use Rattle.vg_request.specs.Request.{run_words, eval_words, lift_words, compile_words, explain_words, trial_number, trial_words, check_of, check_words, terms_of, terms_words, request_of, files_of, file_name, asked_of};
 ghost use Rattle.vg_request.specs.Texts.{texts_of};
 
 use crate::binding::are_bindings;
 use crate::options::Options;
-use crate::reading::{are_plain, kernel_alone, on_kernel, positional, values_of};
+use crate::reading::{are_plain, files_alone, on_kernel, positional, values_of};
 use std::alloc::{AllocError, Global};
 use vg_outside::{Bytes, Words};
 use vg_text::decimal;
@@ -53,11 +53,13 @@ pub enum Request<'a> {
         instructions: &'a str,
         number: u32,
     },
-    /// That a program has no difference to a kernel, or the first difference.
+    /// That a program has no difference to a kernel, or the first difference; with `more` no wider one,
+    /// or the first wider difference.
     Check {
         instructions: &'a str,
         kernel: &'a str,
         program: &'a str,
+        more: bool,
     },
     /// The lines on the values of a kernel, or of the kernel of a loop's turns; with `more` their cut
     /// terms too.
@@ -301,31 +303,41 @@ fn trial_words(alloc: Global, words: &Words) -> Result<Option<Request<'_>>, Allo
     Ok(trial_found(values_of(&matches, "files")))
 }
 
-fn check_found<'a>(files: &[&'a str]) -> Option<Request<'a>>
-    ensures { option_map asked_of result ≡ check_found (texts_of files.now) }
+fn check_of<'a>(more: bool, files: &[&'a str]) -> Option<Request<'a>>
+    ensures { option_map asked_of result ≡ check_of more (texts_of files.now) }
 {
     match files {
         [instructions, kernel, program] => Some(Request::Check {
             instructions: *instructions,
             kernel: *kernel,
             program: *program,
+            more,
         }),
         _ => None,
     }
 }
 
-#[tactic(auto, using(crate::proofs::Plain::check_is, crate::proofs::Plain::check_none))]
 fn check_words(alloc: Global, words: &Words) -> Result<Option<Request<'_>>, AllocError>
     requires { 1 ≤ length words.now }
     ensures asked { IfOk result (λ r. option_map asked_of r ≡ check_words (drop 1 words.now)) }
-    ensures refused { are_plain (drop 1 words.now) ≡ false → result ≡ Ok None }
+    ensures refused { are_options false (drop 1 words.now) ≡ false → result ≡ Ok None }
 {
-    let behind = words.behind(1);
-    if !are_plain(behind) {
+    let Some(asked) = files_alone(alloc, words.behind(1))? else {
         return Ok(None);
+    };
+    Ok(check_of(asked.more, asked.names()))
+}
+
+fn terms_of<'a>(more: bool, files: &[&'a str]) -> Option<Request<'a>>
+    ensures { option_map asked_of result ≡ terms_of more (texts_of files.now) }
+{
+    match files {
+        [kernel] => Some(Request::Terms {
+            kernel: *kernel,
+            more,
+        }),
+        _ => None,
     }
-    let matches = positional(alloc, behind)?;
-    Ok(check_found(values_of(&matches, "files")))
 }
 
 fn terms_words(alloc: Global, words: &Words) -> Result<Option<Request<'_>>, AllocError>
@@ -333,11 +345,8 @@ fn terms_words(alloc: Global, words: &Words) -> Result<Option<Request<'_>>, Allo
     ensures asked { IfOk result (λ r. option_map asked_of r ≡ terms_words (drop 1 words.now)) }
     ensures refused { are_options false (drop 1 words.now) ≡ false → result ≡ Ok None }
 {
-    let Some(asked) = kernel_alone(alloc, words.behind(1))? else {
+    let Some(asked) = files_alone(alloc, words.behind(1))? else {
         return Ok(None);
     };
-    Ok(Some(Request::Terms {
-        kernel: asked.kernel,
-        more: asked.more,
-    }))
+    Ok(terms_of(asked.more, asked.names()))
 }

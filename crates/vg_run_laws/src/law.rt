@@ -8,6 +8,9 @@ ghost use Rattle.vg_run_laws.specs.Laws.{
   CompiledTextsRunAsEvaluated,
 };
 ghost use Rattle.vg_run_laws.specs.OneAnswer.{OneAnswer};
+ghost use Rattle.vg_run_laws.specs.SameWithMore.{SameWithMore};
+
+use vg_check::same_is_told_with_more;
 
 /// A law: the text of a program that is compiled of a kernel is read, and `run` answers on it what
 /// `eval` answers on the kernel, for every memory and all words that bind places which keep what
@@ -43,3 +46,11 @@ pub fn compiled_texts_run_as_evaluated()
 pub fn one_answer()
     ensures { OneAnswer }
 {}
+
+/// A law: where `check` of three files is answered, which it is by `same` alone, the same words with
+/// `--more` among them have the same verdict: they are answered too, and by `same`.
+pub fn same_with_more()
+    ensures { SameWithMore }
+{
+    same_is_told_with_more();
+}

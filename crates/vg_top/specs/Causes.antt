@@ -15,7 +15,7 @@ reads_instructions (eval kernel memory bindings) = false
 reads_instructions (explain instructions kernel choices) = true
 reads_instructions (lift instructions) = true
 reads_instructions (trial instructions number) = true
-reads_instructions (check instructions kernel program) = true
+reads_instructions (check instructions kernel program more) = true
 reads_instructions (terms kernel more) = false
 
 -- the commands that read a kernel
@@ -26,7 +26,7 @@ reads_kernel (eval kernel memory bindings) = true
 reads_kernel (explain instructions kernel choices) = true
 reads_kernel (lift instructions) = false
 reads_kernel (trial instructions number) = false
-reads_kernel (check instructions kernel program) = true
+reads_kernel (check instructions kernel program more) = true
 reads_kernel (terms kernel more) = true
 
 -- the commands that read a program
@@ -37,7 +37,7 @@ reads_program (eval kernel memory bindings) = false
 reads_program (explain instructions kernel choices) = false
 reads_program (lift instructions) = false
 reads_program (trial instructions number) = false
-reads_program (check instructions kernel program) = true
+reads_program (check instructions kernel program more) = true
 reads_program (terms kernel more) = false
 
 -- the commands that bind parameters and run something on a memory
@@ -48,7 +48,7 @@ runs (eval kernel memory bindings) = true
 runs (explain instructions kernel choices) = false
 runs (lift instructions) = false
 runs (trial instructions number) = false
-runs (check instructions kernel program) = false
+runs (check instructions kernel program more) = false
 runs (terms kernel more) = false
 
 -- the command that compares a program with a kernel
@@ -59,7 +59,7 @@ compares (eval kernel memory bindings) = false
 compares (explain instructions kernel choices) = false
 compares (lift instructions) = false
 compares (trial instructions number) = false
-compares (check instructions kernel program) = true
+compares (check instructions kernel program more) = true
 compares (terms kernel more) = false
 
 -- A request may end so: its instructions, its kernel, its program are refused only where it reads

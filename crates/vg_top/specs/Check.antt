@@ -1,7 +1,7 @@
 -- What `check` answers, where it is known what the shelf holds: that the program means the kernel, the first
 -- difference, or the first refusal. The files are judged one after the other, and the two are compared after
 -- them.
-use Rattle.std.specs.Prelude.{ℕ, List, Option, Some, None, Result, Ok, Err}
+use Rattle.std.specs.Prelude.{ℕ, Bool, List, Option, Some, None, Result, Ok, Err}
 use Rattle.vg_base.specs.Bind.{◌>>=◌}
 use Rattle.vg_outside.specs.Shelf.{Held}
 use Rattle.vg_catalog.specs.Entries.{Entry}
@@ -25,17 +25,18 @@ abbrev pub same_unless : Pair → Option (List ℕ) → Result Outcome Ending
 same_unless q None = Ok (same_for q)
 same_unless q (Some text) = Err (Differs text)
 
-abbrev pub compared : List Entry → Tree → Program → Result Outcome Ending
-compared entries kernel program =
-    same_unless (pair entries kernel program) (told_difference entries kernel program)
+-- with more the first wider difference is told
+abbrev pub compared : List Entry → Tree → Program → Bool → Result Outcome Ending
+compared entries kernel program more =
+    same_unless (pair entries kernel program) (told_difference entries kernel program more)
 
 -- no loop and no guarded or looped text may stand here
-abbrev pub checked : Held → List ℕ → List ℕ → List ℕ → Result Outcome Ending
-checked held instructions kernel program = do
+abbrev pub checked : Held → List ℕ → List ℕ → List ℕ → Bool → Result Outcome Ending
+checked held instructions kernel program more = do
   file ← file_of held first_file instructions instructions_limit
   entries ← entries_or_refusal first_file (entries_of file)
   text ← file_of held second_file kernel kernel_limit
   k ← kernel_or_refusal second_file (kernel_alone text)
   body ← file_of held third_file program program_limit
   p ← program_or_refusal third_file (read (headers_of entries) body)
-  compared entries k p
+  compared entries k p more

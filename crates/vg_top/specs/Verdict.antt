@@ -32,7 +32,8 @@ outcome_of held (eval kernel memory bindings) =
 outcome_of held (lift instructions) = listed held instructions >>= λ lines. Ok (listing lines)
 outcome_of held (trial instructions number) =
     trial_told held instructions number >>= λ t. Ok (line_on t)
-outcome_of held (check instructions kernel program) = checked held instructions kernel program
+outcome_of held (check instructions kernel program more) =
+    checked held instructions kernel program more
 outcome_of held (terms kernel more) = values_listed held kernel more >>= λ lines. Ok (listing lines)
 
 -- what is to be written, or the first refusal: of the words, and then of the files in their order

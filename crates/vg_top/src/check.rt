@@ -33,22 +33,23 @@ fn same_text(alloc: Global) -> Result<Vec<u8>, AllocError>
 }
 
 /// That a program, which may call the instructions of a catalogue, means a kernel. `Differs` (status 13) with
-/// the text of the first difference where it has one, `Memory` (12) for want of memory, also at the bounds of
-/// `compare`.
+/// the text of the first difference where it has one, with `more` of the first wider one; `Memory` (12) for
+/// want of memory, also at the bounds of `compare`.
 #[tactic(auto, using(crate::proofs::Checks::same_told, crate::proofs::Checks::difference_told))]
 pub fn compared(
     alloc: Global,
     catalog: &Catalog,
     kernel: &Kernel,
     program: &Program,
+    more: bool,
 ) -> Result<Vec<u8>, Ending>
     requires kernel { IsWellFormed (tree_of kernel.now) }
     requires rules { KeepsRules (headers_of (entries_in catalog.now)) program.now }
     ensures told { Tells VecAnswers result
-        (compared (entries_in catalog.now) (tree_of kernel.now) program.now) }
+        (compared (entries_in catalog.now) (tree_of kernel.now) program.now more) }
     ensures refusal { IfErr result IsOfComparison }
 {
-    match compare(alloc, catalog, kernel, program) {
+    match compare(alloc, catalog, kernel, program, more) {
         Ok(Comparison::Same) => match same_text(alloc) {
             Ok(bytes) => Ok(bytes),
             Err(_) => Err(Ending::Memory),
@@ -63,18 +64,20 @@ pub fn compared(
 /// The files are read and judged one after the other: the instructions, the kernel, the program. The first
 /// that is refused gives the ending of `fetch`, `Instructions` (status 3), `Kernel` (4) or `Program` (5); a
 /// loop is refused as a kernel, and a guarded text, a looped one or a guarded loop as a program. Then comes
-/// `Differs` (13). `Memory` (12) comes for want of memory, also at the bounds of `compare`.
+/// `Differs` (13), with `more` for the first wider difference. `Memory` (12) comes for want of memory, also at
+/// the bounds of `compare`.
 pub fn check<S: Shelf>(
     alloc: Global,
     shelf: &mut S,
     instructions: &str,
     kernel: &str,
     program: &str,
+    more: bool,
 ) -> Result<Vec<u8>, Ending>
     ensures told { IfSome (S.holds shelf.old) (λ held. Tells VecAnswers result
-        (checked held instructions.now kernel.now program.now)) }
+        (checked held instructions.now kernel.now program.now more)) }
     ensures shelf { Works S.Shelf
-        (Some (check_asked instructions.now kernel.now program.now))
+        (Some (check_asked instructions.now kernel.now program.now more))
         shelf.old shelf.new (ending_of result) }
 {
     let first = FileNumber(1);
@@ -86,5 +89,5 @@ pub fn check<S: Shelf>(
     let third = FileNumber(3);
     let body = fetch(alloc, shelf, third, program, PROGRAM_LIMIT)?;
     let program = program_alone_of_text(alloc, third, body.as_slice(), catalog.headers())?;
-    compared(alloc, &catalog, &kernel, &program)
+    compared(alloc, &catalog, &kernel, &program, more)
 }

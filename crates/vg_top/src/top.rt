@@ -89,8 +89,9 @@ fn answer<S: Shelf>(
                 instructions,
                 kernel,
                 program,
+                more,
             },
-        ) => check(alloc, shelf, instructions, kernel, program),
+        ) => check(alloc, shelf, instructions, kernel, program, more),
         Some(Request::Terms { kernel, more }) => terms(alloc, shelf, kernel, more),
         None => Err(Ending::Usage),
     }
@@ -122,7 +123,9 @@ fn answer<S: Shelf>(
 /// of its memory, modulo 2^32.
 /// `check INSTRUCTIONS KERNEL PROGRAM` writes `same` where the program, from anywhere, has no
 /// difference to the kernel: then it means the kernel. Else its status is `Differs`, and the line
-/// tells the first difference; the program may mean the kernel all the same.
+/// tells the first difference; the program may mean the kernel all the same. With `--more` it is the
+/// first wider difference, where terms are held against one another as whole terms and as sums:
+/// each program that is `same` is `same` with it too.
 /// `terms KERNEL` writes a line on each value of the kernel as `compile` numbers them: what it is,
 /// and the term of an operation and of what is stored; with `--more` cut terms too; of a loop on the
 /// values of the kernel of its turns.

@@ -81,7 +81,7 @@ returns-in_err-program-clause-told g c =
     let judged = subst (λ v. Tells IsPlain (Err c.in_err-program.field-0.0) (program_or_refusal third_file (read (headers_of (entries_in catalog)) v))) c.as_slice-3.ensures.value
     (subst (λ v. Tells IsPlain (Err c.in_err-program.field-0.0) (program_or_refusal third_file (read v c.as_slice-3.result.now))) c.headers.ensures.headers c.in_err-program.ensures.told) in
     rw (same.1, same.2) (some-told (s.holds c.args.shelf.now) _ _ _ _ _ _ first (c.in_ok-text.ensures.shelf.keeps ∙ first) c.in_ok-file.ensures.told c.in_ok-text.ensures.told c.in_ok-body.ensures.told
-    (λ held a b d. refused-told held c.args.instructions.now c.args.kernel.now c.args.program.now file text body catalog kernel c.in_err-program.field-0.0 a entries b formed d judged))
+    (λ held a b d. refused-told held c.args.instructions.now c.args.kernel.now c.args.program.now c.args.more file text body catalog kernel c.in_err-program.field-0.0 a entries b formed d judged))
 
 pub returns-clause-told : goal.returns-clause-told
 returns-clause-told g c =
@@ -98,4 +98,4 @@ returns-clause-told g c =
     let judged = subst (λ v. Tells IsPlain (Ok program) (program_or_refusal third_file (read (headers_of (entries_in catalog)) v))) c.as_slice-3.ensures.value
     (subst (λ v. Tells IsPlain (Ok program) (program_or_refusal third_file (read v c.as_slice-3.result.now))) c.headers.ensures.headers c.in_ok-program.ensures.told) in
     some-told (s.holds c.args.shelf.now) _ _ _ _ _ _ first (c.in_ok-text.ensures.shelf.keeps ∙ first) c.in_ok-file.ensures.told c.in_ok-text.ensures.told c.in_ok-body.ensures.told
-    (λ held a b d. checked-told held c.args.instructions.now c.args.kernel.now c.args.program.now file text body catalog kernel program c.compared.result a entries b formed d judged c.compared.ensures.told)
+    (λ held a b d. checked-told held c.args.instructions.now c.args.kernel.now c.args.program.now c.args.more file text body catalog kernel program c.compared.result a entries b formed d judged c.compared.ensures.told)

@@ -1,7 +1,7 @@
 use Rattle.std.proofs.Common.{rules, ◌≡◌, ◌∙◌, true, false}
 use Rattle.vg_request.specs.Readable.{are_options}
 use Rattle.vg_request.proofs.Alone.{found_is_alone}
-use Rattle.vg_request.proofs.reading.kernel_alone.Goals as goal
+use Rattle.vg_request.proofs.reading.files_alone.Goals as goal
 
 pub returns-clause-asked : goal.returns-clause-asked
 returns-clause-asked c =

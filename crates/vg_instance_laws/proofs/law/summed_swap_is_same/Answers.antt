@@ -1,0 +1,5 @@
+use Rattle.vg_instance_laws.proofs.SummedSwap.{summed-swap-is-same}
+use Rattle.vg_instance_laws.proofs.law.summed_swap_is_same.Goals as goal
+
+pub returns : goal.returns
+returns c = summed-swap-is-same c.resolved_operations_are_proper.ensures c.same_means_units.ensures
