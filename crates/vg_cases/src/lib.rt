@@ -4,6 +4,8 @@
 #[cfg(test)]
 mod check_cases;
 #[cfg(test)]
+mod check_more_cases;
+#[cfg(test)]
 mod compile_cases;
 #[cfg(test)]
 mod desk;

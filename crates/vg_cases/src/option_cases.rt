@@ -59,7 +59,7 @@ fn options_that_are_no_request_read_nothing(rt: HostRuntime) -> Result<(), Fail>
         run --more i p m
         eval k m --more
         trial --more i 1
-        check --more i k p";
+        check --more --more i k p";
     expect_each(&rt, rt.alloc(), &[("i", b""), ("k", TWO)], USAGE, lines)
 }
 
