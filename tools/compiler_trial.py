@@ -17,6 +17,9 @@ FORMS = ('max', '', 'maxmin', 'if', 'round', 'bytes', 'sums')
 SHARED_WORDS = re.compile(r'-(I|D|U|std=|include|isystem|f(un)?signed-char)')
 PLAIN = ('-O0', '-w', '-fwrapv', '-fno-strict-aliasing')
 TRAPPING = ('-O1', '-w', '-fsanitize=undefined', '-fno-sanitize=alignment', '-fsanitize-trap=all')
+# The words of what is the same, by whether `--more` was asked and whether the texts were levelled.
+SAME = {(False, False): 'same', (False, True): 'same, levelled',
+        (True, False): 'same with --more', (True, True): 'same with --more, levelled'}
 FAR, SECONDS = 4000, 120
 
 
@@ -142,7 +145,7 @@ class Runs(kernel_trial.Trial):
 
 
 class Verdict:
-    """What came of a function: a word (`same`, `same, levelled`, `differs`, `WRONG`), the line that tells it, and the texts."""
+    """What came of a function: a word (one of SAME, `differs`, `WRONG`), the line that tells it, and the texts."""
 
     def __init__(self, word, line, kernel='', program='', entries='', memory=b''):
         self.word, self.line, self.kernel, self.program, self.entries, self.memory = word, line, kernel, program, entries, memory
@@ -248,9 +251,9 @@ class Trial:
     # The comparison
 
     def compared(self, code, runs, left, shown):
-        """The verdict of `check`, by the kernels and the forms of entries in turn, as they are and levelled."""
+        """The verdict of `check`, then of `check --more`, by the kernels and the forms of entries in turn, as they are and levelled."""
         first, seen = None, set()
-        for levelling in (False, True):
+        for more, levelling in SAME:
             for text, _ in self.kernels:
                 for form in FORMS:
                     writer = self.written(code, text, form)
@@ -258,10 +261,10 @@ class Trial:
                     if self.program is None:
                         self.program = program
                         self.tried(runs, left, program, entries)
-                    if (levelling, text, program, entries) in seen:
+                    if (more, levelling, text, program, entries) in seen:
                         continue
-                    seen.add((levelling, text, program, entries))
-                    verdict = self.checked(text, program, entries, levelling, runs, left)
+                    seen.add((more, levelling, text, program, entries))
+                    verdict = self.checked(text, program, entries, levelling, more, runs, left)
                     if verdict.word != 'differs':
                         self.form, self.kernel = form, text
                         return verdict
@@ -270,15 +273,15 @@ class Trial:
         first.line += f' ({shown})'
         return first
 
-    def checked(self, kernel, program, entries, levelling, runs, left):
+    def checked(self, kernel, program, entries, levelling, more, runs, left):
         """The verdict of `check` on one program; one that is called `same` has run as well."""
-        word, line, kernel, program = self.answer_of(kernel, program, entries, levelling)
+        word, line, kernel, program = self.answer_of(kernel, program, entries, levelling, more)
         if word != 'differs' and program != self.program:
             self.tried(runs, left, program, entries)
         return Verdict(word, line, kernel, program, entries)
 
-    def answer_of(self, kernel, program, entries, levelling):
-        """What `check` says, as a word and a line, and the kernel and the program as they were compared."""
+    def answer_of(self, kernel, program, entries, levelling, more=False):
+        """What `check` says, or `check --more`, as a word and a line, and the kernel and the program as they were compared."""
         if levelling:
             levelled = Levelled(kernel, program)
             kernel, program = levelled.kernel, levelled.program
@@ -286,11 +289,12 @@ class Trial:
             with open(os.path.join(self.folder, name), 'w') as file:
                 file.write(text)
         try:
-            ended = limited([self.vegen, 'check', 'entries', 'kernel', 'program'], SECONDS, cwd=self.folder, capture_output=True, text=True)
+            words = ['check', *['--more'] * more, 'entries', 'kernel', 'program']
+            ended = limited([self.vegen, *words], SECONDS, cwd=self.folder, capture_output=True, text=True)
         except TooLong:
             return 'differs', f'differs: check took more than {SECONDS} seconds', kernel, program
         if ended.returncode == 0:
-            word = 'same, levelled' if levelling else 'same'
+            word = SAME[more, levelling]
             return word, word, kernel, program
         said = ended.stderr.strip().removeprefix('vegen: ')
         if ended.returncode != 13:
