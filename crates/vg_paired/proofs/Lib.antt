@@ -4,6 +4,7 @@ pub mod Befores
 pub mod Counts
 pub mod Leasts
 pub mod Balancing
+pub mod Tallying
 pub mod Holding
 pub mod Unevens
 pub mod Heads

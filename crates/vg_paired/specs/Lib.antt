@@ -6,3 +6,4 @@ pub mod Holding
 pub mod Noted
 pub mod Rows
 pub mod Sweeps
+pub mod Tallies

@@ -14,21 +14,15 @@ use vg_base::Address;
 use vg_program::Line;
 use vg_shapes::{Access, SsaUnit};
 
-/// What units access, in their order.
-pub(crate) fn unit_accesses(
-    alloc: Global,
-    units: &[SsaUnit],
-) -> Result<Vec<Option<Access>>, AllocError>
+/// What units access, in their order. Fails for want of memory alone.
+pub fn unit_accesses(alloc: Global, units: &[SsaUnit]) -> Result<Vec<Option<Access>>, AllocError>
     ensures { IfOk result (λ xs. xs.items ≡ map access_of units.now) }
 {
     units.iter().map(|unit| unit.access()).collect(alloc)
 }
 
-/// What lines access, in their order.
-pub(crate) fn line_accesses(
-    alloc: Global,
-    lines: &[Line],
-) -> Result<Vec<Option<Access>>, AllocError>
+/// What lines access, in their order. Fails for want of memory alone.
+pub fn line_accesses(alloc: Global, lines: &[Line]) -> Result<Vec<Option<Access>>, AllocError>
     ensures { IfOk result (λ xs. xs.items ≡ map line_access lines.now) }
 {
     let mut accesses = Vec::new(alloc);

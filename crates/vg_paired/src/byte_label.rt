@@ -19,7 +19,7 @@ pub struct ByteLabel {
 
 impl ByteLabel {
     /// Of a byte of what is accessed: that of this number, from 0.
-    pub(crate) fn of(access: Access, byte: u32) -> ByteLabel
+    pub fn of(access: Access, byte: u32) -> ByteLabel
         ensures { result ≡ record {
           writes = access.writes;
           pointer = access.address.pointer;

@@ -51,7 +51,7 @@ pub fn turned_units(
 }
 
 /// Of each pointer in order, whether it is noalias.
-fn noalias_flags(alloc: Global, ssa: &Ssa) -> Result<Vec<bool>, AllocError>
+pub fn noalias_flags(alloc: Global, ssa: &Ssa) -> Result<Vec<bool>, AllocError>
     ensures { IfOk result (λ flags. flags.items ≡ noalias_flags ssa.now) }
 {
     let params = ssa.params.as_slice();

@@ -7,6 +7,7 @@ use std::alloc::Global;
 use std::test::Fail;
 use vg_catalog::parse_file;
 use vg_kernel::parse_kernel;
+use vg_levelled::loads_to_add;
 use vg_program::parse_program;
 use vg_shapes::Ssa;
 use vg_ssa::number_values;
@@ -85,4 +86,15 @@ pub fn compared(
     let program = parse_program(alloc, program, catalog.headers())?;
     let verdict = verify(alloc, &catalog, &ssa, &program, more)?;
     Ok(expected_of(&verdict))
+}
+
+/// How many loads are added to a kernel, and how many to a program, by their texts.
+pub fn loads_added(alloc: Global, kernel: &[u8], program: &[u8]) -> Result<(usize, usize), Fail> {
+    let ssa = numbered(alloc, kernel)?;
+    let catalog = parse_file(alloc, b"")?;
+    let program = parse_program(alloc, program, catalog.headers())?;
+    match loads_to_add(alloc, &ssa, &program)? {
+        None => Err(Fail::new("too many loads")),
+        Some(added) => Ok((added.units.as_slice().len(), added.loads.len())),
+    }
 }

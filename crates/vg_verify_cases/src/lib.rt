@@ -6,4 +6,6 @@ mod beside;
 #[cfg(test)]
 mod large;
 #[cfg(test)]
+mod levelled;
+#[cfg(test)]
 mod rows;

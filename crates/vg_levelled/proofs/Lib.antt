@@ -1,0 +1,6 @@
+pub mod Bytes
+pub mod Meaning
+pub mod Missing
+pub mod Units
+pub mod Found
+pub mod Valid

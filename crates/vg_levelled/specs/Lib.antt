@@ -1,0 +1,4 @@
+pub mod Levelled
+pub mod Adding
+pub mod Found
+pub mod Laws
