@@ -4,3 +4,4 @@ pub mod Missing
 pub mod Units
 pub mod Found
 pub mod Valid
+pub mod Verified

@@ -136,17 +136,19 @@ pub record Sides : Type 0 where
   pub ssa : Ssa
   pub program : Program
 
-abbrev pub with_added : Ssa → Program → Added → Sides
-with_added ssa p x = record {
-  ssa = over ssa (ssa.units ++ x.units);
-  program = record {
-    name = p.name;
-    params = p.params;
-    lines = p.lines ++ map byte_load x.loads;
-    cost = p.cost + length x.loads;
-    scalar = p.scalar;
-  };
+-- a program with loads of these bytes at its end
+abbrev pub with_loads : Program → List Label → Program
+with_loads p loads = record {
+  name = p.name;
+  params = p.params;
+  lines = p.lines ++ map byte_load loads;
+  cost = p.cost + length loads;
+  scalar = p.scalar;
 }
+
+abbrev pub with_added : Ssa → Program → Added → Sides
+with_added ssa p x =
+    record { ssa = over ssa (ssa.units ++ x.units); program = with_loads p x.loads }
 
 -- both with their loads more; as they are where each byte is accessed equally often, and where what is added
 -- does not fit

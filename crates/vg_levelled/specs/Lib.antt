@@ -2,3 +2,4 @@ pub mod Levelled
 pub mod Adding
 pub mod Found
 pub mod Laws
+pub mod Verified

@@ -7,7 +7,7 @@ use std::alloc::Global;
 use std::test::Fail;
 use vg_catalog::parse_file;
 use vg_kernel::parse_kernel;
-use vg_levelled::loads_to_add;
+use vg_levelled::{loads_to_add, verify_levelled};
 use vg_program::parse_program;
 use vg_shapes::Ssa;
 use vg_ssa::number_values;
@@ -97,4 +97,13 @@ pub fn loads_added(alloc: Global, kernel: &[u8], program: &[u8]) -> Result<(usiz
         None => Err(Fail::new("too many loads")),
         Some(added) => Ok((added.units.as_slice().len(), added.loads.len())),
     }
+}
+
+/// What the comparison of both with their loads more ends with, by their texts and without instructions.
+pub fn compared_levelled(alloc: Global, kernel: &[u8], program: &[u8]) -> Result<Expected, Fail> {
+    let ssa = numbered(alloc, kernel)?;
+    let catalog = parse_file(alloc, b"")?;
+    let program = parse_program(alloc, program, catalog.headers())?;
+    let verdict = verify_levelled(alloc, &catalog, &ssa, program)?;
+    Ok(expected_of(&verdict))
 }

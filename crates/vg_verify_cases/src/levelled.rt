@@ -1,6 +1,6 @@
 //! Loads that are added to kernels and programs, so that both load a byte equally often.
 
-use crate::beside::loads_added;
+use crate::beside::{Expected, compared_levelled, loads_added};
 use std::alloc::Global;
 use std::process::Abort;
 use std::test::Fail;
@@ -49,7 +49,10 @@ store d+0 %s0
 store d+4 %s0
 end cost 3 scalar 4
 ";
-    expect(&rt, rt.alloc(), kernel, program, (0, 4))
+    expect(&rt, rt.alloc(), kernel, program, (0, 4))?;
+    let told = compared_levelled(rt.alloc(), kernel.as_bytes(), program.as_bytes())?;
+    assert_eq!(&rt; told, Expected::Same);
+    Ok(())
 }
 
 #[test]
