@@ -99,10 +99,16 @@ pub fn loads_added(alloc: Global, kernel: &[u8], program: &[u8]) -> Result<(usiz
     }
 }
 
-/// What the comparison of both with their loads more ends with, by their texts and without instructions.
-pub fn compared_levelled(alloc: Global, kernel: &[u8], program: &[u8]) -> Result<Expected, Fail> {
+/// What the comparison of both with their loads more ends with, by their texts, over the entries of a file's
+/// text.
+pub fn compared_levelled(
+    alloc: Global,
+    entries: &[u8],
+    kernel: &[u8],
+    program: &[u8],
+) -> Result<Expected, Fail> {
     let ssa = numbered(alloc, kernel)?;
-    let catalog = parse_file(alloc, b"")?;
+    let catalog = parse_file(alloc, entries)?;
     let program = parse_program(alloc, program, catalog.headers())?;
     let verdict = verify_levelled(alloc, &catalog, &ssa, program)?;
     Ok(expected_of(&verdict))

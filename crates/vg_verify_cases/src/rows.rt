@@ -6,7 +6,7 @@ use std::process::Abort;
 use std::test::Fail;
 
 /// Sums of four words.
-const ADD: &[u8] = b"INSTRUCTION add4 PARAM a 128 SI32 PARAM b 128 SI32
+pub(crate) const ADD: &[u8] = b"INSTRUCTION add4 PARAM a 128 SI32 PARAM b 128 SI32
 RESULT dst 128 SI32 EXTENSION SSE2 COST 1 OPERATION
 FOR j := 0 to 3
  i := j*32
